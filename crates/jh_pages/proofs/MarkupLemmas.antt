@@ -7,7 +7,7 @@ use Rattle.std.specs.Char.{digit_value}
 use Rattle.std.specs.Fmt.{digits}
 use Rattle.std.specs.List.{flat_map}
 use Rattle.std.specs.Str.Parse.{AllDigits}
-use Rattle.jh_pages.specs.Markup.{escaped_text, short_text, is_inert, is_markup, is_hidden, is_invisible, number_text, escaped_character, max_shown}
+use Rattle.jh_pages.specs.Markup.{escaped_text, short_text, is_inert, is_markup, is_hidden, is_invisible, number_text, escaped_character, label_room}
 use lib.Utf8.{encode, next}
 
 -- none of the bytes could be markup
@@ -116,8 +116,8 @@ pub escaped_inert : (text : List ℕ) → is_inert (escaped_text text) ≡ true
 escaped_inert text = whole_inert _
 
 pub short_inert : (characters : List ℕ) → is_inert (short_text characters) ≡ true
-short_inert cs = choose (ltb max_shown (length cs))
+short_inert cs = choose (ltb label_room (length cs))
   where
-    choose : (b : Bool) → is_inert (cond b (flat_map escaped_character (take max_shown cs) ++ codes "&#8230;") (flat_map escaped_character cs)) ≡ true
-    choose true = all_inert (take max_shown cs) (codes "&#8230;") refl
+    choose : (b : Bool) → is_inert (cond b (flat_map escaped_character (take label_room cs) ++ codes "&#8230;") (flat_map escaped_character cs)) ≡ true
+    choose true = all_inert (take label_room cs) (codes "&#8230;") refl
     choose false = whole_inert cs

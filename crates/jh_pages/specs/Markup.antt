@@ -53,14 +53,14 @@ abbrev pub escaped_text : List ℕ → List ℕ
 escaped_text text = flat_map escaped_character (chars text)
 
 -- how many characters the label of a bar has room for
-abbrev pub max_shown : ℕ
-max_shown = 18
+abbrev pub label_room : ℕ
+label_room = 18
 
 -- characters in that room, with dots where there are more
 abbrev pub short_text : List ℕ → List ℕ
 short_text cs =
-    if nat_lt max_shown (length cs)
-    then flat_map escaped_character (take max_shown cs) ++ codes "&#8230;"
+    if nat_lt label_room (length cs)
+    then flat_map escaped_character (take label_room cs) ++ codes "&#8230;"
     else flat_map escaped_character cs
 
 -- The same of bytes that something else printed. Where they are no UTF-8, which no printed value

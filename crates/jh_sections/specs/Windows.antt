@@ -12,8 +12,8 @@ use Rattle.jh_timeline.specs.declared.picture.Bar.{Bar}
 use Rattle.jh_timeline.specs.declared.picture.Window.{Window}
 
 -- of so many records all are shown where none are chosen
-abbrev pub max_shown : ℕ
-max_shown = 2000
+abbrev pub max_whole : ℕ
+max_whole = 2000
 
 -- of more, so many are shown around what is pointed at
 abbrev pub shown_around : ℕ
@@ -37,7 +37,7 @@ focus_of bars marks =
 
 -- no records are chosen, and there are too many to show all
 abbrev pub is_open : Choice → ℕ → Bool
-is_open choice total = is_none choice.from && is_none choice.to && nat_lt max_shown total
+is_open choice total = is_none choice.from && is_none choice.to && nat_lt max_whole total
 
 -- the records that are chosen, or all
 abbrev pub chosen_window : Choice → ℕ → Window

@@ -21,7 +21,7 @@ NeedsThose Answers schedule below =
 
 -- A judge that may be asked so often still is what became of another by being asked: each time one
 -- of those times was used up.
-pub record GoesOn {J : Type 0} (is_ready : J → Type 0) (becomes : J → J → Type 0) (asked : J → ℕ)
+pub record AskedSince {J : Type 0} (is_ready : J → Type 0) (becomes : J → J → Type 0) (asked : J → ℕ)
     (old : J) (left_before : ℕ) (new : J) (left : ℕ) : Type 0 where
   pub ready : is_ready new
   pub later : becomes old new

@@ -8,7 +8,7 @@ ghost use Rattle.std.specs.Fn.{FnReturnsAt};
 ghost use Rattle.jh_simnode.specs.Limits.{max_entries};
 ghost use Rattle.jh_simnode.specs.declared.schedule.Entry.{Entry};
 ghost use Rattle.jh_shrink.specs.Shrunk.{IsBudget, IsFailing, IsShrunk, NeedsEach, RefusesShrink};
-ghost use Rattle.jh_shrink.specs.ShrinkingInside.{GoesOn, HaltsWork};
+ghost use Rattle.jh_shrink.specs.ShrinkingInside.{AskedSince, HaltsWork};
 ghost use Rattle.jh_shrink.specs.declared.shrinking.Halt.TheVariants as Halt;
 
 use jh_simnode::Schedule;
@@ -162,7 +162,7 @@ fn ask<J: ScheduleJudge, O: Observer>(
         (HaltsWork (J.has_answered judge.new) schedule.now meter.new.left) }
     ensures asked { OnOk result (meter.new.left + 1 ≡ meter.old.left) }
     ensures used_up { IfErr result (λ halt. halt ≡ Halt.Budget → meter.old.left ≡ 0) }
-    ensures went_on { GoesOn J.is_ready J.becomes J.asked
+    ensures went_on { AskedSince J.is_ready J.becomes J.asked
         judge.old meter.old.left judge.new meter.new.left }
 {
     if meter.left == 0 {
@@ -200,7 +200,7 @@ fn spare<J: ScheduleJudge, O: Observer>(
     ensures asked { OnOk result (meter.new.left + 1 ≡ meter.old.left) }
     ensures halted { IfErr result
         (HaltsWork (J.has_answered judge.new) schedule.old meter.new.left) }
-    ensures went_on { GoesOn J.is_ready J.becomes J.asked
+    ensures went_on { AskedSince J.is_ready J.becomes J.asked
         judge.old meter.old.left judge.new meter.new.left }
 {
     let rest = schedule.copy_without(alloc, from, to)?;
@@ -235,7 +235,7 @@ fn pass<J: ScheduleJudge, O: Observer>(
         → meter.new.left + length schedule.new ≤ meter.old.left) }
     ensures halted { IfErr result
         (HaltsWork (J.has_answered judge.new) schedule.old meter.new.left) }
-    ensures went_on { GoesOn J.is_ready J.becomes J.asked
+    ensures went_on { AskedSince J.is_ready J.becomes J.asked
         judge.old meter.old.left judge.new meter.new.left }
 {
     let mut place = 0;
@@ -266,7 +266,7 @@ fn reduce<J: ScheduleJudge, O: Observer>(
     ensures asked { OnOk result (meter.new.left + length schedule.new ≤ meter.old.left) }
     ensures halted { IfErr result
         (HaltsWork (J.has_answered judge.new) schedule.old meter.new.left) }
-    ensures went_on { GoesOn J.is_ready J.becomes J.asked
+    ensures went_on { AskedSince J.is_ready J.becomes J.asked
         judge.old meter.old.left judge.new meter.new.left }
 {
     let mut size = schedule.entries().len().div_ceil(2).max(1);

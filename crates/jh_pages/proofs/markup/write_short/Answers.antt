@@ -6,24 +6,24 @@ use Rattle.std.proofs.lemmas.Result.{on_ok_weaker}
 use Rattle.std.specs.Io.KnownBytes.{Appends}
 use Rattle.std.specs.List.{flat_map}
 use Rattle.jh_edn.proofs.CitedLemmas.{appends_then}
-use Rattle.jh_pages.specs.Markup.{short_text, escaped_character, max_shown}
+use Rattle.jh_pages.specs.Markup.{short_text, escaped_character, label_room}
 use Rattle.jh_pages.proofs.markup.write_short.Goals as goal
 
 map_itself : {X : Type 0} (xs : List X) → map (λ x. x) xs ≡ xs
 map_itself [] = refl
 map_itself (x ∷ xs) = ap (λ ys. x ∷ ys) (map_itself xs)
 
-short_long : (cs ys : List ℕ) → length ys ≡ max_shown → ys ≡ take (length ys) cs → length ys < length cs → short_text cs ≡ flat_map escaped_character ys ++ codes "&#8230;"
+short_long : (cs ys : List ℕ) → length ys ≡ label_room → ys ≡ take (length ys) cs → length ys < length cs → short_text cs ≡ flat_map escaped_character ys ++ codes "&#8230;"
 short_long cs ys count begins longer =
-    let more : nat_lt max_shown (length cs) ≡ true = grind (arith, nat_tests) in
-    let same : take max_shown cs ≡ ys = ap (λ n. take n cs) (sym count) ∙ sym begins in
-    ap (λ b. if b then flat_map escaped_character (take max_shown cs) ++ codes "&#8230;" else flat_map escaped_character cs) more ∙ ap (λ ys. flat_map escaped_character ys ++ codes "&#8230;") same
+    let more : nat_lt label_room (length cs) ≡ true = grind (arith, nat_tests) in
+    let same : take label_room cs ≡ ys = ap (λ n. take n cs) (sym count) ∙ sym begins in
+    ap (λ b. if b then flat_map escaped_character (take label_room cs) ++ codes "&#8230;" else flat_map escaped_character cs) more ∙ ap (λ ys. flat_map escaped_character ys ++ codes "&#8230;") same
 
-short_whole : (cs ys : List ℕ) → length ys ≤ max_shown → ys ≡ cs → short_text cs ≡ flat_map escaped_character ys
+short_whole : (cs ys : List ℕ) → length ys ≤ label_room → ys ≡ cs → short_text cs ≡ flat_map escaped_character ys
 short_whole cs ys few all =
     let count : length ys ≡ length cs = ap length all in
-    let fits : nat_lt max_shown (length cs) ≡ false = grind (arith, nat_tests) in
-    ap (λ b. if b then flat_map escaped_character (take max_shown cs) ++ codes "&#8230;" else flat_map escaped_character cs) fits ∙ ap (flat_map escaped_character) (sym all)
+    let fits : nat_lt label_room (length cs) ≡ false = grind (arith, nat_tests) in
+    ap (λ b. if b then flat_map escaped_character (take label_room cs) ++ codes "&#8230;" else flat_map escaped_character cs) fits ∙ ap (flat_map escaped_character) (sym all)
 
 pub returns-then-written-eq-MAX_SHOWN : goal.returns-then-written-eq-MAX_SHOWN
 returns-then-written-eq-MAX_SHOWN g c =

@@ -1,7 +1,7 @@
 use Rattle.std.proofs.Common.{◌≤◌, ◌+◌, length}
 use Rattle.jh_simnode.specs.Limits.{max_entries}
 use Rattle.jh_shrink.specs.Shrunk.{IsFailing}
-use Rattle.jh_shrink.specs.ShrinkingInside.{GoesOn}
+use Rattle.jh_shrink.specs.ShrinkingInside.{AskedSince}
 use Rattle.jh_shrink.proofs.shrinking.reduce.Given as goal
 
 -- what is left fails
@@ -11,7 +11,7 @@ invariant-loop-size g l = record {
   some : 1 ≤ l.size;
   few : l.size ≤ max_entries;
   fewer : l.meter.left ≤ l.fn.meter.left;
-  went_on : GoesOn g.J.ScheduleJudge.is_ready g.J.ScheduleJudge.becomes g.J.ScheduleJudge.asked l.fn.judge l.fn.meter.left l.judge l.meter.left;
+  went_on : AskedSince g.J.ScheduleJudge.is_ready g.J.ScheduleJudge.becomes g.J.ScheduleJudge.asked l.fn.judge l.fn.meter.left l.judge l.meter.left;
 }
 
 -- a pass takes an entry out, or the parts become smaller
