@@ -170,3 +170,9 @@ module _ {R W : Type 0} (arguments : List Text) (input rest before after : Optio
     unfinished = λ other is. subst (IsUnfinished arguments input rest before after ro rn wo wn) (the_test error other is)
         (record { path = path; asked = asked; why = ended; unread = λ settings is_so. unread settings (ap Err is_so) });
   }
+
+-- a test whose settings are refused leaves all as it was
+pub left_so : {S : Type 0} (r : Result ℕ DriveError) (old new : S) → ((error : SettingsError) → IfErr r (λ e. e ≡ Settings error → new ≡ old))
+    → (error : SettingsError) → IsErrOf r (Settings error) → new ≡ old
+left_so (Ok status) old new says error is = absurd (let bad : Ok status ≡ Err (Settings error) = is in cc)
+left_so (Err e) old new says error is = says error (let both : ◌≡◌ {A = Result ℕ DriveError} (Err e) (Err (Settings error)) = is in cc)

@@ -55,8 +55,7 @@ pub trait CommandObserver {
 fn conduct_file<T, R, W, O>(
     rt: &T,
     path: &str,
-    reader: &mut R,
-    writer: &mut W,
+    streams: &mut Streams<R, W>,
     observer: &mut O,
 ) -> Result<u8, DriveError>
 where
@@ -64,12 +63,12 @@ where
     R: Read,
     W: Write,
     O: CommandObserver + CallObserver,
-    ensures ended { (IsErrAnd result IsFileUnread × (reader.new ≡ reader.old) × (writer.new ≡ writer.old))
+    ensures ended { (IsErrAnd result IsFileUnread × (streams.new.reader ≡ streams.old.reader) × (streams.new.writer ≡ streams.old.writer))
         ⊎ ((settings : List ℕ) × IsDriven settings
-        (R.remaining reader.old) (R.remaining reader.new)
-        (W.contents writer.old) (W.contents writer.new) result) }
+        (R.remaining streams.old.reader) (R.remaining streams.new.reader)
+        (W.contents streams.old.writer) (W.contents streams.new.writer) result) }
     ensures unread { (error : SettingsError) → IsErrOf result (DriveErrors.Settings error)
-        → (reader.new ≡ reader.old) × (writer.new ≡ writer.old) }
+        → (streams.new.reader ≡ streams.old.reader) × (streams.new.writer ≡ streams.old.writer) }
 {
     let settings = match fs::read(rt, path) {
         Ok(settings) => settings,
@@ -79,8 +78,7 @@ where
         Err(_) => return Err(DriveError::SettingsRead),
     };
     observer.see_test();
-    let mut streams = Streams { reader, writer };
-    drive_observed(rt.alloc(), &settings, &mut streams, observer)
+    drive_observed(rt.alloc(), &settings, streams, observer)
 }
 
 /// What a command answers.
@@ -98,13 +96,13 @@ fn of_test(answer: Result<u8, DriveError>) -> Result<u8, Refusal>
     ensures { result ≡ rule.of_test answer }
 {
     match answer {
-        Ok(status) => Ok(status),
+        Ok(verdict) => Ok(verdict),
         Err(error) => Err(Refusal::Test(error)),
     }
 }
 
-/// Does what the arguments ask for, of which the first is the program's name: a command reads the reader
-/// and writes the writer; a test reads its settings from a file first. The answer is the exit status: that
+/// Does what the arguments ask for, of which the first is the program's name, over these streams: a
+/// command reads and writes them; a test reads its settings from a file first. The answer is the exit status: that
 /// of `run`, or that of `drive`.
 ///
 /// A run on threads, a search and the judgement of keys may wait, and of a test a reader that blocks.
@@ -114,8 +112,7 @@ fn of_test(answer: Result<u8, DriveError>) -> Result<u8, Refusal>
 pub fn answer<T, S, R, W, O>(
     rt: &T,
     arguments: &[S],
-    reader: &mut R,
-    writer: &mut W,
+    streams: &mut Streams<R, W>,
     observer: &mut O,
 ) -> Result<u8, Refusal>
 where
@@ -125,37 +122,44 @@ where
     W: Write,
     O: CommandObserver + Observer + SearchObserver + CallObserver,
     ensures done { IfOk result (λ status. IsCommandDone (map S.text arguments.now)
-        (R.remaining reader.old) (W.contents writer.old) (W.contents writer.new) status
+        (R.remaining streams.old.reader) (W.contents streams.old.writer) (W.contents streams.new.writer) status
         ⊎ IsConductedTo (map S.text arguments.now)
-        (R.remaining reader.old) (R.remaining reader.new)
-        (W.contents writer.old) (W.contents writer.new) status) }
+        (R.remaining streams.old.reader) (R.remaining streams.new.reader)
+        (W.contents streams.old.writer) (W.contents streams.new.writer) status) }
     ensures refused { (error : Error) → IsErrOf result (Refusals.Arguments error)
         → IsRefused (map S.text arguments.now) error }
     ensures unread { (error : Error) → IsErrOf result (Refusals.Arguments error)
-        → reader.new ≡ reader.old }
+        → streams.new.reader ≡ streams.old.reader }
     ensures unwritten { (error : Error) → IsErrOf result (Refusals.Arguments error)
-        → writer.new ≡ writer.old }
+        → streams.new.writer ≡ streams.old.writer }
     ensures failed { (error : CliErrorData) → IsErrOf result (Refusals.Command error)
-        → IsFailed (map S.text arguments.now) (R.remaining reader.old) reader.old reader.new error }
+        → IsFailed (map S.text arguments.now) (R.remaining streams.old.reader) streams.old.reader streams.new.reader error }
     ensures failed_unwritten { (error : CliErrorData) → IsErrOf result (Refusals.Command error)
-        → error ≢ CliErrors.Write → writer.new ≡ writer.old }
+        → error ≢ CliErrors.Write → streams.new.writer ≡ streams.old.writer }
     ensures unfinished { (error : DriveErrorData) → IsErrOf result (Refusals.Test error)
         → IsUnfinished (map S.text arguments.now)
-        (R.remaining reader.old) (R.remaining reader.new)
-        (W.contents writer.old) (W.contents writer.new)
-        reader.old reader.new writer.old writer.new error }
+        (R.remaining streams.old.reader) (R.remaining streams.new.reader)
+        (W.contents streams.old.writer) (W.contents streams.new.writer)
+        streams.old.reader streams.new.reader streams.old.writer streams.new.writer error }
 {
     let matches = match parse(rt.alloc(), arguments) {
         Ok(matches) => matches,
         Err(error) => return Err(Refusal::Arguments(error)),
     };
     if let Some(path) = settings_path_of(&matches) {
-        return of_test(conduct_file(rt, path, reader, writer, observer));
+        return of_test(conduct_file(rt, path, streams, observer));
     }
     // `clap` takes no arguments that ask for neither.
     let Some(command) = command_of(&matches) else {
         unreachable!()
     };
     observer.see_command(command);
-    of_command(run(rt, rt.alloc(), command, reader, writer, observer))
+    of_command(run(
+        rt,
+        rt.alloc(),
+        command,
+        &mut streams.reader,
+        &mut streams.writer,
+        observer,
+    ))
 }

@@ -21,6 +21,7 @@ pub use commands::{
 };
 pub use jh_cli::{CliError, Question, SearchQuestion, TimelineQuestion};
 pub use jh_drive::{CallCounts, CallObserver, DriveError};
+pub use jh_lines::Streams;
 pub use laws::argument_laws;
 pub use line::{REFUSED, parse, status_of_refusal};
 pub use palettes::palette_named;

@@ -10,6 +10,7 @@ use crate::line::{REFUSED, status_of_refusal};
 use jh_checkers::{Checker, Judging};
 use jh_cli::CliError;
 use jh_drive::{CallCounts, CallObserver, DriveError};
+use jh_lines::Streams;
 use jh_search::SearchObserver;
 use jh_shrink::Observer;
 use std::alloc::Global;
@@ -291,18 +292,15 @@ where
         start: None,
         is_in_the_way: &is_in_the_way,
     };
-    let mut writer = BehindProgress {
-        rt,
-        writer: io::writer(rt),
-        is_in_the_way: &is_in_the_way,
+    let mut streams = Streams {
+        reader: rt.reader(),
+        writer: BehindProgress {
+            rt,
+            writer: io::writer(rt),
+            is_in_the_way: &is_in_the_way,
+        },
     };
-    let answer = answer(
-        rt,
-        arguments.as_slice(),
-        &mut rt.reader(),
-        &mut writer,
-        &mut progress,
-    );
+    let answer = answer(rt, arguments.as_slice(), &mut streams, &mut progress);
     progress.end();
     match answer {
         Ok(status) => {

@@ -2,7 +2,7 @@
 
 use crate::rows::{Texts, first_wrong};
 use jh_arguments::{
-    CallCounts, CallObserver, Command, CommandObserver, answer, command_of, parse,
+    CallCounts, CallObserver, Command, CommandObserver, Streams, answer, command_of, parse,
     status_of_refusal,
 };
 use jh_search::SearchObserver;
@@ -423,10 +423,13 @@ fn answered_once<T>(
 where
     T: Files + Alloc<A = Global> + Threads + Wait + Sync,
 {
-    let mut output = Vec::new(rt.alloc());
+    let mut streams = Streams {
+        reader: input.as_bytes(),
+        writer: Vec::new(rt.alloc()),
+    };
     let mut seen = Seen { command: None };
-    let status = answer(rt, arguments, &mut input.as_bytes(), &mut output, &mut seen).ok()?;
-    Some((status, output, seen.command))
+    let status = answer(rt, arguments, &mut streams, &mut seen).ok()?;
+    Some((status, streams.writer, seen.command))
 }
 
 #[test]

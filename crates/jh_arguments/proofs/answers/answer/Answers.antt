@@ -1,46 +1,50 @@
-use Rattle.std.proofs.Common.{refl, sym, subst, map, rules, inl, inr}
-use Rattle.std.specs.Prelude.{Err}
-use Rattle.jh_arguments.specs.declared.answers.Refusal.TheVariants as Refusals
+use Rattle.std.proofs.Common.{refl, sym, subst, map, rules, inl, inr, None}
 use Rattle.jh_arguments.proofs.AnswerLemmas.{Ends, asked_by, asked_test_by, command_ends, refused_ends, test_ends}
 use Rattle.jh_arguments.proofs.answers.answer.Given as given
 use Rattle.jh_arguments.proofs.answers.answer.Goals as goal
 
 -- the arguments are refused
-refused : (g : given.Over) (c : goal.In-Err g)
-    → Ends {R = g.row.R.Denot} {W = g.row.W.Denot} (map g.S.AsStr.text c.args.arguments.now) (g.R.Read.remaining c.args.reader.now) (g.R.Read.remaining c.args.reader.now)
-    (g.W.Write.contents c.args.writer.now) (g.W.Write.contents c.args.writer.now) c.args.reader.now c.args.reader.now c.args.writer.now c.args.writer.now
-    (Err (Refusals.Arguments c.in-Err.error))
-refused g c = refused_ends _ _ _ _ _ _ _ _ _ c.in-Err.error c.in-Err.ensures.refused refl refl
-
 pub returns-in-Err-clause-refused : goal.returns-in-Err-clause-refused
-returns-in-Err-clause-refused g c = (refused g c).refused
+returns-in-Err-clause-refused g c =
+    (refused_ends (map g.S.AsStr.text c.args.arguments.now) (g.R.Read.remaining c.args.streams.now.reader) None None None c.args.streams.now.reader c.args.streams.now.reader c.args.streams.now.writer c.args.streams.now.writer
+    c.in-Err.error c.in-Err.ensures.refused refl refl).refused
 
 pub returns-in-Err-clause-unread : goal.returns-in-Err-clause-unread
-returns-in-Err-clause-unread g c = (refused g c).unread
+returns-in-Err-clause-unread g c =
+    (refused_ends (map g.S.AsStr.text c.args.arguments.now) (g.R.Read.remaining c.args.streams.now.reader) None None None c.args.streams.now.reader c.args.streams.now.reader c.args.streams.now.writer c.args.streams.now.writer
+    c.in-Err.error c.in-Err.ensures.refused refl refl).unread
 
 pub returns-in-Err-clause-unwritten : goal.returns-in-Err-clause-unwritten
-returns-in-Err-clause-unwritten g c = (refused g c).unwritten
+returns-in-Err-clause-unwritten g c =
+    (refused_ends (map g.S.AsStr.text c.args.arguments.now) (g.R.Read.remaining c.args.streams.now.reader) None None None c.args.streams.now.reader c.args.streams.now.reader c.args.streams.now.writer c.args.streams.now.writer
+    c.in-Err.error c.in-Err.ensures.refused refl refl).unwritten
 
 pub returns-in-Err-clause-failed : goal.returns-in-Err-clause-failed
-returns-in-Err-clause-failed g c = (refused g c).failed
+returns-in-Err-clause-failed g c =
+    (refused_ends (map g.S.AsStr.text c.args.arguments.now) (g.R.Read.remaining c.args.streams.now.reader) None None None c.args.streams.now.reader c.args.streams.now.reader c.args.streams.now.writer c.args.streams.now.writer
+    c.in-Err.error c.in-Err.ensures.refused refl refl).failed
 
 pub returns-in-Err-clause-failed_unwritten : goal.returns-in-Err-clause-failed_unwritten
-returns-in-Err-clause-failed_unwritten g c = (refused g c).failed_unwritten
+returns-in-Err-clause-failed_unwritten g c =
+    (refused_ends (map g.S.AsStr.text c.args.arguments.now) (g.R.Read.remaining c.args.streams.now.reader) None None None c.args.streams.now.reader c.args.streams.now.reader c.args.streams.now.writer c.args.streams.now.writer
+    c.in-Err.error c.in-Err.ensures.refused refl refl).failed_unwritten
 
 pub returns-in-Err-clause-unfinished : goal.returns-in-Err-clause-unfinished
-returns-in-Err-clause-unfinished g c = (refused g c).unfinished
+returns-in-Err-clause-unfinished g c =
+    (refused_ends (map g.S.AsStr.text c.args.arguments.now) (g.R.Read.remaining c.args.streams.now.reader) (g.R.Read.remaining c.args.streams.now.reader) (g.W.Write.contents c.args.streams.now.writer)
+    (g.W.Write.contents c.args.streams.now.writer) c.args.streams.now.reader c.args.streams.now.reader c.args.streams.now.writer c.args.streams.now.writer c.in-Err.error c.in-Err.ensures.refused refl refl).unfinished
 
 -- a test is asked for
 tested : (g : given.Over) (c : goal.Joined-matches g)
-    → Ends {R = g.row.R.Denot} {W = g.row.W.Denot} (map g.S.AsStr.text c.args.arguments.now) (g.R.Read.remaining c.args.reader.now) (g.R.Read.remaining c.conduct_file.new.reader)
-    (g.W.Write.contents c.args.writer.now) (g.W.Write.contents c.conduct_file.new.writer) c.args.reader.now c.conduct_file.new.reader c.args.writer.now c.conduct_file.new.writer
+    → Ends {R = g.row.R.Denot} {W = g.row.W.Denot} (map g.S.AsStr.text c.args.arguments.now) (g.R.Read.remaining c.args.streams.now.reader) (g.R.Read.remaining c.conduct_file.new.streams.reader)
+    (g.W.Write.contents c.args.streams.now.writer) (g.W.Write.contents c.conduct_file.new.streams.writer) c.args.streams.now.reader c.conduct_file.new.streams.reader c.args.streams.now.writer c.conduct_file.new.streams.writer
     c.of_test.result
 tested g c =
     let asked = asked_test_by _ c.in-Ok.matches c.in-Some.path.now c.in-Ok.ensures.found c.in-Some.ensures.parsed in
-    let ends = test_ends _ (g.R.Read.remaining c.args.reader.now) (g.R.Read.remaining c.conduct_file.new.reader) (g.W.Write.contents c.args.writer.now) (g.W.Write.contents c.conduct_file.new.writer)
-    c.args.reader.now c.conduct_file.new.reader c.args.writer.now c.conduct_file.new.writer c.in-Some.path.now c.conduct_file.result asked c.conduct_file.ensures.ended c.conduct_file.ensures.unread in
-    subst (Ends (map g.S.AsStr.text c.args.arguments.now) (g.R.Read.remaining c.args.reader.now) (g.R.Read.remaining c.conduct_file.new.reader) (g.W.Write.contents c.args.writer.now)
-    (g.W.Write.contents c.conduct_file.new.writer) c.args.reader.now c.conduct_file.new.reader c.args.writer.now c.conduct_file.new.writer) (sym c.of_test.ensures) ends
+    let ends = test_ends _ (g.R.Read.remaining c.args.streams.now.reader) (g.R.Read.remaining c.conduct_file.new.streams.reader) (g.W.Write.contents c.args.streams.now.writer) (g.W.Write.contents c.conduct_file.new.streams.writer)
+    c.args.streams.now.reader c.conduct_file.new.streams.reader c.args.streams.now.writer c.conduct_file.new.streams.writer c.in-Some.path.now c.conduct_file.result asked c.conduct_file.ensures.ended c.conduct_file.ensures.unread in
+    subst (Ends (map g.S.AsStr.text c.args.arguments.now) (g.R.Read.remaining c.args.streams.now.reader) (g.R.Read.remaining c.conduct_file.new.streams.reader) (g.W.Write.contents c.args.streams.now.writer)
+    (g.W.Write.contents c.conduct_file.new.streams.writer) c.args.streams.now.reader c.conduct_file.new.streams.reader c.args.streams.now.writer c.conduct_file.new.streams.writer) (sym c.of_test.ensures) ends
 
 pub returns-in-Some-clause-done : goal.returns-in-Some-clause-done
 returns-in-Some-clause-done g c = (tested g c).done
@@ -72,14 +76,14 @@ unreachable-requires g c = elim c.in-Ok.ensures.asked [
 
 -- a command is asked for
 commanded : (g : given.Over) (c : goal.Joined-matches-2 g)
-    → Ends {R = g.row.R.Denot} {W = g.row.W.Denot} (map g.S.AsStr.text c.args.arguments.now) (g.R.Read.remaining c.args.reader.now) (g.R.Read.remaining c.run.new.reader)
-    (g.W.Write.contents c.args.writer.now) (g.W.Write.contents c.run.new.writer) c.args.reader.now c.run.new.reader c.args.writer.now c.run.new.writer
+    → Ends {R = g.row.R.Denot} {W = g.row.W.Denot} (map g.S.AsStr.text c.args.arguments.now) (g.R.Read.remaining c.args.streams.now.reader) (g.R.Read.remaining c.run.new.reader)
+    (g.W.Write.contents c.args.streams.now.writer) (g.W.Write.contents c.run.new.writer) c.args.streams.now.reader c.run.new.reader c.args.streams.now.writer c.run.new.writer
     c.of_command.result
 commanded g c =
     let says = c.run.ensures in
     let asked = asked_by _ c.in-Ok.matches c.in-Some-command_of.command c.in-Ok.ensures.found c.in-Some-command_of.ensures.parsed in
-    let ends = command_ends _ (g.R.Read.remaining c.args.reader.now) (g.R.Read.remaining c.run.new.reader) (g.W.Write.contents c.args.writer.now) (g.W.Write.contents c.run.new.writer)
-    c.args.reader.now c.run.new.reader c.args.writer.now c.run.new.writer c.in-Some-command_of.command c.run.result asked
+    let ends = command_ends _ (g.R.Read.remaining c.args.streams.now.reader) (g.R.Read.remaining c.run.new.reader) (g.W.Write.contents c.args.streams.now.writer) (g.W.Write.contents c.run.new.writer)
+    c.args.streams.now.reader c.run.new.reader c.args.streams.now.writer c.run.new.writer c.in-Some-command_of.command c.run.result asked
     (record {
       asked = says.asked;
       unread = says.unread;
@@ -92,8 +96,8 @@ commanded g c =
       named = says.named;
       unread_unnamed = says.unread_unnamed;
     }) says.written says.refused says.unwritten in
-    subst (Ends (map g.S.AsStr.text c.args.arguments.now) (g.R.Read.remaining c.args.reader.now) (g.R.Read.remaining c.run.new.reader) (g.W.Write.contents c.args.writer.now)
-    (g.W.Write.contents c.run.new.writer) c.args.reader.now c.run.new.reader c.args.writer.now c.run.new.writer) (sym c.of_command.ensures) ends
+    subst (Ends (map g.S.AsStr.text c.args.arguments.now) (g.R.Read.remaining c.args.streams.now.reader) (g.R.Read.remaining c.run.new.reader) (g.W.Write.contents c.args.streams.now.writer)
+    (g.W.Write.contents c.run.new.writer) c.args.streams.now.reader c.run.new.reader c.args.streams.now.writer c.run.new.writer) (sym c.of_command.ensures) ends
 
 pub returns-clause-done : goal.returns-clause-done
 returns-clause-done g c = (commanded g c).done
