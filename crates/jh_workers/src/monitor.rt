@@ -110,7 +110,7 @@ impl RunState {
             clients,
             answered: 0,
             due,
-            turns: Turns::new(),
+            turns: Turns::new(clients),
             is_open: false,
             error: None,
         }
@@ -215,7 +215,7 @@ impl RunState {
         self.turns.begin_sleep();
     }
 
-    /// A client thread was woken.
+    /// A client thread was woken, or asks for the first time.
     fn end_sleep(&mut self)
         ensures error { self.new.error ≡ self.old.error }
     {
@@ -318,6 +318,11 @@ impl Monitor {
     pub(crate) fn complete(&self, rt: &impl Wait, thread: u32, ended: Ended) {
         self.state.lock(rt).complete(thread, ended);
         self.changed.notify_all();
+    }
+
+    /// A client thread asks from now on.
+    pub(crate) fn enter(&self, rt: &impl Wait) {
+        self.state.lock(rt).end_sleep();
     }
 
     /// What a client thread does next. While there is nothing for it, it sleeps until the state has

@@ -1,23 +1,23 @@
-//! Who of the client threads asks next: one that was answered lets those that sleep ask first, so that
-//! no thread makes all the calls. Nothing is proved of it but that it returns; tests show what it does.
+//! Who of the client threads asks next: one that was answered lets those that sleep, or have not asked
+//! yet, ask first, so that no thread makes all the calls. Nothing is proved of it but that it returns.
 
 /// Who asked last, and who sleeps.
 #[derive(Drop)]
 pub(crate) struct Turns {
     /// The thread that asked last.
     last: Option<u32>,
-    /// How many threads sleep until something has changed.
+    /// How many threads sleep until something has changed, or have not asked yet.
     asleep: u32,
     /// The thread that sleeps so that the others ask first.
     held: Option<u32>,
 }
 
 impl Turns {
-    /// Nobody has asked, and nobody sleeps.
-    pub(crate) fn new() -> Self {
+    /// None of so many threads has asked.
+    pub(crate) fn new(threads: u32) -> Self {
         Turns {
             last: None,
-            asleep: 0,
+            asleep: threads,
             held: None,
         }
     }
@@ -47,7 +47,7 @@ impl Turns {
         self.asleep = self.asleep.saturating_add(1);
     }
 
-    /// A thread was woken.
+    /// A thread was woken, or asks for the first time.
     pub(crate) fn end_sleep(&mut self) {
         self.asleep = self.asleep.saturating_sub(1);
     }

@@ -259,6 +259,7 @@ fn work_as_client<B: OfLog, P: Port, R: Wait>(
     let stream = u128::from(thread) + 1;
     let mut numbers = Lcg128Xsl64::new(u128::from(shared.plan.seed()), stream);
     let mut calls: u32 = 0;
+    monitor.enter(rt);
     for _ in rt.forever() {
         match monitor.next_move(rt, thread, &mut numbers) {
             NextMove::Stop | NextMove::Wait => return Ok(()),
