@@ -1,5 +1,5 @@
 -- What is kept of links, nodes and bumps that are given more than once: each once, as it stood first.
-use Rattle.std.proofs.Common.{◌≡◌, ℕ, ◌+◌, ◌<◌, ◌≤◌, Bool, true, false, suc, List, [], ◌∷◌, ◌++◌, length, get_or, drop, take, ap, ◌∙◌, sym, refl, arith, add-one, drop-cons, length-append, inl, inr}
+use Rattle.std.proofs.Common.{◌≡◌, ℕ, ◌+◌, ◌<◌, ◌≤◌, Bool, true, false, suc, List, [], ◌∷◌, ◌++◌, length, get_or, drop, take, ap, subst, ◌∙◌, sym, refl, arith, add-one, drop-cons, length-append, inl, inr}
 use Rattle.std.specs.Prelude.{if◌then◌else◌, ◌||◌, ◌==◌, ◌↔◌, not, nat_le, IsTrue, ℤ}
 use Rattle.std.specs.Cmp.{IsEquivalence}
 use Rattle.std.specs.List.{All, list_any}
@@ -45,7 +45,7 @@ seen_step {A} {same} laws seen after kept more xs i x new all h is was a m befor
     let e : more ≡ (if b then kept else kept ++ x ∷ []) = m ∙ ap (λ t. if t then kept ++ x ∷ [] else kept) (was ∙ ap not there) ∙ exchanged b kept (kept ++ x ∷ []) in
     (a ∙ ap (λ t. if t then seen else seen ++ x ∷ []) there ∙ ap (λ s. if b then s else s ++ x ∷ []) before.0 ∙ sym e, kept_step same kept more xs i x all h is e before.1)
 
-push_apart : {A : Type 0} (same : A → A → Bool) (kept : List A) (x : A) → list_any (λ k. same k x) kept ≡ false → AreApart same kept → AreApart same (kept ++ x ∷ [])
+pub push_apart : {A : Type 0} (same : A → A → Bool) (kept : List A) (x : A) → list_any (λ k. same k x) kept ≡ false → AreApart same kept → AreApart same (kept ++ x ∷ [])
 push_apart same kept x new apart i d h =
     elim (cases_lt i (length kept)) [
       | inl lt ↦ let le : i ≤ length kept = omega arith in rw (get_or_append_left kept (x ∷ []) d i lt, take-append-le i kept (x ∷ []) le) (apart i d lt)
@@ -72,6 +72,10 @@ kept_all P same (x ∷ xs) kept all more =
       | true ↦ kept_all P same xs kept all (All-tail P x xs more)
       | false ↦ kept_all P same xs (kept ++ x ∷ []) (All-push P kept x all (All-head P x xs more)) (All-tail P x xs more)
     ]
+
+-- also where it holds of what is kept and of one more
+pub kept_all_one : {A : Type 0} (P : A → Type 0) (same : A → A → Bool) (kept : List A) (x : A) (more : List A) → All P kept → P x → more ≡ kept_list same kept (x ∷ []) → All P more
+kept_all_one P same kept x more all one is = subst (All P) (sym is) (kept_all P same (x ∷ []) kept all (All-cons P x [] one (All-nil P)))
 
 -- no link has an end that is unknown
 pub links_known : (count : ℕ) (links : List (ℕ × ℕ)) → list_any (is_unknown_link count) links ≡ false → All (λ l. (l.0 < count) × (l.1 < count)) links

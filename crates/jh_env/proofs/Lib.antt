@@ -14,3 +14,5 @@ pub mod FaultLemmas
 pub mod ApartLemmas
 pub mod StartLemmas
 pub mod SameLemmas
+pub mod BumpLemmas
+pub mod NamingLemmas

@@ -15,3 +15,4 @@ pub mod TextCells
 pub mod TextWritten
 pub mod TextInside
 pub mod TextLaws
+pub mod Naming

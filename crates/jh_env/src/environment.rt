@@ -21,11 +21,11 @@ pub const MAX_LAID: usize = jh_tables::MAX_LAID;
 
 /// The most milliseconds by which a message can be late: a minute at the start or by a fix, and one
 /// for each fault.
-pub const MAX_DELAY: u64 = 60_000 * 257;
+pub const MAX_DELAY_MS: u64 = 60_000 * 257;
 
 /// The most milliseconds by which a clock can be off, either way: 10^12 at the start and 10^9 for
 /// each fault.
-pub const MAX_OFFSET: u64 = 1_000_000_000_000 + 256 * 1_000_000_000;
+pub const MAX_OFFSET_MS: u64 = 1_000_000_000_000 + 256 * 1_000_000_000;
 
 /// Cells of links and nodes, and what faults make of them. A contract sees the names, the starting
 /// cells, the cells now, what is kept of the faults, and how many are put.

@@ -3,16 +3,16 @@
 ghost use Rattle.std.specs.Prelude.{◌≡◌, ◌^◌, pos};
 ghost use Rattle.jh_tables.specs.Standing.{max_put, max_delay, max_offset};
 
-use crate::environment::{MAX_DELAY, MAX_LAID, MAX_OFFSET};
-use crate::faults::{MAX_BUMPED, MAX_FIXED, MAX_LOSS, MAX_SLOWED};
+use crate::environment::{MAX_DELAY_MS, MAX_LAID, MAX_OFFSET_MS};
+use crate::faults::{MAX_BUMPED_MS, MAX_FIXED_MS, MAX_LOSS, MAX_SLOWED_MS};
 
 /// The limits that code can name are the numbers of the definitions.
 pub fn limits()
     ensures put { MAX_LAID ≡ max_put }
-    ensures delay { MAX_DELAY ≡ max_delay }
-    ensures offset { MAX_OFFSET ≡ max_offset }
-    ensures slowed { MAX_SLOWED ≡ 60000 }
-    ensures fixed { MAX_FIXED ≡ 60000 }
+    ensures delay { MAX_DELAY_MS ≡ max_delay }
+    ensures offset { MAX_OFFSET_MS ≡ max_offset }
+    ensures slowed { MAX_SLOWED_MS ≡ 60000 }
+    ensures fixed { MAX_FIXED_MS ≡ 60000 }
     ensures loss { MAX_LOSS ≡ 20 }
-    ensures bumped { MAX_BUMPED ≡ pos (10 ^ 9) }
+    ensures bumped { MAX_BUMPED_MS ≡ pos (10 ^ 9) }
 {}

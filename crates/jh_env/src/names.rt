@@ -1,7 +1,7 @@
 //! Nodes and their names. `specs/Names.antt` says which lists of names an environment may have.
 
 ghost use Rattle.std.specs.Prelude.{◌≡◌, ◌<◌, ◌≤◌, ◌++◌, ◌∷◌, [], map, length, slice_get, position};
-ghost use Rattle.std.specs.Prelude.{option_map, IfOk, MatchResult, MatchOption};
+ghost use Rattle.std.specs.Prelude.{option_map, IfOk, IfSome, MatchResult, MatchOption};
 ghost use Rattle.std.specs.List.{All, list_all};
 ghost use Rattle.std.specs.Str.{bytes_eq};
 ghost use Rattle.std.specs.String.{string_bytes};
@@ -152,7 +152,8 @@ impl Nodes {
 
     /// The node of this name.
     pub fn find(&self, name: &str) -> Option<Node>
-        ensures { result ≡ position (bytes_eq name.now) self.now }
+        ensures found { result ≡ position (bytes_eq name.now) self.now }
+        ensures known { IfSome result (λ node. node < length self.now) }
     {
         let place = self.names.get_index_of(name)?;
         Some(Node::at(place as u8))

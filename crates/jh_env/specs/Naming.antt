@@ -1,0 +1,131 @@
+-- How a fault is given what it is about (this project's own): a link as its two nodes, as their
+-- places or as the value `[SOURCE DESTINATION]` of their names; a node as itself or by its name; a
+-- clock to move as its node, or its name, and milliseconds. A fault is judged by the places alone,
+-- so it is judged alike however they are given.
+use Rattle.std.specs.Prelude.{◌≡◌, ◌≢◌, ℕ, ◌^◌, ◌&&◌, Bool, true, false, not, ℤ, pos, negsuc}
+use Rattle.std.specs.Prelude.{List, [], ◌∷◌, ◌++◌, length, nat_lt, nat_le, if◌then◌else◌}
+use Rattle.std.specs.Prelude.{is_none, Option, Some, None, option_and_then, option_map}
+use Rattle.std.specs.List.{filter_map, list_all, list_any}
+use Rattle.jh_edn.specs.Edn.{Edn, int, str, elements_of}
+use Rattle.jh_tables.specs.Plain.{fault_on_links}
+use Rattle.jh_tables.specs.declared.faults.LinkFault.{LinkFault}
+use Rattle.jh_env.specs.EffectsInside.{IsLinkAmount}
+use Rattle.jh_env.specs.Faults.{FaultValue, is_same_bumped, is_self_link, is_unknown_bump}
+use Rattle.jh_env.specs.Faults.{is_unknown_link, is_unknown_node, kept_links}
+use Rattle.jh_env.specs.TextErrors.{place_of}
+use Rattle.jh_env.specs.declared.faults.FaultError.{FaultError}
+use Rattle.jh_env.specs.declared.faults.FaultError.TheVariants.{UnknownNode, SelfLink, BadAmount}
+use Rattle.jh_env.specs.declared.faults.FaultError.TheVariants.{OutOfMemory}
+
+-- the link between two places, where both are those of nodes
+abbrev pub known_link : List (List ℕ) → (ℕ × ℕ) → Option (ℕ × ℕ)
+known_link names l = if is_unknown_link (length names) l then None else Some l
+
+-- the place, where it is a node's
+abbrev pub known_node : List (List ℕ) → ℕ → Option ℕ
+known_node names node = if is_unknown_node (length names) node then None else Some node
+
+-- the bump, where its place is a node's
+abbrev pub known_bump : List (List ℕ) → (ℕ × ℤ) → Option (ℕ × ℤ)
+known_bump names bump = if is_unknown_bump (length names) bump then None else Some bump
+
+abbrev pub two_names : List Edn → Option (List ℕ × List ℕ)
+two_names (str source ∷ str destination ∷ []) = Some (source, destination)
+two_names _ = None
+
+-- the source's and the destination's name of a link
+abbrev pub link_names : Edn → Option (List ℕ × List ℕ)
+link_names v = option_and_then two_names (elements_of v)
+
+-- the name of a node
+abbrev pub node_name : Edn → Option (List ℕ)
+node_name (str name) = Some name
+node_name _ = None
+
+-- the name of a node and the milliseconds by which its clock is moved
+abbrev pub bump_spelled : Edn × Edn → Option (List ℕ × ℤ)
+bump_spelled (str name, int ms) = Some (name, ms)
+bump_spelled _ = None
+
+abbrev pub known_pair : Option ℕ → Option ℕ → Option (ℕ × ℕ)
+known_pair (Some a) (Some b) = Some (a, b)
+known_pair _ _ = None
+
+-- the places of a link's nodes, where both are known
+abbrev pub ends_of : List (List ℕ) → Edn → Option (ℕ × ℕ)
+ends_of names v =
+    option_and_then (λ l. known_pair (place_of names l.0) (place_of names l.1)) (link_names v)
+
+-- the place of a node that is named, where it is known
+abbrev pub named_node : List (List ℕ) → Edn → Option ℕ
+named_node names v = option_and_then (place_of names) (node_name v)
+
+-- the place of a node and by how much its clock is moved, where it is known
+abbrev pub bump_of : List (List ℕ) → Edn × Edn → Option (ℕ × ℤ)
+bump_of names b =
+    option_and_then (λ written. option_map (λ node. (node, written.1)) (place_of names written.0))
+    (bump_spelled b)
+
+-- some milliseconds, at most 10^9 either way
+abbrev pub is_bump_amount : ℤ → Bool
+is_bump_amount (pos n) = nat_lt 0 n && nat_le n (10 ^ 9)
+is_bump_amount (negsuc n) = nat_lt n (10 ^ 9)
+
+-- none of these is the same as one before it, or as one of those before all of them
+abbrev pub are_apart_after : List (ℕ × ℤ) → List (ℕ × ℤ) → Bool
+are_apart_after before [] = true
+are_apart_after before (b ∷ bs) =
+    not (list_any (λ x. is_same_bumped x b) before) && are_apart_after (before ++ b ∷ []) bs
+
+-- each bump is in its range, and no node is bumped twice
+abbrev pub are_bumps : List (ℕ × ℤ) → Bool
+are_bumps bumps = list_all (λ b. is_bump_amount b.1) bumps && are_apart_after [] bumps
+
+-- each of these stands for something
+abbrev pub AreAllFound : {A B : Type 0} → (A → Option B) → List A → Type 0
+AreAllFound found items = list_any (λ x. is_none (found x)) items ≡ false
+
+-- each link is found, and none goes from a node to itself
+abbrev pub AreLinksBy : {A : Type 0} → (A → Option (ℕ × ℕ)) → List A → Type 0
+AreLinksBy ends links =
+    AreAllFound ends links × (list_any is_self_link (filter_map ends links) ≡ false)
+
+-- the kind of a fault of links, where its amount is in its range; none is an amount that is not
+abbrev pub IsRightKind : Option LinkFault → Type 0
+IsRightKind None = ⊥
+IsRightKind (Some kind) = IsLinkAmount kind
+
+-- the fault of this kind on the links that are found, each once
+abbrev pub IsFaultBy : {A : Type 0} → (A → Option (ℕ × ℕ)) → Option LinkFault → List A
+    → FaultValue → Type 0
+IsFaultBy ends None links fault = ⊥
+IsFaultBy ends (Some kind) links fault =
+    fault ≡ fault_on_links kind (kept_links (filter_map ends links))
+
+-- Why a fault on the links that are found is refused: an unknown node anywhere, else a node linked
+-- with itself, else its amount, else memory, which only a link to keep needs.
+abbrev pub RefusesLinksBy : {A : Type 0} → (A → Option (ℕ × ℕ)) → Option LinkFault → List A
+    → FaultError → Type 0
+RefusesLinksBy ends kind links UnknownNode = list_any (λ l. is_none (ends l)) links ≡ true
+RefusesLinksBy ends kind links SelfLink =
+    AreAllFound ends links × (list_any is_self_link (filter_map ends links) ≡ true)
+RefusesLinksBy ends kind links BadAmount = AreLinksBy ends links × (IsRightKind kind → ⊥)
+RefusesLinksBy ends kind links OutOfMemory =
+    AreLinksBy ends links × IsRightKind kind × (links ≢ [])
+
+-- why a fault on the nodes that are found is refused: an unknown node anywhere, else memory
+abbrev pub RefusesNodesBy : {A : Type 0} → (A → Option ℕ) → List A → FaultError → Type 0
+RefusesNodesBy found nodes UnknownNode = list_any (λ n. is_none (found n)) nodes ≡ true
+RefusesNodesBy found nodes SelfLink = ⊥
+RefusesNodesBy found nodes BadAmount = ⊥
+RefusesNodesBy found nodes OutOfMemory = AreAllFound found nodes × (nodes ≢ [])
+
+-- Why bumps of the nodes that are found are refused: an unknown node anywhere, else an amount out
+-- of range or a node that is bumped twice, else memory.
+abbrev pub RefusesBumpsBy : {A : Type 0} → (A → Option (ℕ × ℤ)) → List A → FaultError → Type 0
+RefusesBumpsBy found bumps UnknownNode = list_any (λ b. is_none (found b)) bumps ≡ true
+RefusesBumpsBy found bumps SelfLink = ⊥
+RefusesBumpsBy found bumps BadAmount =
+    AreAllFound found bumps × (are_bumps (filter_map found bumps) ≡ false)
+RefusesBumpsBy found bumps OutOfMemory =
+    AreAllFound found bumps × (are_bumps (filter_map found bumps) ≡ true) × (bumps ≢ [])
