@@ -20,5 +20,5 @@ pub use judging::is_link_amount;
 pub use laws::limits;
 pub use names::{Nodes, NodesError};
 pub use naming::{NamesBump, NamesLink, NamesNode, bump_spelled, link_names, node_name};
-pub use starting::{Start, StartError};
+pub use starting::{MAX_START_DELAY_MS, MAX_START_LOSS, MAX_START_OFFSET_MS, Start, StartError};
 pub use texts::{EnvTextError, env_of_value, environments_read_back, value_of_env};

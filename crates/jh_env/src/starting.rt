@@ -11,6 +11,15 @@ use std::alloc::{AllocError, Global};
 use std::marker::Model;
 use thiserror::Error;
 
+/// The most milliseconds by which messages on a link are late at the start.
+pub const MAX_START_DELAY_MS: u64 = 60_000;
+
+/// The greatest level of loss of a link at the start.
+pub const MAX_START_LOSS: u8 = 20;
+
+/// The most milliseconds by which a clock is off at the start, either way.
+pub const MAX_START_OFFSET_MS: i64 = 1_000_000_000_000;
+
 /// A starting environment: its nodes, and the cell of each link and node.
 #[derive(Debug, Drop)]
 pub struct Start {
@@ -99,7 +108,7 @@ impl Start {
         if source == destination {
             return Err(StartError::SelfLink);
         }
-        if link.delay > 60_000 || link.loss > 20 {
+        if link.delay > MAX_START_DELAY_MS || link.loss > MAX_START_LOSS {
             return Err(StartError::BadAmount);
         }
         self.links[source * count + destination] = link;
@@ -119,7 +128,7 @@ impl Start {
         if place >= self.cells.len() {
             return Err(StartError::UnknownNode);
         }
-        if cell.clock < -1_000_000_000_000 || cell.clock > 1_000_000_000_000 {
+        if cell.clock < -MAX_START_OFFSET_MS || cell.clock > MAX_START_OFFSET_MS {
             return Err(StartError::BadAmount);
         }
         self.cells[place] = cell;

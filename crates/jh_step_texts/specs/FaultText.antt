@@ -10,8 +10,9 @@ use Rattle.std.specs.Prelude.{Result, Ok, Err, MatchResult, IsOk}
 use Rattle.std.specs.List.{filter_map, list_all, list_any}
 use Rattle.std.specs.Str.{bytes_eq}
 use Rattle.jh_edn.specs.Edn.{Edn, int, str, keyword, mapping, elements_of, pairs_in}
-use Rattle.jh_env.specs.Faults.{FaultValue, kept_links, kept_nodes, is_self_link, is_same_bumped}
-use Rattle.jh_env.specs.Faults.{Cut, Bump}
+use Rattle.jh_env.specs.Faults.{FaultValue, kept_links, kept_nodes, is_self_link, Cut, Bump}
+use Rattle.jh_env.specs.Naming.{are_bumps, bump_of, bump_spelled, ends_of, link_names, named_node}
+use Rattle.jh_env.specs.Naming.{node_name}
 use Rattle.jh_env.specs.TextErrors.{place_of}
 use Rattle.jh_env.specs.declared.faults.FaultError.TheVariants as FaultError
 use Rattle.jh_tables.specs.Plain.{fault_on_links, fault_on_nodes}
@@ -32,24 +33,6 @@ pub data FaultSpelling : Type 0 where
   Bumps : List (Edn × Edn) → FaultSpelling
   SplitOne : List ℕ → FaultSpelling
   Grudge : Named → FaultSpelling
-
-abbrev pub two_names : List Edn → Option (List ℕ × List ℕ)
-two_names (str source ∷ str destination ∷ []) = Some (source, destination)
-two_names _ = None
-
--- the source's and the destination's name of a link
-abbrev pub link_names : Edn → Option (List ℕ × List ℕ)
-link_names v = option_and_then two_names (elements_of v)
-
--- the name of a node
-abbrev pub node_name : Edn → Option (List ℕ)
-node_name (str name) = Some name
-node_name _ = None
-
--- the name of a node and the milliseconds by which its clock is moved
-abbrev pub bump_spelled : Edn × Edn → Option (List ℕ × ℤ)
-bump_spelled (str name, int ms) = Some (name, ms)
-bump_spelled _ = None
 
 -- these, if each of them is such
 abbrev pub all_of : {A : Type 0} → (A → Bool) → List A → Option (List A)
@@ -128,40 +111,6 @@ fault_spelling v = option_and_then spelling_in (elements_of v)
 abbrev pub IsRingOverAll : ℕ → Option FaultSpelling → Type 0
 IsRingOverAll n (Some (Grudge named)) = IsOverAll n named
 IsRingOverAll n _ = Unit {0}
-
-abbrev pub known_pair : Option ℕ → Option ℕ → Option (ℕ × ℕ)
-known_pair (Some a) (Some b) = Some (a, b)
-known_pair _ _ = None
-
--- the places of a link's nodes, where both are known
-abbrev pub ends_of : List (List ℕ) → Edn → Option (ℕ × ℕ)
-ends_of names v =
-    option_and_then (λ l. known_pair (place_of names l.0) (place_of names l.1)) (link_names v)
-
--- the place of a node that is named, where it is known
-abbrev pub named_node : List (List ℕ) → Edn → Option ℕ
-named_node names v = option_and_then (place_of names) (node_name v)
-
--- the place of a node and by how much its clock is moved, where it is known
-abbrev pub bump_of : List (List ℕ) → Edn × Edn → Option (ℕ × ℤ)
-bump_of names b =
-    option_and_then (λ written. option_map (λ node. (node, written.1)) (place_of names written.0))
-    (bump_spelled b)
-
--- some milliseconds, at most 10^9 either way
-abbrev pub is_bump_amount : ℤ → Bool
-is_bump_amount (pos n) = nat_lt 0 n && nat_le n (10 ^ 9)
-is_bump_amount (negsuc n) = nat_lt n (10 ^ 9)
-
--- none of these is the same as one before it, or as one of those before all of them
-abbrev pub are_apart_after : List (ℕ × ℤ) → List (ℕ × ℤ) → Bool
-are_apart_after before [] = true
-are_apart_after before (b ∷ bs) =
-    not (list_any (λ x. is_same_bumped x b) before) && are_apart_after (before ++ b ∷ []) bs
-
--- each bump is in its range, and no node is bumped twice
-abbrev pub are_bumps : List (ℕ × ℤ) → Bool
-are_bumps bumps = list_all (λ b. is_bump_amount b.1) bumps && are_apart_after [] bumps
 
 -- what follows from a part that has to be there, or else the refusal
 abbrev pub result_or_refusal : {A B : Type 0} → Option A → StepTextError

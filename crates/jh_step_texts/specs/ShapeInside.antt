@@ -4,15 +4,15 @@ use Rattle.jh_edn.specs.View.{views, view_pairs}
 use Rattle.jh_env.specs.EffectsInside.{IsLinkAmount}
 use Rattle.jh_step_texts.specs.FaultText.{FaultSpelling}
 use Rattle.jh_step_texts.specs.FaultText.FaultSpelling.{Links, Nodes, Bumps, SplitOne, Grudge}
-use Rattle.jh_step_texts.specs.declared.shapes.Shape.{Shape}
+use Rattle.jh_step_texts.specs.declared.shapes.SpelledFault.{SpelledFault}
 
 -- a fault, by the values that it borrows
-abbrev pub shape_spelling : Shape → FaultSpelling
-shape_spelling (Shape.Links kind links) = Links kind (views links.now)
-shape_spelling (Shape.Nodes kind nodes) = Nodes kind (views nodes.now)
-shape_spelling (Shape.Bumps bumps) = Bumps (view_pairs bumps.now)
-shape_spelling (Shape.SplitOne loner) = SplitOne loner.now
-shape_spelling (Shape.Grudge named) = Grudge named
+abbrev pub spelling_of : SpelledFault → FaultSpelling
+spelling_of (SpelledFault.Links kind links) = Links kind (views links.now)
+spelling_of (SpelledFault.Nodes kind nodes) = Nodes kind (views nodes.now)
+spelling_of (SpelledFault.Bumps bumps) = Bumps (view_pairs bumps.now)
+spelling_of (SpelledFault.SplitOne loner) = SplitOne loner.now
+spelling_of (SpelledFault.Grudge named) = Grudge named
 
 -- the amount of a fault of links, where it has a kind, is in its range
 abbrev pub IsRightSpelling : FaultSpelling → Type 0

@@ -21,7 +21,7 @@ ghost use Rattle.jh_step_texts.specs.NamedFaults.{
 
 use crate::shapes::Named;
 use crate::steps::StepTextError;
-use jh_env::{Fault, Node, Nodes};
+use jh_env::{Fault, LinkFault, Node, Nodes};
 use jh_grudge::{Grudge, SplitError, bisect, bridge, complete_grudge, majorities_ring, split_one};
 use rand::SeedableRng;
 use rand::seq::SliceRandom;
@@ -139,41 +139,13 @@ fn grudge_of(alloc: Global, nodes: &Nodes, named: Named) -> Option<Result<Grudge
     }
 }
 
-/// The node at a place that there is.
-fn node_at(nodes: &Nodes, place: u8) -> Node
-    requires { place < length nodes.now }
-    ensures { result ≡ place }
-{
-    match nodes.at(place) {
-        Some(node) => node,
-        None => unreachable!(),
-    }
-}
-
-/// The nodes at both ends of each link.
-fn ends_of(
-    alloc: Global,
-    nodes: &Nodes,
-    links: &[(u8, u8)],
-) -> Result<Vec<(Node, Node)>, AllocError>
-    requires { AreLinksAmong (length nodes.now) links.now }
-    ensures { IfOk result (λ ends. ends.items ≡ links.now) }
-{
-    let mut ends = Vec::new(alloc);
-    for (source, destination) in links {
-        ends.push((node_at(nodes, *source), node_at(nodes, *destination)))?;
-    }
-    Ok(ends)
-}
-
 /// The cut of a grudge's links.
 fn cut(alloc: Global, nodes: &Nodes, grudge: &Grudge) -> Result<Fault, StepTextError>
     requires { AreLinksAmong (length nodes.now) grudge.now }
     ensures cut { MatchResult result (λ fault. fault ≡ cut_of grudge.now) (λ e. e ≡ OutOfMemory) }
     ensures fits { IfOk result (FitsCount (length nodes.now)) }
 {
-    let ends = ends_of(alloc, nodes, grudge.links())?;
-    match Fault::cut(alloc, nodes, &ends) {
+    match Fault::on_links(alloc, nodes, Some(LinkFault::Cut), grudge.links()) {
         Ok(fault) => Ok(fault),
         Err(refusal) => Err(StepTextError::from(refusal)),
     }

@@ -1,13 +1,15 @@
 //! Faults as EDN values: how they are spelled. `specs/FaultText.antt` has the rule, case by case.
 
-ghost use Rattle.std.specs.Prelude.{◌≡◌, IfSome, option_map, is_some};
+ghost use Rattle.std.specs.Prelude.{◌≡◌, IfSome, MatchOption, option_map, is_some};
+ghost use Rattle.jh_env.specs.EffectsInside.{IsLinkAmount};
 ghost use Rattle.std.specs.List.{list_all};
 ghost use Rattle.jh_edn.specs.View.{view, views, view_pair, view_pairs};
+ghost use Rattle.jh_env.specs.Naming as naming;
 ghost use Rattle.jh_step_texts.specs.FaultText as rule;
-ghost use Rattle.jh_step_texts.specs.ShapeInside.{IsRightSpelling, shape_spelling};
+ghost use Rattle.jh_step_texts.specs.ShapeInside.{IsRightSpelling, spelling_of};
 
 use jh_edn::Value;
-use jh_env::{LinkFault, MAX_FIXED, MAX_LOSS, MAX_SLOWED, NodeFault};
+use jh_env::{LinkFault, NodeFault, bump_spelled, is_link_amount, link_names, node_name};
 
 /// A cut that is named by its grudge over all nodes.
 #[derive(Clone, Copy, Debug, PartialEq, Eq)]
@@ -23,7 +25,7 @@ pub enum Named {
 /// shape, or the name of the node that is split off, or the name of its grudge. A fault of links
 /// has no kind where its amount is out of its range.
 #[derive(Clone, Copy, Debug)]
-pub enum Shape<'a> {
+pub enum SpelledFault<'a> {
     Links(Option<LinkFault>, &'a [Value]),
     Nodes(NodeFault, &'a [Value]),
     Bumps(&'a [(Value, Value)]),
@@ -31,76 +33,44 @@ pub enum Shape<'a> {
     Grudge(Named),
 }
 
-/// The source's and the destination's name of a link.
-pub fn link_names(link: &Value) -> Option<(&str, &str)>
-    ensures { option_map (λ l. (l.0.now, l.1.now)) result ≡ rule.link_names (view link.now) }
-{
-    match link.elements()? {
-        [Value::Str(source), Value::Str(destination)] => {
-            Some((source.as_str(), destination.as_str()))
-        }
-        _ => None,
-    }
-}
-
-/// The name of a node.
-pub fn node_name(node: &Value) -> Option<&str>
-    ensures { option_map (λ s. s.now) result ≡ rule.node_name (view node.now) }
-{
-    match node {
-        Value::Str(name) => Some(name.as_str()),
-        _ => None,
-    }
-}
-
-/// The name of a node and by how much its clock is moved.
-pub fn bump_spelled(bump: &(Value, Value)) -> Option<(&str, i64)>
-    ensures { option_map (λ b. (b.0.now, b.1)) result ≡ rule.bump_spelled (view_pair bump.now) }
-{
-    match (&bump.0, &bump.1) {
-        (Value::Str(name), Value::Int(ms)) => Some((name.as_str(), *ms)),
-        _ => None,
-    }
-}
-
 /// Whether a value has the shape of a link.
 fn is_link(link: &Value) -> bool
-    ensures { result ≡ is_some (rule.link_names (view link.now)) }
+    ensures { result ≡ is_some (naming.link_names (view link.now)) }
 {
     link_names(link).is_some()
 }
 
 /// Whether a value has the shape of a node.
 fn is_node(node: &Value) -> bool
-    ensures { result ≡ is_some (rule.node_name (view node.now)) }
+    ensures { result ≡ is_some (naming.node_name (view node.now)) }
 {
     node_name(node).is_some()
 }
 
 /// Whether a pair has the shape of a bump.
 fn is_bump(bump: &(Value, Value)) -> bool
-    ensures { result ≡ is_some (rule.bump_spelled (view_pair bump.now)) }
+    ensures { result ≡ is_some (naming.bump_spelled (view_pair bump.now)) }
 {
     bump_spelled(bump).is_some()
 }
 
 /// Whether each value has the shape of a link.
 fn are_links(links: &[Value]) -> bool
-    ensures { result ≡ list_all (λ l. is_some (rule.link_names (view l))) links.now }
+    ensures { result ≡ list_all (λ l. is_some (naming.link_names (view l))) links.now }
 {
     links.iter().all(|link| is_link(link))
 }
 
 /// Whether each value has the shape of a node.
 fn are_nodes(nodes: &[Value]) -> bool
-    ensures { result ≡ list_all (λ n. is_some (rule.node_name (view n))) nodes.now }
+    ensures { result ≡ list_all (λ n. is_some (naming.node_name (view n))) nodes.now }
 {
     nodes.iter().all(|node| is_node(node))
 }
 
 /// Whether each pair has the shape of a bump.
 fn are_bumps(bumps: &[(Value, Value)]) -> bool
-    ensures { result ≡ list_all (λ b. is_some (rule.bump_spelled (view_pair b))) bumps.now }
+    ensures { result ≡ list_all (λ b. is_some (naming.bump_spelled (view_pair b))) bumps.now }
 {
     bumps.iter().all(|bump| is_bump(bump))
 }
@@ -108,7 +78,7 @@ fn are_bumps(bumps: &[(Value, Value)]) -> bool
 /// The values, if each has the shape of a link.
 fn all_links(links: &[Value]) -> Option<&[Value]>
     ensures { option_map (λ kept. views kept.now) result
-        ≡ rule.all_of (λ l. is_some (rule.link_names l)) (views links.now) }
+        ≡ rule.all_of (λ l. is_some (naming.link_names l)) (views links.now) }
 {
     if are_links(links) { Some(links) } else { None }
 }
@@ -116,7 +86,7 @@ fn all_links(links: &[Value]) -> Option<&[Value]>
 /// The values, if each has the shape of a node.
 fn all_nodes(nodes: &[Value]) -> Option<&[Value]>
     ensures { option_map (λ kept. views kept.now) result
-        ≡ rule.all_of (λ n. is_some (rule.node_name n)) (views nodes.now) }
+        ≡ rule.all_of (λ n. is_some (naming.node_name n)) (views nodes.now) }
 {
     if are_nodes(nodes) { Some(nodes) } else { None }
 }
@@ -124,7 +94,7 @@ fn all_nodes(nodes: &[Value]) -> Option<&[Value]>
 /// The pairs, if each has the shape of a bump.
 fn all_bumps(bumps: &[(Value, Value)]) -> Option<&[(Value, Value)]>
     ensures { option_map (λ kept. view_pairs kept.now) result
-        ≡ rule.all_of (λ b. is_some (rule.bump_spelled b)) (view_pairs bumps.now) }
+        ≡ rule.all_of (λ b. is_some (naming.bump_spelled b)) (view_pairs bumps.now) }
 {
     if are_bumps(bumps) { Some(bumps) } else { None }
 }
@@ -154,39 +124,51 @@ fn bumps_in(value: &Value) -> Option<&[(Value, Value)]>
 }
 
 /// The fault that a keyword alone spells, if it does.
-fn named_fault(name: &str) -> Option<Shape<'_>>
-    ensures { option_map shape_spelling result ≡ rule.named_fault name.now }
+fn named_fault(name: &str) -> Option<SpelledFault<'_>>
+    ensures { option_map spelling_of result ≡ rule.named_fault name.now }
 {
     match name {
-        "halves" => Some(Shape::Grudge(Named::Halves)),
-        "bridge" => Some(Shape::Grudge(Named::Bridge)),
-        "ring" => Some(Shape::Grudge(Named::Ring)),
+        "halves" => Some(SpelledFault::Grudge(Named::Halves)),
+        "bridge" => Some(SpelledFault::Grudge(Named::Bridge)),
+        "ring" => Some(SpelledFault::Grudge(Named::Ring)),
         _ => None,
     }
 }
 
 /// The ring in the order that a seed gives, if the value is an integer.
-fn shuffled_ring(seed: &Value) -> Option<Shape<'_>>
-    ensures { option_map shape_spelling result ≡ rule.shuffled_ring (view seed.now) }
+fn shuffled_ring(seed: &Value) -> Option<SpelledFault<'_>>
+    ensures { option_map spelling_of result ≡ rule.shuffled_ring (view seed.now) }
 {
     match seed {
-        Value::Int(seed) => Some(Shape::Grudge(Named::ShuffledRing(*seed))),
+        Value::Int(seed) => Some(SpelledFault::Grudge(Named::ShuffledRing(*seed))),
         _ => None,
     }
 }
 
 /// The fault that a keyword and a value spell, if they do.
-fn plain_fault<'a>(name: &str, value: &'a Value) -> Option<Shape<'a>>
-    ensures { option_map shape_spelling result ≡ rule.plain_fault name.now (view value.now) }
+fn plain_fault<'a>(name: &str, value: &'a Value) -> Option<SpelledFault<'a>>
+    ensures { option_map spelling_of result ≡ rule.plain_fault name.now (view value.now) }
 {
     match name {
-        "cut" => Some(Shape::Links(Some(LinkFault::Cut), links_in(value)?)),
-        "pause" => Some(Shape::Nodes(NodeFault::Pause, nodes_in(value)?)),
-        "kill" => Some(Shape::Nodes(NodeFault::Kill, nodes_in(value)?)),
-        "bump" => Some(Shape::Bumps(bumps_in(value)?)),
-        "split-one" => Some(Shape::SplitOne(node_name(value)?)),
+        "cut" => Some(SpelledFault::Links(Some(LinkFault::Cut), links_in(value)?)),
+        "pause" => Some(SpelledFault::Nodes(NodeFault::Pause, nodes_in(value)?)),
+        "kill" => Some(SpelledFault::Nodes(NodeFault::Kill, nodes_in(value)?)),
+        "bump" => Some(SpelledFault::Bumps(bumps_in(value)?)),
+        "split-one" => Some(SpelledFault::SplitOne(node_name(value)?)),
         "ring" => shuffled_ring(value),
         _ => None,
+    }
+}
+
+/// The kind, if its amount is in its range.
+fn in_range(kind: LinkFault) -> Option<LinkFault>
+    ensures { MatchOption result (IsLinkAmount kind → ⊥)
+        (λ right. (right ≡ kind) × IsLinkAmount kind) }
+{
+    if is_link_amount(kind) {
+        Some(kind)
+    } else {
+        None
     }
 }
 
@@ -194,55 +176,40 @@ fn plain_fault<'a>(name: &str, value: &'a Value) -> Option<Shape<'a>>
 fn slow_kind(amount: i64) -> Option<LinkFault>
     ensures { result ≡ rule.slow_kind amount }
 {
-    let ms = u64::try_from(amount).ok()?;
-    if ms >= 1 && ms <= MAX_SLOWED {
-        Some(LinkFault::Slow(ms))
-    } else {
-        None
-    }
+    in_range(LinkFault::Slow(u64::try_from(amount).ok()?))
 }
 
 /// The kind of a fault that loses at this amount, if it is in its range.
 fn loss_kind(amount: i64) -> Option<LinkFault>
     ensures { result ≡ rule.loss_kind amount }
 {
-    let level = u8::try_from(amount).ok()?;
-    if level >= 1 && level <= MAX_LOSS {
-        Some(LinkFault::Loss(level))
-    } else {
-        None
-    }
+    in_range(LinkFault::Loss(u8::try_from(amount).ok()?))
 }
 
 /// The kind of a fault that fixes the delay at this amount, if it is in its range.
 fn fix_kind(amount: i64) -> Option<LinkFault>
     ensures { result ≡ rule.fix_kind amount }
 {
-    let ms = u64::try_from(amount).ok()?;
-    if ms <= MAX_FIXED {
-        Some(LinkFault::Fix(ms))
-    } else {
-        None
-    }
+    in_range(LinkFault::Fix(u64::try_from(amount).ok()?))
 }
 
 /// The fault that a keyword, an amount and a value spell, if they do.
-fn measured_fault<'a>(name: &str, amount: i64, value: &'a Value) -> Option<Shape<'a>>
-    ensures { option_map shape_spelling result
+fn measured_fault<'a>(name: &str, amount: i64, value: &'a Value) -> Option<SpelledFault<'a>>
+    ensures { option_map spelling_of result
         ≡ rule.measured_fault name.now amount (view value.now) }
 {
     match name {
-        "slow" => Some(Shape::Links(slow_kind(amount), links_in(value)?)),
-        "loss" => Some(Shape::Links(loss_kind(amount), links_in(value)?)),
-        "fix" => Some(Shape::Links(fix_kind(amount), links_in(value)?)),
+        "slow" => Some(SpelledFault::Links(slow_kind(amount), links_in(value)?)),
+        "loss" => Some(SpelledFault::Links(loss_kind(amount), links_in(value)?)),
+        "fix" => Some(SpelledFault::Links(fix_kind(amount), links_in(value)?)),
         _ => None,
     }
 }
 
 /// How a value spells a fault, if it does.
-pub fn shape_of(fault: &Value) -> Option<Shape<'_>>
-    ensures spelled { option_map shape_spelling result ≡ rule.fault_spelling (view fault.now) }
-    ensures right { IfSome result (λ shape. IsRightSpelling (shape_spelling shape)) }
+pub fn shape_of(fault: &Value) -> Option<SpelledFault<'_>>
+    ensures spelled { option_map spelling_of result ≡ rule.fault_spelling (view fault.now) }
+    ensures right { IfSome result (λ shape. IsRightSpelling (spelling_of shape)) }
 {
     match fault.elements()? {
         [Value::Keyword(name)] => named_fault(name.as_str()),

@@ -12,11 +12,13 @@ loop-bump-preserved g c =
       | in-Some+in_ok-push w ↦
           let y = w.in-Some.bump in
           let there : f x ≡ Some y = sym c.bump.ensures.bump ∙ w.in-Some.is in
-          rw (w.all-is, w.in_ok-push.ensures.items)
-          (ap (λ t. t ++ y ∷ []) c.loop-bump.invariant.0 ∙ sym (found_next f xs i x y c.loop-bump-test.true c.bump-item.is there),
-          All-push (λ b. b.0 < length c.args.nodes.now) c.loop-bump.all.items y c.loop-bump.invariant.1 w.in-Some.ensures.known)
+          rw (w.all-is, w.in_ok-push.ensures.items) (
+            ap (λ t. t ++ y ∷ []) c.loop-bump.invariant.0 ∙ sym (found_next f xs i x y c.loop-bump-test.true c.bump-item.is there),
+            All-push (λ b. b.0 < length c.args.nodes.now) c.loop-bump.all.items y c.loop-bump.invariant.1 w.in-Some.ensures.known,
+          )
       | in_default w ↦
-          rw w.all-is
-          (c.loop-bump.invariant.0 ∙ sym (found_skip f xs i x c.loop-bump-test.true c.bump-item.is (sym c.bump.ensures.bump ∙ w.in_default.is)),
-          c.loop-bump.invariant.1)
+          rw w.all-is (
+            c.loop-bump.invariant.0 ∙ sym (found_skip f xs i x c.loop-bump-test.true c.bump-item.is (sym c.bump.ensures.bump ∙ w.in_default.is)),
+            c.loop-bump.invariant.1,
+          )
     ]

@@ -14,10 +14,11 @@ loop-node-preserved g c =
       | in-Some+in_ok-keep w ↦
           let y = w.in-Some.node in
           let there : f x ≡ Some y = sym c.node.ensures.node ∙ w.in-Some.is in
-          rw (w.seen-is, w.kept-is)
-          (w.in_ok-keep.ensures.0,
-          kept_next is_same_node f xs i x y c.loop-node.kept.items w.keep.new.kept.items _ c.loop-node-test.true c.node-item.is there w.in_ok-keep.ensures.1 before.1,
-          kept_all_one (λ n. n < length c.args.nodes.now) is_same_node c.loop-node.kept.items y w.keep.new.kept.items before.2 w.in-Some.ensures.known w.in_ok-keep.ensures.1)
+          rw (w.seen-is, w.kept-is) (
+            w.in_ok-keep.ensures.0,
+            kept_next is_same_node f xs i x y c.loop-node.kept.items w.keep.new.kept.items _ c.loop-node-test.true c.node-item.is there w.in_ok-keep.ensures.1 before.1,
+            kept_all_one (λ n. n < length c.args.nodes.now) is_same_node c.loop-node.kept.items y w.keep.new.kept.items before.2 w.in-Some.ensures.known w.in_ok-keep.ensures.1,
+          )
       | in_default w ↦
           rw (w.seen-is, w.kept-is)
           (before.0, kept_skip is_same_node f xs i x c.loop-node.kept.items _ c.loop-node-test.true c.node-item.is (sym c.node.ensures.node ∙ w.in_default.is) before.1, before.2)

@@ -2,7 +2,7 @@ use Rattle.std.proofs.Common.{refl}
 use Rattle.std.specs.Prelude.{is_some}
 use Rattle.std.proofs.lemmas.List.Folds.{list_all-map}
 use Rattle.jh_edn.specs.View.{view}
-use Rattle.jh_step_texts.specs.FaultText.{link_names}
+use Rattle.jh_env.specs.Naming.{link_names}
 use Rattle.jh_step_texts.proofs.shapes.all_links.Goals as goal
 
 pub returns-then-are_links : goal.returns-then-are_links

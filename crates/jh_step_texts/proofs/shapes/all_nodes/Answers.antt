@@ -2,7 +2,7 @@ use Rattle.std.proofs.Common.{refl}
 use Rattle.std.specs.Prelude.{is_some}
 use Rattle.std.proofs.lemmas.List.Folds.{list_all-map}
 use Rattle.jh_edn.specs.View.{view}
-use Rattle.jh_step_texts.specs.FaultText.{node_name}
+use Rattle.jh_env.specs.Naming.{node_name}
 use Rattle.jh_step_texts.proofs.shapes.all_nodes.Goals as goal
 
 pub returns-then-are_nodes : goal.returns-then-are_nodes

@@ -10,7 +10,7 @@ returns c =
     let apart = rw (c.place.ensures, c.place-2.ensures) at c.if-source-destination.false in
     rw (← c.self.view_is, c.place.ensures, c.place-2.ensures, c.len-count.ensures, count) (record {
       names = refl;
-      amounts = (c.if-link-gt60000.false, c.if-link-gt20.false);
+      amounts = (c.if-link-gt-MAX_START_DELAY_MS.false, c.if-link-gt-MAX_START_LOSS.false);
       links = link_at_set c.self.inside.links.items c.self.inside.cells.items c.args.from c.args.to c.args.link from_below to_below apart c.self.invariant.square;
       nodes = λ _. refl;
     })
