@@ -8,7 +8,7 @@ use Rattle.jh_txn_histories.specs.Histories.{RefusesTransactions}
 use Rattle.jh_txn_histories.specs.declared.histories.TxnError.{TxnError}
 use Rattle.jh_txn_histories.specs.declared.histories.TxnError.TheVariants.{BadValue, RepeatedAppend, OutOfMemory}
 use Rattle.jh_ops.specs.declared.pairs.Pair.{Pair}
-use Rattle.jh_linear.specs.Calls.{IsLeastBad, bad_place, place_of_value, reg_op_of}
+use Rattle.jh_linear.specs.Operations.{IsLeastBad, bad_place, place_of_value, reg_op_of}
 use Rattle.jh_linear.specs.declared.register.RegOp.{RegOp}
 use Rattle.jh_checkers.specs.Findings.{RefusesListAppend}
 use Rattle.jh_checkers.specs.TransactionsInside.{error_of_reading}

@@ -5,7 +5,7 @@ use Rattle.std.proofs.lemmas.Option.{slice_get_within}
 use Rattle.jh_ops.specs.Operation.{Operation}
 use Rattle.jh_ops.specs.Pairing.{history_pairs}
 use Rattle.jh_ops.specs.declared.pairs.Pair.{Pair}
-use Rattle.jh_linear.specs.Calls.{AreRegOps, outcome_of, reg_op_of, op_with_call}
+use Rattle.jh_linear.specs.Operations.{AreRegOps, outcome_of, reg_op_of, op_with_call}
 use Rattle.jh_linear.specs.Order.{IsDone, op_at}
 use Rattle.jh_linear.specs.Stuck.{IsStuck, op_end}
 use Rattle.jh_linear.specs.declared.register.Outcome.TheVariants.{Done}

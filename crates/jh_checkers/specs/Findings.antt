@@ -13,7 +13,7 @@ use Rattle.jh_check.specs.declared.error.CheckError.{CheckError}
 use Rattle.jh_check.specs.declared.error.CheckError.TheVariants.{Pair, BadValue, NegativeAdd}
 use Rattle.jh_check.specs.declared.error.CheckError.TheVariants.{RepeatedAppend, OutOfMemory}
 use Rattle.jh_check.specs.declared.verdict.Verdict.{Verdict}
-use Rattle.jh_linear.specs.Calls.{AreRegOps, IsLeastBad}
+use Rattle.jh_linear.specs.Operations.{AreRegOps, IsLeastBad}
 use Rattle.jh_linear.specs.Verdict.{IsJudged}
 use Rattle.jh_linear.specs.declared.register.RegOp.{RegOp}
 use Rattle.jh_linear.specs.declared.verdict.LinVerdict.{LinVerdict}

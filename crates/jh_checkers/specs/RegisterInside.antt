@@ -2,8 +2,8 @@
 -- public clause names it. This project's own.
 use Rattle.jh_check.specs.declared.error.CheckError.{CheckError}
 use Rattle.jh_check.specs.declared.error.CheckError.TheVariants.{BadValue, OutOfMemory}
-use Rattle.jh_linear.specs.declared.calls.RegOpsError.{RegOpsError}
-use Rattle.jh_linear.specs.declared.calls.RegOpsError.TheVariants as operations
+use Rattle.jh_linear.specs.declared.operations.RegOpsError.{RegOpsError}
+use Rattle.jh_linear.specs.declared.operations.RegOpsError.TheVariants as operations
 
 -- the same error
 abbrev pub error_of : RegOpsError → CheckError

@@ -14,7 +14,7 @@ use crate::explanation::Explanation;
 use crate::finding::Finding;
 use jh_check::{Verdict, write_counter, write_ids, write_set, write_verdict};
 use jh_edn::{EdnError, put, write_part};
-use jh_linear::{LinVerdict, Order, Stuck};
+use jh_linear::{LinVerdict, Linearization, Stuck};
 use jh_ops::write_operation;
 use jh_txn_findings::write_txn_finding;
 use std::io::Write;
@@ -32,7 +32,7 @@ fn write_held<W: Write>(held: Option<i64>, writer: &mut W) -> Result<(), EdnErro
 }
 
 /// Writes the line of a register that has an order.
-fn write_valid<W: Write>(order: &Order, writer: &mut W) -> Result<(), EdnError>
+fn write_valid<W: Write>(order: &Linearization, writer: &mut W) -> Result<(), EdnError>
     ensures bytes { OnOk result (Appends (W.contents writer.old) (W.contents writer.new)
         (print (map_with_verdict Verdict.True
         ((keyword (codes "order"), order_value order.now) ∷ [])))) }

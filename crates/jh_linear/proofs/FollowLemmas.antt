@@ -124,7 +124,7 @@ module _ (ops : List RegOp) (x : ℕ) (not_done : IsDone ops x → ⊥) where
   )
 
   -- Twins of unknown outcome: the one may stand for the other.
-  module _ (p : ℕ) (calls : (op_at ops x).call ≡ (op_at ops p).call) where
+  module _ (p : ℕ) (same_call : (op_at ops x).call ≡ (op_at ops p).call) where
     abbrev Exchanged : List ℕ → List ℕ → Option ℤ → Option ℤ → Type 0
     Exchanged front rest value last =
         (rest' : List ℕ) × (length rest' ≡ length rest) × GoesOnWith ops (front ++ p ∷ []) value rest' last
@@ -138,7 +138,7 @@ module _ (ops : List RegOp) (x : ℕ) (not_done : IsDone ops x → ⊥) where
           | inl e ↦
               let is : y ≡ p = eqb-true y p e in
               let away : p ≡ x → ⊥ = λ same. apart (sym (is ∙ same)) in
-              let allowed = subst (λ c. Allows c value f.1.0) (ap (λ z. (op_at ops z).call) is ∙ sym calls) f.1.1 in
+              let allowed = subst (λ c. Allows c value f.1.0) (ap (λ z. (op_at ops z).call) is ∙ sym same_call) f.1.1 in
               let behind = subst (λ z. GoesOnWith ops ((front ++ x ∷ []) ++ z ∷ []) f.1.0 rest last) is f.1.2 in (
                 x ∷ rest,
                 refl,

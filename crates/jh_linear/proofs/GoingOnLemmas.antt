@@ -12,19 +12,19 @@ use Rattle.jh_linear.specs.declared.moves.Source.TheVariants.{Happened, Unknown}
 use Rattle.jh_linear.specs.declared.search.Added.TheVariants.{Known, New}
 use Rattle.jh_linear.specs.declared.search.Furthest.{Furthest}
 use Rattle.jh_linear.specs.declared.search.Search.{Search}
-use Rattle.jh_linear.specs.declared.queue.Turn.{Turn}
+use Rattle.jh_linear.specs.declared.queue.RankedConfig.{RankedConfig}
 use Rattle.jh_linear.specs.declared.verdict.Step.{Step}
-use Rattle.jh_linear.specs.declared.judge.Progress.{Progress}
-use Rattle.jh_linear.specs.declared.judge.Progress.TheVariants.{More, Complete as Whole, Full as NoRoom}
+use Rattle.jh_linear.specs.declared.judge.ExpansionEnd.{ExpansionEnd}
+use Rattle.jh_linear.specs.declared.judge.ExpansionEnd.TheVariants.{More, Complete as Whole, Full as NoRoom}
 use Rattle.jh_linear.specs.declared.walk.WalkEnd.TheVariants.{Several, Stuck, Complete}
 use Rattle.jh_linear.specs.Order.{Allows, has, op_at}
 use Rattle.jh_linear.specs.Reached.{order_at}
-use Rattle.jh_linear.specs.SearchInside.{Adds, AreMoves, AreSame, AreTried, CanReach, EachIsMove, EndsAs, ComesOfEntering, Grows, GrowsTo, HasGone, IsSearchSoFar, IsFurthest, IsGoneOn, IsMadeBy, IsMove, IsMoved, IsProblem, CanBePlaced, IsWholeOrder, LeadsOn, Notes, LeadsTo, ComesOfTurn, ComesOfMove, SearchLists, WasReached, WereTried, search_lists, source_call, class_at, end_at, invocation_at, next_at, source_place, stage_place, stages_in, unknown_place}
+use Rattle.jh_linear.specs.SearchInside.{Adds, AreMoves, AreSame, AreTried, CanReach, EachIsMove, EndsAs, ComesOfEntering, Grows, GrowsTo, HasGone, IsSearchSoFar, IsFurthest, IsGoneOn, IsMadeBy, IsMove, IsMoved, IsProblem, CanBePlaced, IsWholeOrder, LeadsOn, Notes, LeadsTo, ComesOfExpansion, ComesOfMove, SearchLists, WasReached, WereTried, search_lists, source_call, class_at, end_at, invocation_at, next_at, source_place, stage_place, stages_in, unknown_place}
 use Rattle.jh_linear.proofs.GrowthLemmas.{below, grows_far, grows_none, grows_order, grows_push, grows_trans, known_leads, leads_more, new_leads, stands_copy}
-use Rattle.jh_linear.specs.TurnsInside.{IsWith, awaits, turns_left}
+use Rattle.jh_linear.specs.WaitingInside.{IsWith, awaits, expansions_left}
 use Rattle.jh_linear.proofs.LeadLemmas.{one_leads}
 use Rattle.jh_linear.proofs.MoveLemmas.{get_taken}
-use Rattle.jh_linear.proofs.TurnLemmas.{awaits_is, awaits_only, only_at, some_turn, turns_is, turns_only}
+use Rattle.jh_linear.proofs.WaitingLemmas.{awaits_is, awaits_only, only_at, some_expansion, expansions_is, expansions_only}
 use Rattle.std.proofs.lemmas.Bool.{false≢true}
 
 pub if_ok : {X E : Type 0} {P Q : X → Type 0} (r : Result X E) → ((x : X) → P x → Q x) → IfOk r P → IfOk r Q
@@ -123,7 +123,7 @@ noted problem stood old new at placed config begun low stands open'' notes =
 -- ---- one move, and a walk
 
 module _ (problem : Problem) (stood : IsProblem problem) (old : Search) (begun : IsSearchSoFar problem old) (at : ℕ) (config : Config) (was : WasReached old at config)
-    (copy : Config) (same : AreSame config copy) (step : Move) (made : Config) (first : List ℕ) (makes : IsMadeBy problem copy [] step made first) (next : Config) (placed : List ℕ) (gone : HasGone problem made first next placed) where
+    (copy : Config) (same : AreSame config copy) (next_move : Move) (made : Config) (first : List ℕ) (makes : IsMadeBy problem copy [] next_move made first) (next : Config) (placed : List ℕ) (gone : HasGone problem made first next placed) where
   abbrev order : List ℕ
   order = order_at old.steps.items at
 
@@ -133,8 +133,8 @@ module _ (problem : Problem) (stood : IsProblem problem) (old : Search) (begun :
   pub stands_here : LeadsTo problem order copy
   stands_here = stands_copy problem order config copy same (stands_copy problem order was.0 config was.2 (begun.known.stands at was.0 was.1))
 
-  place_is : source_place problem config step.source ≡ source_place problem copy step.source
-  place_is = place_same problem config copy same step.source
+  place_is : source_place problem config next_move.source ≡ source_place problem copy next_move.source
+  place_is = place_same problem config copy same next_move.source
 
   stands_made : LeadsTo problem (order ++ first) made
   stands_made = subst (λ o. LeadsTo problem (order ++ o) made) (sym makes.placed_is) (makes.after.stands order stands_here)
@@ -145,9 +145,9 @@ module _ (problem : Problem) (stood : IsProblem problem) (old : Search) (begun :
   pub some_placed : 0 < length placed
   some_placed = omega (arith, gone.longer, ap length makes.placed_is)
 
-  pub reach_next : (n : ℕ) → next.stage < n → n ≤ stages_in problem → CanReach problem n (order ++ source_place problem config step.source ∷ []) step.value → CanReach problem n (order ++ placed) next.value
+  pub reach_next : (n : ℕ) → next.stage < n → n ≤ stages_in problem → CanReach problem n (order ++ source_place problem config next_move.source ∷ []) next_move.value → CanReach problem n (order ++ placed) next.value
   reach_next n past few reach =
-      let here : CanReach problem n (order ++ first) step.value = subst (λ o. CanReach problem n (order ++ o) step.value) (sym makes.placed_is) (subst (λ p. CanReach problem n (order ++ p ∷ []) step.value) place_is reach) in
+      let here : CanReach problem n (order ++ first) next_move.value = subst (λ o. CanReach problem n (order ++ o) next_move.value) (sym makes.placed_is) (subst (λ p. CanReach problem n (order ++ p ∷ []) next_move.value) place_is reach) in
       gone.carries order stands_made n past few (subst (λ v. CanReach problem n (order ++ first) v) (sym makes.after.value_is) here)
 
   pub whole : EndsAs problem next placed Complete → IsWholeOrder problem (order ++ placed)
@@ -156,7 +156,7 @@ module _ (problem : Problem) (stood : IsProblem problem) (old : Search) (begun :
     λ q done. let r = stood.history.each_done q done in subst (λ p. has (order ++ placed) p ≡ true) r.2 (stands_next.known.passed r.0 (omega (arith, r.1, end))),
   )
 
-  pub tried_stuck : (new : Search) → EndsAs problem next placed Stuck → Notes old new at placed next.stage → ComesOfMove problem old new at config step More
+  pub tried_stuck : (new : Search) → EndsAs problem next placed Stuck → Notes old new at placed next.stage → ComesOfMove problem old new at config next_move More
   tried_stuck new ends notes =
       let n = noted problem stood old new at placed next begun at_low stands_next ends.0 notes in
       (n.0, λ stages past few reach. absurd (ends.1 order stands_next stages (omega (arith, n.1, past)) few (reach_next stages (omega (arith, n.1, past)) few reach)))
@@ -166,7 +166,7 @@ module _ (problem : Problem) (stood : IsProblem problem) (old : Search) (begun :
       let n = noted problem stood old mid at placed next begun at_low stands_next ends notes in
       (record { known = n.0.known; far = n.0.far; few = n.0.few }, n.1)
 
-  pub tried_several : (mid new : Search) → EndsAs problem next placed Several → Notes old mid at placed next.stage → ComesOfEntering problem mid new at placed next More → ComesOfMove problem old new at config step More
+  pub tried_several : (mid new : Search) → EndsAs problem next placed Several → Notes old mid at placed next.stage → ComesOfEntering problem mid new at placed next More → ComesOfMove problem old new at config next_move More
   tried_several mid new ends notes entered =
       let n = noted problem stood old mid at placed next begun at_low stands_next ends notes in (
         grows_trans problem stood (search_lists old) (search_lists mid) (search_lists new) n.0 entered.0,
@@ -177,7 +177,7 @@ module _ (problem : Problem) (stood : IsProblem problem) (old : Search) (begun :
             (entered.2 stages (subst (λ (ss : List Step). CanReach problem stages (order_at ss at ++ placed) next.value) (sym notes.steps) there)),
       )
 
-  pub tried_entered : (mid new : Search) → EndsAs problem next placed Several → Notes old mid at placed next.stage → (progress : Progress) → ComesOfEntering problem mid new at placed next progress → ComesOfMove problem old new at config step progress
+  pub tried_entered : (mid new : Search) → EndsAs problem next placed Several → Notes old mid at placed next.stage → (end : ExpansionEnd) → ComesOfEntering problem mid new at placed next end → ComesOfMove problem old new at config next_move end
   tried_entered mid new ends notes More entered = tried_several mid new ends notes entered
   tried_entered mid new ends notes (Whole places) entered = absurd entered
   tried_entered mid new ends notes NoRoom entered = entered
@@ -190,10 +190,10 @@ moved_more problem stood old mid new at config move begun on moved stages past f
     leads_more problem stood (search_lists mid) (search_lists new) (length (order_at old.steps.items at)) stages begun.known on
     (moved stages (omega (arith, on.further, past)) few reach)
 
-pub tried_more : (problem : Problem) (stood : IsProblem problem) (old mid new : Search) (at : ℕ) (config : Config) (moves : List Move) (step index : ℕ) (d : Move) → at < length old.steps.items → index ≡ length moves - 1 - step → step < length moves → IsSearchSoFar problem mid → GrowsTo problem old mid → GrowsTo problem mid new
-    → IsMoved problem mid new at config (get_or moves index d) → AreTried problem old mid at config moves step → AreTried problem old new at config moves (step + 1)
-tried_more problem stood old mid new at config moves step index d low is room begun before on one tried i move high there =
-    elim (cases_lt i (length moves - step)) as (λ _. IsMoved problem old new at config move) [
+pub tried_more : (problem : Problem) (stood : IsProblem problem) (old mid new : Search) (at : ℕ) (config : Config) (moves : List Move) (count index : ℕ) (d : Move) → at < length old.steps.items → index ≡ length moves - 1 - count → count < length moves → IsSearchSoFar problem mid → GrowsTo problem old mid → GrowsTo problem mid new
+    → IsMoved problem mid new at config (get_or moves index d) → AreTried problem old mid at config moves count → AreTried problem old new at config moves (count + 1)
+tried_more problem stood old mid new at config moves count index d low is room begun before on one tried i move high there =
+    elim (cases_lt i (length moves - count)) as (λ _. IsMoved problem old new at config move) [
       | inl new' ↦
           let here : i ≡ index = omega (arith, is, high, room, new') in
           let this : get_or moves index d ≡ move = ap (λ k. get_or moves k d) (sym here) ∙ get_or_from_slice_get moves i move d there in
@@ -203,7 +203,7 @@ tried_more problem stood old mid new at config moves step index d low is room be
       | inr old' ↦ moved_more problem stood old mid new at config move begun on (tried i move (omega (arith, old')) there)
     ]
 
--- a configuration is gone on from when each of its moves was tried
+-- a configuration is expanded when each of its moves was tried
 pub gone_all : (problem : Problem) (stood : IsProblem problem) (old new : Search) (at : ℕ) (config : Config) (moves : List Move) → IsSearchSoFar problem old → WasReached old at config → GrowsTo problem old new → AreMoves problem config moves
     → ((i : ℕ) (move : Move) → slice_get moves i ≡ Some move → IsMoved problem old new at config move)
     → (other : Config) → slice_get old.configs.keys at ≡ Some other → IsGoneOn problem new.configs.keys new.steps.items new.furthest.stage (order_at old.steps.items at) other.value
@@ -218,38 +218,38 @@ gone_all problem stood old new at config moves begun was on are tried other is s
     let led = one_leads problem stood stages few order config stands low moves are (subst (λ v. CanReach problem stages order v) held reach) in
     tried led.0 led.1 led.2 stages past few led.3
 
--- ---- a turn
+-- ---- an expansion
 
 -- each of the first so many is a move, where each of all is
 pub each_taken : (problem : Problem) (config : Config) (count : ℕ) (moves : List Move) → EachIsMove problem config moves → EachIsMove problem config (take count moves)
 each_taken problem config count moves each i move there = each i move (get_taken count moves i move there)
 
-module _ (problem : Problem) (stood : IsProblem problem) (old : Search) (turn : Turn) (config : Config) where
-  -- all was tried
-  pub taken_all : (new : Search) (moves : List Move) → IsSearchSoFar problem old → WasReached old turn.at config → AreMoves problem config moves → (progress : Progress) → WereTried problem old new turn.at config moves progress → ComesOfTurn problem old new turn progress
+module _ (problem : Problem) (stood : IsProblem problem) (old : Search) (ranked : RankedConfig) (config : Config) where
+  -- all moves were tried
+  pub taken_all : (new : Search) (moves : List Move) → IsSearchSoFar problem old → WasReached old ranked.at config → AreMoves problem config moves → (end : ExpansionEnd) → WereTried problem old new ranked.at config moves end → ComesOfExpansion problem old new ranked end
   taken_all new moves begun was are More tried = record {
     again = [];
-    fewer = some_turn turn;
+    fewer = some_expansion ranked;
     own = λ i h. absurd (false≢true h);
     on = tried.0;
-    gone = inr (gone_all problem stood old new turn.at config moves begun was tried.0 are tried.1);
+    gone = inr (gone_all problem stood old new ranked.at config moves begun was tried.0 are tried.1);
   }
   taken_all new moves begun was are (Whole placed) tried = tried
   taken_all new moves begun was are NoRoom tried = tried
 
-  -- some was tried, and the configuration waits for its second turn
-  pub taken_first : (later : Turn) (mid new : Search) (moves : List Move) → turn.is_last ≡ false → later.at ≡ turn.at → later.is_last ≡ true → IsWith later old.waiting mid.waiting
-      → mid.configs ≡ old.configs → mid.steps ≡ old.steps → mid.furthest ≡ old.furthest → (progress : Progress) → WereTried problem mid new turn.at config moves progress → ComesOfTurn problem old new turn progress
+  -- some moves were tried, and the configuration waits for its second expansion
+  pub taken_first : (later : RankedConfig) (mid new : Search) (moves : List Move) → ranked.is_last ≡ false → later.at ≡ ranked.at → later.is_last ≡ true → IsWith later old.waiting mid.waiting
+      → mid.configs ≡ old.configs → mid.steps ≡ old.steps → mid.furthest ≡ old.furthest → (end : ExpansionEnd) → WereTried problem mid new ranked.at config moves end → ComesOfExpansion problem old new ranked end
   taken_first later mid new moves first at last with' e f g More tried =
-      let one : turns_left later ≡ 1 = ap (λ b. if b then 1 else 2) last in
-      let two : turns_left turn ≡ 2 = ap (λ b. if b then 1 else 2) first in
+      let one : expansions_left later ≡ 1 = ap (λ b. if b then 1 else 2) last in
+      let two : expansions_left ranked ≡ 2 = ap (λ b. if b then 1 else 2) first in
       let waits : SearchLists = record (search_lists old) { waiting = mid.waiting } in
       let same : search_lists mid ≡ waits = lists_same (search_lists mid) waits (ap (λ x. x.keys) e) (ap (λ x. x.items) f) refl g in
       record {
         again = later ∷ [];
-        fewer = omega (arith, one, two, turns_only later);
+        fewer = omega (arith, one, two, expansions_only later);
         own = λ i h. sym (only_at later i h) ∙ at;
-        on = grows_order problem stood waits (search_lists new) (later ∷ old.waiting) (λ i. sym (awaits_is later old.waiting mid.waiting with' i)) (turns_is later old.waiting mid.waiting with')
+        on = grows_order problem stood waits (search_lists new) (later ∷ old.waiting) (λ i. sym (awaits_is later old.waiting mid.waiting with' i)) (expansions_is later old.waiting mid.waiting with')
             (subst (λ x. Grows problem x (search_lists new)) same tried.0);
         gone = inl (subst (λ n. awaits (later ∷ []) n ≡ true) at (awaits_only later));
       }

@@ -9,13 +9,13 @@ use Rattle.jh_linear.specs.declared.history.Problem.{Problem}
 use Rattle.jh_linear.specs.declared.history.Stage.{Stage}
 use Rattle.jh_linear.specs.declared.config.Config.{Config}
 use Rattle.jh_linear.specs.declared.search.Furthest.{Furthest}
-use Rattle.jh_linear.specs.declared.queue.Turn.{Turn}
+use Rattle.jh_linear.specs.declared.queue.RankedConfig.{RankedConfig}
 use Rattle.jh_linear.specs.declared.verdict.Step.{Step}
 use Rattle.jh_linear.specs.Order.{has}
 use Rattle.jh_linear.specs.Reached.{order_at, root}
 use Rattle.jh_linear.specs.SearchInside.{AreSame, CanReach, GoesOnWith, Grows, IsAt, IsFurthest, IsProblem, IsSearch, LeadsOn, LeadsTo, AreNext, SearchLists, arrivals_by, furthest_order, stage_place, stages_in, places_without}
-use Rattle.jh_linear.specs.TurnsInside.{IsWith, awaits, turns_in, turns_left}
-use Rattle.jh_linear.proofs.TurnLemmas.{awaits_cases, awaits_kept, awaits_own, turns_more}
+use Rattle.jh_linear.specs.WaitingInside.{IsWith, awaits, expansions_in, expansions_left}
+use Rattle.jh_linear.proofs.WaitingLemmas.{awaits_cases, awaits_kept, awaits_own, expansions_more}
 use Rattle.jh_linear.proofs.PlaceSetLemmas.{has_append, has_without, in_without, not_true, same_tests, true_if}
 use Rattle.jh_linear.proofs.MoveLemmas.{get_cases, get_kept, get_last}
 use Rattle.jh_linear.proofs.NextLemmas.{same_next, same_unknown}
@@ -193,11 +193,11 @@ module _ (problem : Problem) (stood : IsProblem problem) where
   pub grows_none : (old : SearchLists) → IsSearch problem old.configs old.steps → IsFurthest problem old.configs old.steps old.furthest → length old.steps ≤ problem.budget → Grows problem old old
   grows_none old known far few = grows_far old old.furthest known far few (omega arith)
 
-  pub grows_push : (old : SearchLists) (waiting : List Turn) (config : Config) (step : Step) (turn : Turn) → IsSearch problem old.configs old.steps → IsFurthest problem old.configs old.steps old.furthest → length old.steps ≤ problem.budget → (length old.steps ≡ problem.budget → ⊥) → step.parent < length old.steps
+  pub grows_push : (old : SearchLists) (waiting : List RankedConfig) (config : Config) (step : Step) (ranked : RankedConfig) → IsSearch problem old.configs old.steps → IsFurthest problem old.configs old.steps old.furthest → length old.steps ≤ problem.budget → (length old.steps ≡ problem.budget → ⊥) → step.parent < length old.steps
       → LeadsTo problem (order_at old.steps step.parent ++ step.placed) config → config.stage < stages_in problem → config.stage ≤ old.furthest.stage → ((i : ℕ) (found : Config) → slice_get old.configs i ≡ Some found → AreSame config found → ⊥)
-      → turn.at ≡ length old.configs → turns_left turn ≡ 2 → IsWith turn old.waiting waiting
+      → ranked.at ≡ length old.configs → expansions_left ranked ≡ 2 → IsWith ranked old.waiting waiting
       → Grows problem old (record { configs = old.configs ++ config ∷ []; steps = old.steps ++ step ∷ []; waiting = waiting; furthest = old.furthest })
-  grows_push old waiting config step turn known far few room lt stands open'' low none at two with' =
+  grows_push old waiting config step ranked known far few room lt stands open'' low none at two with' =
       let cs = old.configs in
       let ss = old.steps in
       let ws = old.waiting in
@@ -211,14 +211,14 @@ module _ (problem : Problem) (stood : IsProblem problem) where
         kept = λ i c is. get_kept cs config c i is;
         fresh = λ i c is. elim (get_cases cs config c i is) as (λ _. (slice_get cs i ≡ Some c) ⊎ (awaits waiting i ≡ true)) [
           | inl before ↦ inl before
-          | inr new ↦ inr (subst (λ n. awaits waiting n ≡ true) (at ∙ sym new.0) (awaits_own turn ws waiting with'))
+          | inr new ↦ inr (subst (λ n. awaits waiting n ≡ true) (at ∙ sym new.0) (awaits_own ranked ws waiting with'))
         ];
-        waits = λ i h. awaits_kept turn ws waiting with' i h;
-        inside = λ g i h. elim (awaits_cases turn ws waiting with' i h) as (λ _. i < length (ss ++ step ∷ [])) [
+        waits = λ i h. awaits_kept ranked ws waiting with' i h;
+        inside = λ g i h. elim (awaits_cases ranked ws waiting with' i h) as (λ _. i < length (ss ++ step ∷ [])) [
           | inl before ↦ omega (arith, g i before, length_push ss step)
           | inr new ↦ omega (arith, new, at, known.sizes, length_push ss step)
         ];
-        balance = omega (arith, length_push ss step, turns_more turn ws waiting with', two);
+        balance = omega (arith, length_push ss step, expansions_more ranked ws waiting with', two);
       }
 
   pub grows_trans : (old mid new : SearchLists) → Grows problem old mid → Grows problem mid new → Grows problem old new
@@ -239,8 +239,8 @@ module _ (problem : Problem) (stood : IsProblem problem) where
     balance = omega (arith, a.balance, b.balance);
   }
 
-  -- in which order the turns were does not matter
-  pub grows_order : (old new : SearchLists) (waiting : List Turn) → ((i : ℕ) → awaits old.waiting i ≡ awaits waiting i) → turns_in old.waiting ≡ turns_in waiting → Grows problem old new → Grows problem (record old { waiting = waiting }) new
+  -- in which order configurations wait does not matter
+  pub grows_order : (old new : SearchLists) (waiting : List RankedConfig) → ((i : ℕ) → awaits old.waiting i ≡ awaits waiting i) → expansions_in old.waiting ≡ expansions_in waiting → Grows problem old new → Grows problem (record old { waiting = waiting }) new
   grows_order old new waiting same count on = record {
     known = on.known;
     far = on.far;

@@ -7,16 +7,16 @@ use Rattle.std.proofs.lemmas.Map.Steps.{length-le_from_distinct_below}
 use Rattle.jh_linear.specs.declared.register.RegOp.{RegOp}
 use Rattle.jh_linear.specs.declared.history.Problem.{Problem}
 use Rattle.jh_linear.specs.declared.config.Config.{Config}
-use Rattle.jh_linear.specs.declared.queue.Turn.{Turn}
+use Rattle.jh_linear.specs.declared.queue.RankedConfig.{RankedConfig}
 use Rattle.jh_linear.specs.declared.search.Furthest.{Furthest}
 use Rattle.jh_linear.specs.declared.search.Search.{Search}
 use Rattle.jh_linear.specs.declared.verdict.Step.{Step}
 use Rattle.jh_linear.specs.Order.{has, IsDone, IsOrder}
 use Rattle.jh_linear.specs.Reached.{AreReached, order_at, root}
-use Rattle.jh_linear.specs.SearchInside.{CanReach, IsExhausted, IsFull, IsFurthest, IsGoneOn, IsSearchKept, IsProblem, IsSearch, IsTurnTaken, IsWholeOrder, LeadsTo, search_lists, stages_in}
-use Rattle.jh_linear.specs.TurnsInside.{IsWith, awaits, turns_in}
+use Rattle.jh_linear.specs.SearchInside.{CanReach, IsExhausted, IsFull, IsFurthest, IsGoneOn, IsSearchKept, IsProblem, IsSearch, IsExpanded, IsWholeOrder, LeadsTo, search_lists, stages_in}
+use Rattle.jh_linear.specs.WaitingInside.{IsWith, awaits, expansions_in}
 use Rattle.jh_linear.proofs.PlaceSetLemmas.{or_cases, or_left, or_right, place_of}
-use Rattle.jh_linear.proofs.TurnLemmas.{awaits_both, awaits_cases, awaits_kept, awaits_own, turns_both, turns_more}
+use Rattle.jh_linear.proofs.WaitingLemmas.{awaits_both, awaits_cases, awaits_kept, awaits_own, expansions_both, expansions_more}
 use Rattle.jh_linear.proofs.MoveLemmas.{get_cases, nothing_there}
 use Rattle.jh_linear.proofs.PartialLemmas.{distinct, one_last, partial, places, runs}
 use Rattle.jh_linear.proofs.OrderLemmas.{member_is}
@@ -68,9 +68,9 @@ module _ (problem : Problem) (stood : IsProblem problem) where
     most = λ i c is. omega (arith, zero', ap (λ (d : Config). d.stage) (only_one config c i is).1);
   }
 
-  pub kept_start : (search : Search) (config : Config) (turn : Turn) → search.configs.keys ≡ config ∷ [] → search.steps.items ≡ root ∷ [] → turn.at ≡ 0 → IsWith turn [] search.waiting → search.furthest ≡ first_far → 0 < problem.budget → 0 < stages_in problem
+  pub kept_start : (search : Search) (config : Config) (ranked : RankedConfig) → search.configs.keys ≡ config ∷ [] → search.steps.items ≡ root ∷ [] → ranked.at ≡ 0 → IsWith ranked [] search.waiting → search.furthest ≡ first_far → 0 < problem.budget → 0 < stages_in problem
       → LeadsTo problem [] config → config.stage ≡ 0 → config.value ≡ problem.initial → IsSearchKept problem search
-  kept_start search config turn e f at with' h room some stands stage value =
+  kept_start search config ranked e f at with' h room some stands stage value =
       let low : config.stage < stages_in problem = omega (arith, stage, some) in
       record {
         begun = record {
@@ -79,37 +79,37 @@ module _ (problem : Problem) (stood : IsProblem problem) where
           few = omega (arith, ap (λ (ss : List Step). length ss) f, room);
         };
         first = (config, subst (λ (cs : List Config). slice_get cs 0 ≡ Some config) (sym e) refl, value);
-        inside = λ i there. elim (awaits_cases turn [] search.waiting with' i there) as (λ _. i < length search.steps.items) [
+        inside = λ i there. elim (awaits_cases ranked [] search.waiting with' i there) as (λ _. i < length search.steps.items) [
           | inl none ↦ absurd (false≢true none)
           | inr own ↦ omega (arith, own, at, ap (λ (ss : List Step). length ss) f)
         ];
-        gone = λ i c is. inl (subst (λ n. awaits search.waiting n ≡ true) (at ∙ sym (only_one config c i (subst (λ (cs : List Config). slice_get cs i ≡ Some c) e is)).0) (awaits_own turn [] search.waiting with'));
+        gone = λ i c is. inl (subst (λ n. awaits search.waiting n ≡ true) (at ∙ sym (only_one config c i (subst (λ (cs : List Config). slice_get cs i ≡ Some c) e is)).0) (awaits_own ranked [] search.waiting with'));
       }
 
-  -- the search, with these turns to come
-  abbrev pub waiting_for : Search → List Turn → Search
-  waiting_for search turns = record { configs = search.configs; steps = search.steps; waiting = turns; furthest = search.furthest }
+  -- the search, with these configurations that wait
+  abbrev pub waiting_for : Search → List RankedConfig → Search
+  waiting_for search waiting = record { configs = search.configs; steps = search.steps; waiting = waiting; furthest = search.furthest }
 
-  -- a turn was taken from those that are to come
-  module _ (old new : Search) (turn : Turn) (rest : List Turn) (with' : IsWith turn rest old.waiting) (kept : IsSearchKept problem old) (taken : IsTurnTaken problem (waiting_for old rest) new turn) where
-    -- what was to have a turn has one, or has had it
+  -- a configuration was taken from those that wait, and expanded
+  module _ (old new : Search) (ranked : RankedConfig) (rest : List RankedConfig) (with' : IsWith ranked rest old.waiting) (kept : IsSearchKept problem old) (taken : IsExpanded problem (waiting_for old rest) new ranked) where
+    -- what waited still waits, or was expanded
     still_waits : (i : ℕ) → awaits rest i ≡ true → awaits new.waiting i ≡ true
     still_waits i h = taken.on.waits i (awaits_both taken.again rest i ∙ or_right (awaits taken.again i) (awaits rest i) h)
 
-    again_waits : awaits taken.again turn.at ≡ true → awaits new.waiting turn.at ≡ true
-    again_waits h = taken.on.waits turn.at (awaits_both taken.again rest turn.at ∙ or_left (awaits taken.again turn.at) (awaits rest turn.at) h)
+    again_waits : awaits taken.again ranked.at ≡ true → awaits new.waiting ranked.at ≡ true
+    again_waits h = taken.on.waits ranked.at (awaits_both taken.again rest ranked.at ∙ or_left (awaits taken.again ranked.at) (awaits rest ranked.at) h)
 
     left_inside : (i : ℕ) → awaits (taken.again ++ rest) i ≡ true → i < length old.steps.items
     left_inside i h = elim (or_cases (awaits taken.again i) (awaits rest i) (sym (awaits_both taken.again rest i) ∙ h)) as (λ _. i < length old.steps.items) [
-      | inl own ↦ omega (arith, taken.own i own, kept.inside turn.at (awaits_own turn rest old.waiting with'))
-      | inr other ↦ kept.inside i (awaits_kept turn rest old.waiting with' i other)
+      | inl own ↦ omega (arith, taken.own i own, kept.inside ranked.at (awaits_own ranked rest old.waiting with'))
+      | inr other ↦ kept.inside i (awaits_kept ranked rest old.waiting with' i other)
     ]
 
     abbrev Done : ℕ → Config → Type 0
     Done i c = (awaits new.waiting i ≡ true) ⊎ IsGoneOn problem new.configs.keys new.steps.items new.furthest.stage (order_at new.steps.items i) c.value
 
-    turn_done : (c : Config) → slice_get old.configs.keys turn.at ≡ Some c → order_at new.steps.items turn.at ≡ order_at old.steps.items turn.at → Done turn.at c
-    turn_done c is same = elim taken.gone as (λ _. Done turn.at c) [
+    expanded_done : (c : Config) → slice_get old.configs.keys ranked.at ≡ Some c → order_at new.steps.items ranked.at ≡ order_at old.steps.items ranked.at → Done ranked.at c
+    expanded_done c is same = elim taken.gone as (λ _. Done ranked.at c) [
       | inl once ↦ inl (again_waits once)
       | inr went ↦ inr (subst (λ o. IsGoneOn problem new.configs.keys new.steps.items new.furthest.stage o c.value) (sym same) (went c is))
     ]
@@ -118,9 +118,9 @@ module _ (problem : Problem) (stood : IsProblem problem) where
     old_done i c is =
         let same : order_at new.steps.items i ≡ order_at old.steps.items i = taken.on.orders i (below problem stood old.configs.keys old.steps.items kept.begun.known i c is) in
         elim (kept.gone i c is) as (λ _. Done i c) [
-          | inl waited ↦ elim (awaits_cases turn rest old.waiting with' i waited) as (λ _. Done i c) [
+          | inl waited ↦ elim (awaits_cases ranked rest old.waiting with' i waited) as (λ _. Done i c) [
             | inl still ↦ inl (still_waits i still)
-            | inr here ↦ subst (λ n. slice_get old.configs.keys n ≡ Some c → order_at new.steps.items n ≡ order_at old.steps.items n → Done n c) here (turn_done c) is same
+            | inr here ↦ subst (λ n. slice_get old.configs.keys n ≡ Some c → order_at new.steps.items n ≡ order_at old.steps.items n → Done n c) here (expanded_done c) is same
           ]
           | inr went ↦ inr (subst (λ o. IsGoneOn problem new.configs.keys new.steps.items new.furthest.stage o c.value) (sym same) (λ n past few reach.
               leads_more problem stood (record (search_lists old) { waiting = taken.again ++ rest }) (search_lists new) (length (order_at old.steps.items i)) n kept.begun.known taken.on
@@ -135,12 +135,12 @@ module _ (problem : Problem) (stood : IsProblem problem) where
       gone = λ i c there. elim (taken.on.fresh i c there) as (λ _. Done i c) [ inl before ↦ old_done i c before | inr waits ↦ inl waits ];
     }
 
-    -- fewer turns are left, with those of what may be entered yet
-    pub fewer_turns : 2 * (problem.budget - length new.steps.items) + turns_in new.waiting < 2 * (problem.budget - length old.steps.items) + turns_in old.waiting
-    fewer_turns = omega (arith, taken.on.balance, taken.on.few, taken.on.longer, taken.fewer, turns_both taken.again rest, turns_more turn rest old.waiting with')
+    -- fewer expansions are left, with those of the configurations that may still be entered
+    pub fewer_expansions : 2 * (problem.budget - length new.steps.items) + expansions_in new.waiting < 2 * (problem.budget - length old.steps.items) + expansions_in old.waiting
+    fewer_expansions = omega (arith, taken.on.balance, taken.on.few, taken.on.longer, taken.fewer, expansions_both taken.again rest, expansions_more ranked rest old.waiting with')
 
   -- nothing waits, as before
-  pub kept_emptied : (old : Search) (left : List Turn) → old.waiting ≡ [] → left ≡ [] → IsSearchKept problem old → IsExhausted problem (waiting_for old left)
+  pub kept_emptied : (old : Search) (left : List RankedConfig) → old.waiting ≡ [] → left ≡ [] → IsSearchKept problem old → IsExhausted problem (waiting_for old left)
   kept_emptied old left none none' kept = (
     record {
       begun = record { known = kept.begun.known; far = kept.begun.far; few = kept.begun.few };

@@ -8,12 +8,12 @@ pub mod MoveLemmas
 pub mod WalkLemmas
 pub mod SameConfigLemmas
 pub mod StepLemmas
-pub mod TurnLemmas
+pub mod WaitingLemmas
 pub mod PartialLemmas
 pub mod OrderLemmas
 pub mod EntryLemmas
 pub mod HistoryLemmas
-pub mod CallLemmas
+pub mod OperationLemmas
 pub mod GrowthLemmas
 pub mod GoingOnLemmas
 pub mod JudgeLemmas

@@ -1,5 +1,5 @@
--- What the parts of checking an order, and of looking for a bad value, go by: proofs rest on it,
--- and no public clause names it.
+-- What the functions that check an order, or look for a bad value, compute: proofs rest on it, and
+-- no public clause names it.
 -- This project's own.
 use Rattle.std.specs.Prelude.{ℕ, zero, suc, ◌<◌, min, Bool, true, false, if◌then◌else◌, Option}
 use Rattle.std.specs.Prelude.{Some, None, List, [], ◌∷◌, length, slice_index_or}
@@ -8,21 +8,23 @@ use Rattle.jh_linear.specs.declared.register.Outcome.TheVariants.{Done, Failed, 
 use Rattle.jh_linear.specs.declared.register.RegOp.{RegOp}
 use Rattle.jh_linear.specs.Order.{op_at, Precedes}
 
--- None stands behind one that was invoked after its end.
+-- No operation stands behind one that was invoked after its end.
 abbrev pub IsNoneLate : List RegOp → List ℕ → Type 0
 IsNoneLate ops order =
     (i j : ℕ) → i < j → j < length order
     → Precedes ops (slice_index_or order j 0) (slice_index_or order i 0) → ⊥
 
+-- whether this outcome is that of an operation that is known to have happened
 abbrev pub is_outcome_done : Outcome → Bool
 is_outcome_done Done = true
 is_outcome_done Failed = false
 is_outcome_done Unsure = false
 
+-- whether the operation at a place is known to have happened
 abbrev pub is_op_done : List RegOp → ℕ → Bool
 is_op_done ops place = is_outcome_done (op_at ops place).outcome
 
--- the places below a bound of what happened
+-- the places, below a bound, of the operations that are known to have happened
 abbrev pub done_places_below : List RegOp → ℕ → List ℕ
 done_places_below ops zero = []
 done_places_below ops (suc n) =

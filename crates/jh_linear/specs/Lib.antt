@@ -1,10 +1,10 @@
-pub mod Calls
 pub mod CheckingInside
+pub mod Operations
 pub mod Order
 pub mod Reached
 pub mod SearchInside
 pub mod Stuck
 pub mod StuckInside
-pub mod TurnsInside
 pub mod Verdict
+pub mod WaitingInside
 pub mod WantedInside

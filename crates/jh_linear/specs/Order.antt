@@ -1,6 +1,7 @@
--- The orders in which the operations of a register can have happened: linearizations, as Jepsen's
--- page on its checkers means them (`linearizable`), on the model `cas-register`, where a read of
--- nil matches any value. Operations go by their places in a list, from 0.
+-- The orders in which the operations of a register can have happened: linearizations (Herlihy and
+-- Wing 1990), as Jepsen's page on its checkers means them (`linearizable`), on the model
+-- `cas-register`, where a read of nil matches any value. An operation is named by its place in a
+-- list of operations, from 0.
 use Rattle.std.specs.Prelude.{◌≡◌, ◌≢◌, ◌==◌, ◌⊎◌, ℕ, ◌<◌, ℤ, Bool, true, Option, Some, None, List}
 use Rattle.std.specs.Prelude.{[], ◌∷◌, length, slice_index_or}
 use Rattle.std.specs.List.{list_any, All, IsDistinct}
@@ -9,17 +10,18 @@ use Rattle.jh_linear.specs.declared.register.RegCall.{RegCall}
 use Rattle.jh_linear.specs.declared.register.RegCall.TheVariants.{Read, Write, Cas}
 use Rattle.jh_linear.specs.declared.register.RegOp.{RegOp}
 
--- The register: from one value a call may lead to the next one.
+-- How the register behaves: from one value a call may lead to the next one.
 abbrev pub Allows : RegCall → Option ℤ → Option ℤ → Type 0
 Allows (Read None) value next = next ≡ value
 Allows (Read (Some seen)) value next = (value ≡ Some seen) × (next ≡ value)
 Allows (Write new) value next = next ≡ Some new
 Allows (Cas old new) value next = (value ≡ Some old) × (next ≡ Some new)
 
--- the operation at a place; past the end of the list, one that failed
+-- what stands past the end of a list of operations: one that failed
 abbrev pub no_op : RegOp
 no_op = record { invoked = 0; ended = None; outcome = Failed; call = Read None }
 
+-- the operation at a place
 abbrev pub op_at : List RegOp → ℕ → RegOp
 op_at ops place = slice_index_or ops place no_op
 
@@ -31,11 +33,12 @@ IsPossible ops place = (op_at ops place).outcome ≢ Failed
 abbrev pub IsDone : List RegOp → ℕ → Type 0
 IsDone ops place = (op_at ops place).outcome ≡ Done
 
+-- There is an end, and it is before this place of the history.
 abbrev pub EndsBefore : Option ℕ → ℕ → Type 0
 EndsBefore None at = ⊥
 EndsBefore (Some end) at = end < at
 
--- the first operation happened, and ended before the second was invoked
+-- the first operation is known to have happened, and ended before the second was invoked
 abbrev pub Precedes : List RegOp → ℕ → ℕ → Type 0
 Precedes ops first second =
     IsDone ops first × EndsBefore (op_at ops first).ended (op_at ops second).invoked
@@ -50,36 +53,36 @@ StandBefore [] first second = ⊥
 StandBefore (x ∷ order) first second =
     ((x ≡ first) × (has order second ≡ true)) ⊎ StandBefore order first second
 
--- each place is that of an operation
+-- each place of the order is that of an operation
 abbrev pub AreThere : List RegOp → List ℕ → Type 0
 AreThere ops order = All (λ place. place < length ops) order
 
--- no place stands there twice
+-- no place stands in the order twice
 abbrev pub HasNoneTwice : List ℕ → Type 0
 HasNoneTwice order = IsDistinct ◌==◌ order
 
--- no operation failed
+-- no operation of the order failed
 abbrev pub ArePossible : List RegOp → List ℕ → Type 0
 ArePossible ops order = All (IsPossible ops) order
 
--- all that happened is there
+-- each operation that is known to have happened stands in the order
 abbrev pub HasAllDone : List RegOp → List ℕ → Type 0
 HasAllDone ops order = (place : ℕ) → IsDone ops place → has order place ≡ true
 
--- What happened and ended before another was invoked stands before that one, where that one is
--- there.
+-- Where an operation stands in the order, each one that is known to have happened and ended before
+-- that one was invoked stands before it.
 abbrev pub KeepsPrecedence : List RegOp → List ℕ → Type 0
 KeepsPrecedence ops order =
     (first second : ℕ) → Precedes ops first second → has order second ≡ true
     → StandBefore order first second
 
--- The calls at these places, one after another, lead from the first value to the last.
+-- The operations at these places, one after another, lead the register from one value to another.
 abbrev pub IsLegalFrom : List RegOp → Option ℤ → List ℕ → Option ℤ → Type 0
 IsLegalFrom ops value [] last = last ≡ value
 IsLegalFrom ops value (place ∷ order) last =
     (next : Option ℤ) × Allows (op_at ops place).call value next × IsLegalFrom ops next order last
 
--- Some operations in an order in which they can have happened, which leads to this value.
+-- An order in which some of the operations can have happened, and which leads to this value.
 pub record IsPartialOrder (ops : List RegOp) (initial : Option ℤ) (order : List ℕ)
     (last : Option ℤ) : Type 0 where
   pub places : AreThere ops order
@@ -88,7 +91,8 @@ pub record IsPartialOrder (ops : List RegOp) (initial : Option ℤ) (order : Lis
   pub precedence : KeepsPrecedence ops order
   pub runs : IsLegalFrom ops initial order last
 
--- An order in which all that is known to have happened can have happened.
+-- An order in which all operations that are known to have happened can have happened, maybe with
+-- some of unknown outcome: a linearization.
 pub record IsOrder (ops : List RegOp) (initial : Option ℤ) (order : List ℕ) : Type 0 where
   pub last : Option ℤ
   pub partial : IsPartialOrder ops initial order last

@@ -1,26 +1,28 @@
--- What the judge hands over where its budget was used up: steps, each of which stands for some
--- operations in an order in which they can have happened. All of it is this project's own; what an
--- order is stands in Order.antt.
+-- What the checker gives where its budget was used up: steps, each of which stands for an order in
+-- which some of the operations can have happened. All of it is this project's own; what an order is
+-- stands in Order.antt.
 use Rattle.std.specs.Prelude.{◌≡◌, ◌<◌, ℕ, ℤ, Option, List, [], ◌∷◌, ◌++◌, length, slice_index_or}
 use Rattle.jh_linear.specs.declared.register.RegOp.{RegOp}
 use Rattle.jh_linear.specs.declared.verdict.Step.{Step}
 use Rattle.jh_linear.specs.Order.{IsPartialOrder, has}
 
--- Steps stand for orders, one for each: that of the earlier step that it names, with its own places
--- behind it.
+-- The orders that steps stand for, behind those of earlier steps that are known. That of a step is
+-- the order of the earlier step that it names, with its own places behind.
 abbrev pub orders_from : List (List ℕ) → List Step → List (List ℕ)
 orders_from known [] = known
 orders_from known (step ∷ steps) =
     orders_from (known ++ (slice_index_or known step.parent [] ++ step.placed) ∷ []) steps
 
--- the first step stands for the empty order
+-- The orders that all steps stand for. That of the first step is empty.
 abbrev pub orders_of : List Step → List (List ℕ)
 orders_of [] = []
 orders_of (first ∷ steps) = orders_from ([] ∷ []) steps
 
+-- the order that the step at an index stands for
 abbrev pub order_at : List Step → ℕ → List ℕ
 order_at steps i = slice_index_or (orders_of steps) i []
 
+-- the first step of all, which stands for the empty order
 abbrev pub root : Step
 root = record { parent = 0; placed = [] }
 
@@ -28,8 +30,8 @@ root = record { parent = 0; placed = [] }
 abbrev pub NameEarlier : List Step → Type 0
 NameEarlier steps = (i : ℕ) → 0 < i → i < length steps → (slice_index_or steps i root).parent < i
 
--- As many steps as the budget, which stand for partial orders, no two of them with the same places
--- and last value.
+-- There are as many steps as the budget. They stand for partial orders, no two of which have the
+-- same places and the same last value.
 pub record AreReached (ops : List RegOp) (initial : Option ℤ) (budget : ℕ)
     (steps : List Step) : Type 0 where
   pub count : length steps ≡ budget

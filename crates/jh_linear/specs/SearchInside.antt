@@ -1,5 +1,5 @@
--- What the search for an order keeps: proofs rest on it, and no public clause names it.
--- This project's own.
+-- What the search for a linearization keeps: proofs rest on it, and no public clause names it.
+-- This project's own. The head of src/judge.rt describes the search.
 use Rattle.std.specs.Prelude.{◌⊎◌, ◌≡◌, ◌==◌, ℕ, ◌+◌, ◌*◌, ◌<◌, ◌≤◌, ℤ, Bool, true, false, not}
 use Rattle.std.specs.Prelude.{Option, Some, None, List, [], ◌∷◌, ◌++◌, length, take, drop, ◌-◌}
 use Rattle.std.specs.Prelude.{slice_index_or, slice_get, nat_lt}
@@ -24,26 +24,26 @@ use Rattle.jh_linear.specs.declared.search.Furthest.{Furthest}
 use Rattle.jh_linear.specs.declared.walk.WalkEnd.{WalkEnd}
 use Rattle.jh_linear.specs.declared.walk.WalkEnd.TheVariants.{Several, Stuck, Complete}
 use Rattle.jh_linear.specs.declared.verdict.Step.{Step}
-use Rattle.jh_linear.specs.declared.judge.Progress.{Progress}
-use Rattle.jh_linear.specs.declared.queue.Turn.{Turn}
-use Rattle.jh_linear.specs.declared.judge.Progress.TheVariants.{More, Complete as Whole}
-use Rattle.jh_linear.specs.declared.judge.Progress.TheVariants.{Full as NoRoom}
+use Rattle.jh_linear.specs.declared.judge.ExpansionEnd.{ExpansionEnd}
+use Rattle.jh_linear.specs.declared.queue.RankedConfig.{RankedConfig}
+use Rattle.jh_linear.specs.declared.judge.ExpansionEnd.TheVariants.{More, Complete as Whole}
+use Rattle.jh_linear.specs.declared.judge.ExpansionEnd.TheVariants.{Full as NoRoom}
 use Rattle.jh_linear.specs.Order.{op_at, HasAllDone, IsPossible, IsDone, Precedes, has, Allows}
 use Rattle.jh_linear.specs.Order.{EndAfterInvoked}
 use Rattle.jh_linear.specs.Reached.{order_at, root, NameEarlier}
-use Rattle.jh_linear.specs.TurnsInside.{IsWith, awaits, turns_in, turns_left}
+use Rattle.jh_linear.specs.WaitingInside.{IsWith, awaits, expansions_in, expansions_left}
 
 -- ---- orders, place by place
 
--- The place may come next after those in front.
+-- The operation at a place may come next behind an order.
 pub record MayComeNext (ops : List RegOp) (front : List ℕ) (place : ℕ) : Type 0 where
   pub there : place < length ops
   pub possible : IsPossible ops place
   pub fresh : has front place ≡ false
   pub ready : (first : ℕ) → Precedes ops first place → has front first ≡ true
 
--- Each place of an order may come next after those before it, and the calls lead from the value to
--- the last.
+-- Behind those in front, each operation of an order may come next when those before it have come,
+-- and they lead the register from one value to the last.
 abbrev pub GoesOnWith : List RegOp → List ℕ → Option ℤ → List ℕ → Option ℤ → Type 0
 GoesOnWith ops front value [] last = last ≡ value
 GoesOnWith ops front value (place ∷ order) last =
@@ -53,7 +53,8 @@ GoesOnWith ops front value (place ∷ order) last =
 
 -- ---- what is placed
 
--- What is tried though it is not known to have happened: no read, since an order holds without it.
+-- Whether an operation is tried though it is not known to have happened. A read is not, since an
+-- order that has it is still an order when it is left out.
 abbrev pub is_unsure_change : Outcome → RegCall → Bool
 is_unsure_change Failed call = false
 is_unsure_change Done call = false
@@ -64,15 +65,16 @@ is_unsure_change Unsure (Cas old new) = true
 abbrev pub IsUnsureChange : List RegOp → ℕ → Type 0
 IsUnsureChange ops place = is_unsure_change (op_at ops place).outcome (op_at ops place).call ≡ true
 
--- the call leaves the value as it is
+-- Where the call is allowed, it leaves the value as it is.
 abbrev pub LeavesValue : RegCall → Type 0
 LeavesValue call = (value next : Option ℤ) → Allows call value next → next ≡ value
 
--- It happened, leaves the value, and may come now.
+-- An operation is known to have happened, leaves the value as it is, and the value allows it: it
+-- can be placed at once and alone.
 abbrev pub IsSettled : RegOp → Option ℤ → Type 0
 IsSettled op value = (op.outcome ≡ Done) × LeavesValue op.call × Allows op.call value value
 
--- the call finds this value, and no other would do
+-- The register must have this value for the call.
 abbrev pub Needs : RegCall → Option ℤ → Type 0
 Needs (Read None) value = ⊥
 Needs (Read (Some seen)) value = value ≡ Some seen
@@ -81,6 +83,7 @@ Needs (Cas old new) value = value ≡ Some old
 
 -- ---- the history, sorted
 
+-- where an operation was invoked
 abbrev pub invocation_at : List RegOp → ℕ → ℕ
 invocation_at ops place = (op_at ops place).invoked
 
@@ -88,17 +91,19 @@ invocation_at ops place = (op_at ops place).invoked
 abbrev pub end_at : List RegOp → ℕ → ℕ
 end_at ops place = unwrap_or (op_at ops place).ended (2 ^ 64 - 1)
 
+-- what stands past the end of a list of stages
 abbrev pub no_stage : Stage
 no_stage = record { place = 0; arrived = 0 }
 
 abbrev pub stage_at : List Stage → ℕ → Stage
 stage_at stages k = slice_index_or stages k no_stage
 
--- what was invoked before the end of a stage
+-- the operations that are known to have happened and were invoked before the end of a stage
 abbrev pub arrivals_by : List ℕ → List Stage → ℕ → List ℕ
 arrivals_by arrivals stages k = take (stage_at stages k).arrived arrivals
 
--- What happened, in the order of invocation, and once more in the order of the ends.
+-- The operations that are known to have happened, in the order of their invocations (`arrivals`),
+-- and once more in the order of their ends (`stages`).
 pub record IsHistory (ops : List RegOp) (arrivals : List ℕ) (stages : List Stage) : Type 0 where
   pub distinct : IsDistinct ◌==◌ arrivals
   pub happened : All (IsDone ops) arrivals
@@ -120,22 +125,24 @@ pub record IsHistory (ops : List RegOp) (arrivals : List ℕ) (stages : List Sta
       → (Precedes ops (stage_at stages k).place place → ⊥)
       → has (arrivals_by arrivals stages k) place ≡ true
 
--- the same call, and the first is not invoked after the second
+-- Two operations have the same call, and the first is not invoked after the second.
 abbrev pub AreTwins : List RegOp → ℕ → ℕ → Type 0
 AreTwins ops first second =
     ((op_at ops first).call ≡ (op_at ops second).call)
     × (invocation_at ops first ≤ invocation_at ops second)
 
+-- what stands past the end of a list of classes
 abbrev pub no_class : Class
 no_class = record { from = 0; upto = 0 }
 
 abbrev pub class_at : List Class → ℕ → Class
 class_at classes k = slice_index_or classes k no_class
 
--- the operation of unknown outcome at an index is of the class
+-- The operation of unknown outcome at an index is of this class.
 abbrev pub IsOfClass : List Class → ℕ → ℕ → Type 0
 IsOfClass classes k j = ((class_at classes k).from ≤ j) × (j < (class_at classes k).upto)
 
+-- the place of the operation of unknown outcome at an index
 abbrev pub unknown_place : List ℕ → ℕ → ℕ
 unknown_place unknown j = slice_index_or unknown j 0
 
@@ -155,7 +162,7 @@ pub record AreClasses (ops : List RegOp) (unknown : List ℕ) (classes : List Cl
   pub twins : (k i j : ℕ) → k < length classes → IsOfClass classes k i → IsOfClass classes k j
       → i ≤ j → AreTwins ops (unknown_place unknown i) (unknown_place unknown j)
 
--- What a search stands on.
+-- What a search takes for granted: operations end after their invocations, and are sorted rightly.
 pub record IsProblem (problem : Problem) : Type 0 where
   pub ends : EndAfterInvoked problem.ops.now
   pub history : IsHistory problem.ops.now problem.history.arrivals.items
@@ -173,12 +180,12 @@ stage_place problem k = (stage_at problem.history.stages.items k).place
 
 -- ---- configurations
 
--- those of the places that an order lacks
+-- those of some places that do not stand in an order
 abbrev pub places_without : List ℕ → List ℕ → List ℕ
 places_without order places = filter (λ place. not (has order place)) places
 
--- The stage, what happened and is pending there, and what is known of the order, where a stage is
--- not passed yet.
+-- The stage at which an order is, and which operations are pending there: those that are known to
+-- have happened, were invoked before the end of the stage, and do not stand in the order.
 pub record IsAt (arrivals : List ℕ) (stages : List Stage) (order : List ℕ) (stage : ℕ)
     (pending : List ℕ) : Type 0 where
   pub passed : (k : ℕ) → k < stage → has order (stage_at stages k).place ≡ true
@@ -187,10 +194,11 @@ pub record IsAt (arrivals : List ℕ) (stages : List Stage) (order : List ℕ) (
   pub arrived : stage < length stages → (place : ℕ) → has order place ≡ true
       → has arrivals place ≡ true → has (arrivals_by arrivals stages stage) place ≡ true
 
+-- the index of the next operation of a class
 abbrev pub next_at : List ℕ → ℕ → ℕ
 next_at next k = slice_index_or next k 0
 
--- Of each class the ones before its next are placed, and no others.
+-- Of each class the operations before its next are placed, and no others.
 pub record AreNext (unknown : List ℕ) (classes : List Class) (order : List ℕ)
     (next : List ℕ) : Type 0 where
   pub sizes : length next ≡ length classes
@@ -199,7 +207,8 @@ pub record AreNext (unknown : List ℕ) (classes : List Class) (order : List ℕ
   pub placed : (k j : ℕ) → k < length classes → IsOfClass classes k j
       → has order (unknown_place unknown j) ≡ nat_lt j (next_at next k)
 
--- A configuration stands for an order, which leads to its value.
+-- A configuration stands for an order: that leads to its value, and has the operations that the
+-- configuration says to be placed.
 pub record LeadsTo (problem : Problem) (order : List ℕ) (config : Config) : Type 0 where
   pub follows : GoesOnWith problem.ops.now [] problem.initial order config.value
   pub searched : (place : ℕ) → has order place ≡ true → IsDone problem.ops.now place
@@ -212,25 +221,25 @@ pub record LeadsTo (problem : Problem) (order : List ℕ) (config : Config) : Ty
   pub waits : config.stage < stages_in problem
       → has order (stage_place problem config.stage) ≡ false
 
--- the same stage, the same places pending and next, and the same value
+-- Two configurations have the same stage, the same places pending and next, and the same value.
 abbrev pub AreSame : Config → Config → Type 0
 AreSame a b =
     (a.stage ≡ b.stage) × (a.pending.items ≡ b.pending.items) × (a.next.items ≡ b.next.items)
     × (a.value ≡ b.value)
 
--- An order with this value can be gone on to one that passes so many stages.
+-- An order that leads to this value can be continued to one that passes so many stages.
 abbrev pub CanReach : Problem → ℕ → List ℕ → Option ℤ → Type 0
 CanReach problem stages order value =
     (back : List ℕ) × (last : Option ℤ) × GoesOnWith problem.ops.now order value back last
     × ((k : ℕ) → k < stages → has (order ++ back) (stage_place problem k) ≡ true)
 
--- What one order can be gone on to, another can, as far as it is past a stage.
+-- If one order can be continued past this stage, to some number of stages, so can another one.
 abbrev pub Carries : Problem → ℕ → List ℕ → Option ℤ → List ℕ → Option ℤ → Type 0
 Carries problem stage order value order' value' =
     (stages : ℕ) → stage < stages → stages ≤ stages_in problem → CanReach problem stages order value
     → CanReach problem stages order' value'
 
--- An order can't be gone on to one that passes the stage.
+-- An order can't be continued to one that passes the stage.
 abbrev pub IsDead : Problem → ℕ → List ℕ → Option ℤ → Type 0
 IsDead problem stage order value =
     (stages : ℕ) → stage < stages → stages ≤ stages_in problem → CanReach problem stages order value
@@ -238,25 +247,27 @@ IsDead problem stage order value =
 
 -- ---- moves
 
--- what a move places
+-- the place of the operation that a move places
 abbrev pub source_place : Problem → Config → Source → ℕ
 source_place problem config (Happened index) = slice_index_or config.pending.items index 0
 source_place problem config (Unknown k) =
     unknown_place problem.history.unknown.items (next_at config.next.items k)
 
+-- that operation
 abbrev pub op_of : Problem → Config → Source → RegOp
 op_of problem config source = op_at problem.ops.now (source_place problem config source)
 
+-- its call
 abbrev pub source_call : Problem → Config → Source → RegCall
 source_call problem config source = (op_of problem config source).call
 
--- the class has one that is not placed
+-- The class has an operation that is not placed.
 abbrev pub IsLeft : Problem → Config → ℕ → Type 0
 IsLeft problem config k =
     (k < length problem.history.classes.items)
     × (next_at config.next.items k < (class_at problem.history.classes.items k).upto)
 
--- the operation is there, and invoked before the end of the stage
+-- There is such an operation, which is not placed and was invoked before the end of the stage.
 abbrev pub CanBePlaced : Problem → Config → Source → Type 0
 CanBePlaced problem config (Happened index) = index < length config.pending.items
 CanBePlaced problem config (Unknown k) =
@@ -264,60 +275,64 @@ CanBePlaced problem config (Unknown k) =
     × (invocation_at problem.ops.now (source_place problem config (Unknown k))
     ≤ end_at problem.ops.now (stage_place problem config.stage))
 
--- a move that the value allows, with the value that it leads to
+-- A move can be made: its operation can be placed, and leads from the value to that of the move.
 abbrev pub IsMove : Problem → Config → Move → Type 0
 IsMove problem config move =
     CanBePlaced problem config move.source
     × Allows (source_call problem config move.source) config.value move.value
 
--- the class has one that is not placed and may come before the stage's operation
+-- The class has an operation that is not placed, and the next of them may come before the operation
+-- of the stage.
 abbrev pub IsReady : Problem → Config → ℕ → Type 0
 IsReady problem config k =
     IsLeft problem config k
     × (Precedes problem.ops.now (stage_place problem config.stage)
     (source_place problem config (Unknown k)) → ⊥)
 
--- something that may come next finds this value, and no other would do
+-- Some operation that may come next needs the register to have this value.
 abbrev pub IsWanted : Problem → Config → Option ℤ → Type 0
 IsWanted problem config value =
     ((index : ℕ) × (index < length config.pending.items)
     × Needs (source_call problem config (Happened index)) value)
     ⊎ ((k : ℕ) × IsReady problem config k × Needs (source_call problem config (Unknown k)) value)
 
--- a move with this source and value
+-- There is a move with this source and value.
 abbrev pub IsAmong : List Move → Source → Option ℤ → Type 0
 IsAmong moves source value =
     (i : ℕ) × (move : Move) × (slice_get moves i ≡ Some move) × (move.source ≡ source)
     × (move.value ≡ value)
 
--- each operation below an index that happened, is pending and may come next, is among the moves
+-- Each pending operation below an index is among the moves, where the value allows it.
 abbrev pub HasHappened : Problem → Config → List Move → ℕ → Type 0
 HasHappened problem config moves bound =
     (index : ℕ) (next : Option ℤ) → index < bound
     → Allows (source_call problem config (Happened index)) config.value next
     → IsAmong moves (Happened index) next
 
--- the first one left of each class below a bound is among the moves where its value is wanted
+-- The next operation of each class below a bound is among the moves, where it may come next and
+-- leads to a value that is wanted.
 abbrev pub HasUnknown : Problem → Config → List Move → ℕ → Type 0
 HasUnknown problem config moves bound =
     (k : ℕ) (next : Option ℤ) → k < bound → IsReady problem config k
     → Allows (source_call problem config (Unknown k)) config.value next
     → IsWanted problem config next → IsAmong moves (Unknown k) next
 
--- nothing that happened and is pending below an index is a read of any value
+-- No pending operation below an index is a read of any value.
 abbrev pub IsNoneSettled : Problem → Config → ℕ → Type 0
 IsNoneSettled problem config bound =
     (index : ℕ) → index < bound
     → IsDone problem.ops.now (source_place problem config (Happened index))
     → source_call problem config (Happened index) ≡ Read None → ⊥
 
--- it is pending, and can be placed at once and alone
+-- The pending operation at an index can be placed at once and alone.
 abbrev pub IsSettledAt : Problem → Config → ℕ → Type 0
 IsSettledAt problem config index =
     (index < length config.pending.items)
     × IsSettled (op_of problem config (Happened index)) config.value
 
--- one operation that can be placed at once and alone, or all that may lead on
+-- The moves are enough for no order to be lost: one of them places an operation that can be placed
+-- at once and alone, or they have all pending operations, and the next of each class that is
+-- wanted.
 abbrev pub AreEnough : Problem → Config → List Move → Type 0
 AreEnough problem config moves =
     ((index : ℕ) × IsSettledAt problem config index × IsAmong moves (Happened index) config.value)
@@ -325,36 +340,39 @@ AreEnough problem config moves =
     × HasUnknown problem config moves (length problem.history.classes.items)
     × IsNoneSettled problem config (length config.pending.items))
 
+-- Each of the moves can be made.
 abbrev pub EachIsMove : Problem → Config → List Move → Type 0
 EachIsMove problem config moves =
     (i : ℕ) (move : Move) → slice_get moves i ≡ Some move → IsMove problem config move
 
--- More moves, all of them moves where the others were.
+-- There are more moves than before, and all can be made if those before could.
 pub record MovesMore (problem : Problem) (config : Config) (old new : List Move) : Type 0 where
   pub each : EachIsMove problem config old → EachIsMove problem config new
   pub kept : (source : Source) (value : Option ℤ) → IsAmong old source value
       → IsAmong new source value
 
--- the ways to go on from a configuration
+-- the moves from a configuration: each can be made, and they are enough
 pub record AreMoves (problem : Problem) (config : Config) (moves : List Move) : Type 0 where
   pub each : EachIsMove problem config moves
   pub enough : AreEnough problem config moves
 
 -- ---- one step, and a walk
 
--- the stages' ends come one after another
+-- The ends of the stages come one after another, so that more and more operations are invoked
+-- before them.
 pub record AreRising (arrivals : List ℕ) (stages : List Stage) : Type 0 where
   pub bounded : (k : ℕ) → k < length stages → (stage_at stages k).arrived ≤ length arrivals
   pub rises : (k : ℕ) → k + 1 < length stages
       → (stage_at stages k).arrived ≤ (stage_at stages (k + 1)).arrived
 
--- what was invoked after the end of a stage, and before that of the next
+-- the operations that were invoked after the end of a stage, and before that of the next
 abbrev pub arrivals_after : List ℕ → List Stage → ℕ → List ℕ
 arrivals_after arrivals stages stage =
     take ((stage_at stages (stage + 1)).arrived - (stage_at stages stage).arrived)
     (drop (stage_at stages stage).arrived arrivals)
 
--- What is known of an order at one stage is known of it at a later one, which it does not pass.
+-- From one stage an order comes to a later one, which it does not pass, with these operations
+-- pending there.
 pub record PassesStages (problem : Problem) (stage : ℕ) (pending : List ℕ) (later : ℕ)
     (left : List ℕ) : Type 0 where
   pub rises : stage ≤ later
@@ -374,14 +392,14 @@ pub record IsAfter (problem : Problem) (config : Config) (place : ℕ) (value : 
   pub stands : (order : List ℕ) → LeadsTo problem order config
       → LeadsTo problem (order ++ place ∷ []) config'
 
--- a move was made, and its operation put behind those that were placed
+-- A move was made, and its operation appended to those that were placed.
 pub record IsMadeBy (problem : Problem) (config : Config) (placed : List ℕ) (move : Move)
     (config' : Config) (placed' : List ℕ) : Type 0 where
   pub after : IsAfter problem config (source_place problem config move.source) move.value config'
   pub placed_is : placed' ≡ placed ++ source_place problem config move.source ∷ []
 
--- A configuration stands for every order that the other one stands for, with more places, and no
--- order is lost.
+-- A walk led from one configuration to another: that stands for every order that the first one
+-- stands for, with the operations behind that were placed, and no order is lost.
 pub record HasGone (problem : Problem) (config : Config) (placed : List ℕ) (config' : Config)
     (placed' : List ℕ) : Type 0 where
   pub rises : config.stage ≤ config'.stage
@@ -393,7 +411,7 @@ pub record HasGone (problem : Problem) (config : Config) (placed : List ℕ) (co
       → Carries problem config'.stage (front ++ placed) config.value
       (front ++ placed') config'.value
 
--- where a walk ends
+-- what is known where a walk ends
 abbrev pub EndsAs : Problem → Config → List ℕ → WalkEnd → Type 0
 EndsAs problem config placed Several = config.stage < stages_in problem
 EndsAs problem config placed Stuck =
@@ -418,7 +436,7 @@ pub record IsSearch (problem : Problem) (configs : List Config) (steps : List St
   pub apart : (i j : ℕ) (a b : Config) → i < j → slice_get configs i ≡ Some a
       → slice_get configs j ≡ Some b → AreSame a b → ⊥
 
--- the order that passes most stages
+-- the order that passes the most stages
 abbrev pub furthest_order : List Step → Furthest → List ℕ
 furthest_order steps furthest = order_at steps furthest.step.parent ++ furthest.step.placed
 
@@ -435,22 +453,23 @@ pub record IsFurthest (problem : Problem) (configs : List Config) (steps : List 
   pub most : (i : ℕ) (config : Config) → slice_get configs i ≡ Some config
       → config.stage ≤ furthest.stage
 
--- A longer order was reached, by a configuration, that can be gone on to one that passes so many
--- stages.
+-- A configuration was reached with a longer order, which can be continued to one that passes so
+-- many stages.
 abbrev pub LeadsOn : Problem → List Config → List Step → ℕ → ℕ → Type 0
 LeadsOn problem configs steps size stages =
     (i : ℕ) × (found : Config) × (slice_get configs i ≡ Some found)
     × (size < length (order_at steps i))
     × CanReach problem stages (order_at steps i) found.value
 
--- All was done after an order with this value that can lead past a stage.
+-- An order with this value was expanded: if it can be continued past the stage, then so can the
+-- longer order of another configuration that was reached.
 abbrev pub IsGoneOn : Problem → List Config → List Step → ℕ → List ℕ → Option ℤ → Type 0
 IsGoneOn problem configs steps stage order value =
     (stages : ℕ) → stage < stages → stages ≤ stages_in problem → CanReach problem stages order value
     → LeadsOn problem configs steps (length order) stages
 
--- What a step adds: a configuration that was known, a new one, or none, since there is no room for
--- one that is new.
+-- What comes of adding a configuration: it was known, it is new and waits, or it is new and the
+-- budget is used up.
 abbrev pub Adds : Search → Search → ℕ → ℕ → List ℕ → Config → Added → Type 0
 Adds old new budget parent placed config Known =
     (new.configs.keys ≡ old.configs.keys) × (new.steps.items ≡ old.steps.items)
@@ -461,8 +480,8 @@ Adds old new budget parent placed config Known =
 Adds old new budget parent placed config New =
     (new.configs.keys ≡ old.configs.keys ++ config ∷ [])
     × (new.steps.items ≡ old.steps.items ++ record { parent = parent; placed = placed } ∷ [])
-    × ((turn : Turn) × (turn.at ≡ length old.configs.keys) × (turn.is_last ≡ false)
-    × IsWith turn old.waiting new.waiting)
+    × ((ranked : RankedConfig) × (ranked.at ≡ length old.configs.keys) × (ranked.is_last ≡ false)
+    × IsWith ranked old.waiting new.waiting)
     × (new.furthest ≡ old.furthest)
     × ((i : ℕ) (found : Config) → slice_get old.configs.keys i ≡ Some found → AreSame config found
     → ⊥)
@@ -470,7 +489,7 @@ Adds old new budget parent placed config New =
 Adds old new budget parent placed config Full =
     (new.steps.items ≡ old.steps.items) × (length old.steps.items ≡ budget)
 
--- What noting does: an order that passes more stages than any before takes its place.
+-- What comes of noting an order: it is kept if it passes more stages than any before.
 pub record Notes (old new : Search) (parent : ℕ) (placed : List ℕ) (stage : ℕ) : Type 0 where
   pub configs : new.configs.keys ≡ old.configs.keys
   pub steps : new.steps.items ≡ old.steps.items
@@ -480,14 +499,14 @@ pub record Notes (old new : Search) (parent : ℕ) (placed : List ℕ) (stage : 
       × (new.furthest
       ≡ record { stage = stage; step = record { parent = parent; placed = placed } }))
 
--- the lists of a search, and how far it came
+-- the lists that a search keeps, and how far it came
 pub record SearchLists : Type 0 where
   pub configs : List Config
   pub steps : List Step
-  pub waiting : List Turn
+  pub waiting : List RankedConfig
   pub furthest : Furthest
 
--- those of a search that a program holds
+-- the lists of a search, as a value of the program has them
 abbrev pub search_lists : Search → SearchLists
 search_lists search = record {
   configs = search.configs.keys;
@@ -496,7 +515,7 @@ search_lists search = record {
   furthest = search.furthest;
 }
 
--- What is kept of the lists while the search goes on.
+-- What holds between the lists before and after a part of the search.
 pub record Grows (problem : Problem) (old new : SearchLists) : Type 0 where
   pub known : IsSearch problem new.configs new.steps
   pub far : IsFurthest problem new.configs new.steps new.furthest
@@ -511,8 +530,8 @@ pub record Grows (problem : Problem) (old new : SearchLists) : Type 0 where
   pub waits : (i : ℕ) → awaits old.waiting i ≡ true → awaits new.waiting i ≡ true
   pub inside : ((i : ℕ) → awaits old.waiting i ≡ true → i < length old.steps) → (i : ℕ)
       → awaits new.waiting i ≡ true → i < length new.steps
-  pub balance : turns_in new.waiting + 2 * length old.steps
-      ≡ turns_in old.waiting + 2 * length new.steps
+  pub balance : expansions_in new.waiting + 2 * length old.steps
+      ≡ expansions_in old.waiting + 2 * length new.steps
 
 abbrev pub GrowsTo : Problem → Search → Search → Type 0
 GrowsTo problem old new = Grows problem (search_lists old) (search_lists new)
@@ -529,18 +548,19 @@ IsFull problem search =
     ((configs : List Config) × IsSearch problem configs search.steps.items)
     × (length search.steps.items ≡ problem.budget)
 
--- The search so far, without what was gone on from.
+-- What holds of a search at any time, also while a configuration is expanded.
 pub record IsSearchSoFar (problem : Problem) (search : Search) : Type 0 where
   pub known : IsSearch problem search.configs.keys search.steps.items
   pub far : IsFurthest problem search.configs.keys search.steps.items search.furthest
   pub few : length search.steps.items ≤ problem.budget
 
--- A configuration is one of those that were reached.
+-- A configuration is the one that was reached at an index.
 abbrev pub WasReached : Search → ℕ → Config → Type 0
 WasReached search at config =
     (found : Config) × (slice_get search.configs.keys at ≡ Some found) × AreSame found config
 
--- All was done after a move that can lead past the furthest stage.
+-- A move was tried: if the order can be continued by it past the furthest stage, then so can the
+-- longer order of a configuration that was reached.
 abbrev pub IsMoved : Problem → Search → Search → ℕ → Config → Move → Type 0
 IsMoved problem old new at config move =
     (stages : ℕ) → new.furthest.stage < stages → stages ≤ stages_in problem
@@ -548,9 +568,9 @@ IsMoved problem old new at config move =
     (order_at old.steps.items at ++ source_place problem config move.source ∷ []) move.value
     → LeadsOn problem new.configs.keys new.steps.items (length (order_at old.steps.items at)) stages
 
--- What came of entering a configuration, which is reached from the order at an index by some
--- places.
-abbrev pub ComesOfEntering : Problem → Search → Search → ℕ → List ℕ → Config → Progress → Type 0
+-- What came of entering a configuration, which was reached from the order at an index by placing
+-- some operations.
+abbrev pub ComesOfEntering : Problem → Search → Search → ℕ → List ℕ → Config → ExpansionEnd → Type 0
 ComesOfEntering problem old new at placed config More =
     GrowsTo problem old new × (new.furthest ≡ old.furthest)
     × ((stages : ℕ) → CanReach problem stages (order_at old.steps.items at ++ placed) config.value
@@ -559,8 +579,8 @@ ComesOfEntering problem old new at placed config More =
 ComesOfEntering problem old new at placed config (Whole places) = ⊥
 ComesOfEntering problem old new at placed config NoRoom = IsFull problem new
 
--- What came of one move, after the order at an index.
-abbrev pub ComesOfMove : Problem → Search → Search → ℕ → Config → Move → Progress → Type 0
+-- What came of making one move behind the order at an index.
+abbrev pub ComesOfMove : Problem → Search → Search → ℕ → Config → Move → ExpansionEnd → Type 0
 ComesOfMove problem old new at config move More =
     GrowsTo problem old new × IsMoved problem old new at config move
 ComesOfMove problem old new at config move (Whole placed) =
@@ -568,49 +588,51 @@ ComesOfMove problem old new at config move (Whole placed) =
     × IsWholeOrder problem (order_at old.steps.items at ++ placed.items)
 ComesOfMove problem old new at config move NoRoom = IsFull problem new
 
--- each of the moves was tried from the configuration at an index
+-- Each of the moves was tried from the configuration at an index.
 abbrev pub AreAllTried : Problem → Search → Search → ℕ → Config → List Move → Type 0
 AreAllTried problem old new at config moves =
     (i : ℕ) (move : Move) → slice_get moves i ≡ Some move → IsMoved problem old new at config move
 
--- the last of the moves, this many, were tried from the configuration at an index
+-- The last moves, this many of them, were tried from the configuration at an index.
 abbrev pub AreTried : Problem → Search → Search → ℕ → Config → List Move → ℕ → Type 0
 AreTried problem old new at config moves count =
     (i : ℕ) (move : Move) → length moves ≤ i + count → slice_get moves i ≡ Some move
     → IsMoved problem old new at config move
 
--- What is known where an order is complete, which goes on from the configuration at an index.
+-- What is known where an order is complete: that of the configuration at an index, with more places
+-- behind.
 abbrev pub IsCompleted : Problem → Search → ℕ → List ℕ → Type 0
 IsCompleted problem search at placed =
     IsWholeOrder problem (order_at search.steps.items at ++ placed)
     × (at < length search.steps.items) × NameEarlier search.steps.items
 
 -- What came of trying moves from the configuration at an index.
-abbrev pub WereTried : Problem → Search → Search → ℕ → Config → List Move → Progress → Type 0
+abbrev pub WereTried : Problem → Search → Search → ℕ → Config → List Move → ExpansionEnd → Type 0
 WereTried problem old new at config moves More =
     GrowsTo problem old new × AreAllTried problem old new at config moves
 WereTried problem old new at config moves (Whole placed) = IsCompleted problem new at placed.items
 WereTried problem old new at config moves NoRoom = IsFull problem new
 
--- A turn was taken: its configuration was gone on from, or it waits once more.
-pub record IsTurnTaken (problem : Problem) (old new : Search) (turn : Turn) : Type 0 where
-  pub again : List Turn
-  pub fewer : turns_in again < turns_left turn
-  pub own : (i : ℕ) → awaits again i ≡ true → i ≡ turn.at
+-- A configuration was expanded: all its moves were tried, or it waits for its second expansion.
+pub record IsExpanded (problem : Problem) (old new : Search) (ranked : RankedConfig) : Type 0 where
+  pub again : List RankedConfig
+  pub fewer : expansions_in again < expansions_left ranked
+  pub own : (i : ℕ) → awaits again i ≡ true → i ≡ ranked.at
   pub on : Grows problem (record (search_lists old) { waiting = again ++ old.waiting })
       (search_lists new)
-  pub gone : (awaits again turn.at ≡ true)
-      ⊎ ((config : Config) → slice_get old.configs.keys turn.at ≡ Some config
+  pub gone : (awaits again ranked.at ≡ true)
+      ⊎ ((config : Config) → slice_get old.configs.keys ranked.at ≡ Some config
       → IsGoneOn problem new.configs.keys new.steps.items new.furthest.stage
-      (order_at old.steps.items turn.at) config.value)
+      (order_at old.steps.items ranked.at) config.value)
 
--- What came of a turn.
-abbrev pub ComesOfTurn : Problem → Search → Search → Turn → Progress → Type 0
-ComesOfTurn problem old new turn More = IsTurnTaken problem old new turn
-ComesOfTurn problem old new turn (Whole placed) = IsCompleted problem new turn.at placed.items
-ComesOfTurn problem old new turn NoRoom = IsFull problem new
+-- What came of expanding a configuration.
+abbrev pub ComesOfExpansion : Problem → Search → Search → RankedConfig → ExpansionEnd → Type 0
+ComesOfExpansion problem old new ranked More = IsExpanded problem old new ranked
+ComesOfExpansion problem old new ranked (Whole placed) =
+    IsCompleted problem new ranked.at placed.items
+ComesOfExpansion problem old new ranked NoRoom = IsFull problem new
 
--- Each configuration that was reached waits or was gone on from.
+-- Each configuration that was reached waits or was expanded.
 pub record IsSearchKept (problem : Problem) (search : Search) : Type 0 where
   pub begun : IsSearchSoFar problem search
   pub first : (config : Config) × (slice_get search.configs.keys 0 ≡ Some config)
@@ -627,14 +649,15 @@ IsExhausted problem search = IsSearchKept problem search × (search.waiting ≡ 
 
 -- ---- sorting
 
--- Entries that name a place, one for each place that is kept.
+-- Entries with a place in each, one for each place below a bound that is to have one.
 pub record ArePlaceEntries {X : Type 0} (Kept : ℕ → Type 0) (entry : ℕ → X) (place : X → ℕ)
     (bound : ℕ) (entries : List X) : Type 0 where
   pub each : All (λ x. (place x < bound) × Kept (place x) × (entry (place x) ≡ x)) entries
   pub all : (p : ℕ) → p < bound → Kept p → Contains entries (entry p)
   pub distinct : IsDistinct ◌==◌ (map place entries)
 
--- an operation with its invocation, with its end, or with its call and its invocation
+-- the place of an operation behind that of its invocation, behind that of its end, or behind its
+-- call and the place of its invocation
 abbrev pub arrival_entry : List RegOp → ℕ → ℕ × ℕ
 arrival_entry ops place = (invocation_at ops place, place)
 
@@ -644,16 +667,17 @@ end_entry ops place = (end_at ops place, place)
 abbrev pub unknown_entry : List RegOp → ℕ → RegCall × ℕ × ℕ
 unknown_entry ops place = ((op_at ops place).call, invocation_at ops place, place)
 
--- the numbers do not fall
+-- The first numbers of the pairs do not fall.
 abbrev pub DoNotFall : List (ℕ × ℕ) → Type 0
 DoNotFall pairs =
     (i j : ℕ) (d : ℕ × ℕ) → i ≤ j → j < length pairs
     → (slice_index_or pairs i d).0 ≤ (slice_index_or pairs j d).0
 
+-- what stands past the end of a list of pairs
 abbrev pub no_entry : ℕ × ℕ
 no_entry = (0, 0)
 
--- For each end a stage, with the number of invocations that are not after it.
+-- There is a stage for each end, with the number of the invocations that are not after it.
 pub record AreStages (invocations ends : List (ℕ × ℕ)) (stages : List Stage) : Type 0 where
   pub sizes : length stages ≡ length ends
   pub place : (k : ℕ) → k < length stages
@@ -666,14 +690,16 @@ pub record AreStages (invocations ends : List (ℕ × ℕ)) (stages : List Stage
       < (slice_index_or invocations (stage_at stages k).arrived no_entry).0)
       × ((slice_index_or ends k no_entry).0 < 2 ^ 64 - 1)
 
--- the same call, and an invocation that is not later
+-- Two entries have the same call, and the first is not invoked after the second.
 abbrev pub GoTogether : RegCall × ℕ × ℕ → RegCall × ℕ × ℕ → Type 0
 GoTogether first second = (first.0 ≡ second.0) × (first.1 ≤ second.1)
 
+-- what stands past the end of a list of entries with calls
 abbrev pub no_call : RegCall × ℕ × ℕ
 no_call = (Read None, 0, 0)
 
--- Classes of neighbours that go together, side by side, for the first so many entries.
+-- The classes of the entries below an index: each has neighbours that go together, and each entry
+-- is in one.
 pub record AreClassesUpTo (entries : List (RegCall × ℕ × ℕ)) (classes : List Class)
     (upto : ℕ) : Type 0 where
   pub bounded : (k : ℕ) → k < length classes

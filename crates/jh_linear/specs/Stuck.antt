@@ -1,5 +1,6 @@
--- Why operations have no order: the first completion with which they have none any more (Knossos
--- gives the operation at which its search got stuck; the definition is this project's own).
+-- Why operations have no linearization: the first completion with which they have none any more.
+-- (Knossos gives the operation at which its search got stuck; the definition is this project's
+-- own.)
 use Rattle.std.specs.Prelude.{◌≡◌, ℕ, ◌+◌, ◌-◌, ◌^◌, ◌≤◌, ℤ, Option, List, map, unwrap_or, nat_lt}
 use Rattle.std.specs.Prelude.{if◌then◌else◌}
 use Rattle.jh_linear.specs.declared.register.Outcome.{Outcome}
@@ -12,13 +13,14 @@ use Rattle.jh_linear.specs.Order.{op_at, IsDone, HasAllDone, IsPartialOrder, IsO
 abbrev pub op_end : RegOp → ℕ
 op_end op = unwrap_or op.ended (2 ^ 64 - 1)
 
--- what is known of an operation that has not ended yet; one that fails is left out from the start
+-- What is known of an operation that has not ended yet. One that is going to fail is taken to have
+-- failed from the start.
 abbrev pub outcome_before_end : Outcome → Outcome
 outcome_before_end Done = Unsure
 outcome_before_end Failed = Failed
 outcome_before_end Unsure = Unsure
 
--- What the first so many places of a history show of an operation: one that is not invoked there
+-- What the places of a history below a number show of an operation: one that is not invoked there
 -- did not happen, and of one that does not end there it is not known whether it did.
 abbrev pub outcome_in : ℕ → RegOp → Outcome
 outcome_in count op =
@@ -26,15 +28,17 @@ outcome_in count op =
     then (if nat_lt (op_end op) count then op.outcome else outcome_before_end op.outcome)
     else Failed
 
+-- the operation, as the places below a number show it
 abbrev pub op_in : ℕ → RegOp → RegOp
 op_in count op = record op { outcome = outcome_in count op }
 
--- the operations, as the first so many places of the history show them
+-- the operations, as the places of the history below a number show them
 abbrev pub ops_before : List RegOp → ℕ → List RegOp
 ops_before ops count = map (op_in count) ops
 
--- The place of a completion: cut right before it the operations have an order, which leads to a
--- value; cut right behind it they have none. They have one wherever they are cut before.
+-- It names the place of a completion. Where the history is cut right before that place, the
+-- operations have an order, which leads to the value that is given; where it is cut right behind,
+-- they have none. They have one wherever the history is cut before.
 pub record IsStuck (ops : List RegOp) (initial : Option ℤ) (stuck : Stuck) : Type 0 where
   pub completion : (place : ℕ) × IsDone ops place × (op_end (op_at ops place) ≡ stuck.end)
   pub before : IsPartialOrder (ops_before ops stuck.end) initial stuck.order stuck.value

@@ -1,4 +1,5 @@
--- A set of values of the register: proofs rest on it, and no public clause names it.
+-- The set of the values that are wanted at a configuration: proofs rest on it, and no public clause
+-- names it.
 -- This project's own.
 use Rattle.std.specs.Prelude.{◌≡◌, ℕ, ◌<◌, ℤ, true, Option, Some}
 use Rattle.std.specs.Ordering.{int_eq}
@@ -17,13 +18,13 @@ Holds wanted value = (x : ℤ) × (value ≡ Some x) × (contains int_eq wanted.
 abbrev pub HoldsMore : Wanted → Wanted → Type 0
 HoldsMore old new = (value : Option ℤ) → Holds old value → Holds new value
 
--- what the operations below an index need, of those that happened and are pending
+-- the set has what the pending operations below an index need
 abbrev pub HoldsHappened : Problem → Config → Wanted → ℕ → Type 0
 HoldsHappened problem config wanted bound =
     (index : ℕ) (value : Option ℤ) → index < bound
     → Needs (source_call problem config (Happened index)) value → Holds wanted value
 
--- what the first one left of each class below a bound needs, where it may come next
+-- the set has what the next operation of each class below a bound needs, where it may come next
 abbrev pub HoldsUnknown : Problem → Config → Wanted → ℕ → Type 0
 HoldsUnknown problem config wanted bound =
     (k : ℕ) (value : Option ℤ) → k < bound → IsReady problem config k

@@ -1,6 +1,7 @@
-//! A history, sorted for the search: what happened by invocations and, stage by stage, by ends; and
-//! what is not known to have happened by calls. `specs/SearchInside.antt` says what it keeps of the
-//! operations.
+//! The operations of a history, sorted for the search. Those that are known to have happened are
+//! sorted by their invocations, and once more by their ends, which make the stages. Those of
+//! unknown outcome are sorted by their calls, which make the classes. `specs/SearchInside.antt`
+//! says what holds of both (`IsHistory`, `AreClasses`).
 
 ghost use Rattle.std.specs.Prelude.{◌≡◌, ℕ, ◌<◌, ◌≤◌, ◌-◌, ◌^◌, IfOk, length, map, slice_index_or};
 ghost use Rattle.std.specs.Prelude.{true};
@@ -16,37 +17,41 @@ ghost use Rattle.std.specs.Prelude.{false};
 use crate::register::{Outcome, RegCall, RegOp, is_same, is_unknown};
 use std::alloc::{AllocError, Global};
 
-/// The search goes from stage to stage. It leaves one when the stage's operation is placed.
+/// A stage of the search. There is one for each operation that is known to have happened, in the
+/// order of their ends. It is passed when its operation is placed.
 #[derive(Clone, Copy, Debug)]
 pub(crate) struct Stage {
-    /// Of the operations that happened and are not placed at this stage, the one that ended first.
+    /// The place of its operation, which ended first of those that no earlier stage has.
     pub(crate) place: usize,
-    /// How many of those that happened were invoked before that one ended.
+    /// How many of the operations that are known to have happened were invoked before that one
+    /// ended.
     pub(crate) arrived: usize,
 }
 
-/// Operations of unknown outcome with the same call, those from one index up to another, in the
-/// order of invocation. They are placed in this order: whichever of them took effect first, the
-/// first one invoked can stand in its place.
+/// Operations of unknown outcome with the same call, from one index up to another, in the order of
+/// their invocations. They are placed in this order, and that loses none: whichever of them took
+/// effect first, the one that was invoked first could have taken effect in its place (`after_twin`
+/// in `proofs/FollowLemmas.antt`).
 #[derive(Clone, Copy, Debug)]
 pub(crate) struct Class {
     pub(crate) from: usize,
     pub(crate) upto: usize,
 }
 
-/// The operations in the orders that the search goes by.
+/// The places of the operations, sorted as the search needs them.
 #[derive(Drop)]
 pub(crate) struct History {
-    /// What happened, in the order of invocation.
+    /// The operations that are known to have happened, in the order of their invocations.
     pub(crate) arrivals: Vec<usize>,
-    /// What happened, in the order of the ends.
+    /// The same operations in the order of their ends.
     pub(crate) stages: Vec<Stage>,
-    /// What is not known to have happened and is tried, class by class.
+    /// The operations of unknown outcome that are tried, class by class.
     pub(crate) unknown: Vec<usize>,
+    /// The classes, from indexes of `unknown` up to others.
     pub(crate) classes: Vec<Class>,
 }
 
-/// What is searched.
+/// What a search is given: the operations, also sorted, with the first value and the budget.
 #[derive(Drop)]
 pub(crate) struct Problem<'a> {
     pub(crate) ops: &'a [RegOp],
@@ -65,7 +70,8 @@ fn is_done(op: RegOp) -> bool
     }
 }
 
-/// The places of the operations that happened, each with that of its invocation, which do not fall.
+/// The places of the operations that are known to have happened, each behind the place of its
+/// invocation, and sorted by that.
 fn arrivals_of(alloc: Global, ops: &[RegOp]) -> Result<Vec<(usize, usize)>, AllocError>
     ensures entries { IfOk result (λ pairs.
         ArePlaceEntries (IsDone ops.now) (arrival_entry ops.now) (λ x. x.1)
@@ -82,7 +88,8 @@ fn arrivals_of(alloc: Global, ops: &[RegOp]) -> Result<Vec<(usize, usize)>, Allo
     Ok(arrivals)
 }
 
-/// The places of the operations that happened, each with that of its end, which do not fall.
+/// The places of the operations that are known to have happened, each behind the place of its end,
+/// and sorted by that.
 fn ends_of(alloc: Global, ops: &[RegOp]) -> Result<Vec<(usize, usize)>, AllocError>
     ensures entries { IfOk result (λ pairs.
         ArePlaceEntries (IsDone ops.now) (end_entry ops.now) (λ x. x.1)
@@ -99,8 +106,9 @@ fn ends_of(alloc: Global, ops: &[RegOp]) -> Result<Vec<(usize, usize)>, AllocErr
     Ok(ends)
 }
 
-/// The places of the operations of unknown outcome that are tried, each with its call and the place
-/// of its invocation. Sorted, so that equal calls are neighbours; nothing else rests on how.
+/// The places of the operations of unknown outcome that are tried, each behind its call and the
+/// place of its invocation. They are sorted, so that operations with the same call are neighbours.
+/// In which order the calls come does not matter.
 fn unknown_of(alloc: Global, ops: &[RegOp]) -> Result<Vec<(RegCall, usize, usize)>, AllocError>
     ensures { IfOk result (λ entries.
         ArePlaceEntries (IsUnsureChange ops.now) (unknown_entry ops.now) (λ x. x.2)
@@ -116,14 +124,14 @@ fn unknown_of(alloc: Global, ops: &[RegOp]) -> Result<Vec<(RegCall, usize, usize
     Ok(unknown)
 }
 
-/// Whether the second of two neighbours belongs to the class of the first.
+/// Whether the second of two neighbouring entries belongs to the class of the first.
 fn go_together(first: (RegCall, usize, usize), second: (RegCall, usize, usize)) -> bool
     ensures { result ≡ true → GoTogether first second }
 {
     is_same(first.0, second.0) && first.1 <= second.1
 }
 
-/// Whether a class ends at an index: there is no entry, or one that begins another.
+/// Whether a class ends in front of an index: there is no entry, or one that begins another class.
 fn ends_at(entries: &[(RegCall, usize, usize)], index: usize) -> bool
     requires { 0 < index }
     ensures { result ≡ false → (index < length entries.now)
@@ -150,7 +158,7 @@ fn classes_of(alloc: Global, entries: &[(RegCall, usize, usize)]) -> Result<Vec<
     Ok(classes)
 }
 
-/// The places of the pairs.
+/// The places of the operations in pairs, which are the second of each.
 fn places_of(alloc: Global, pairs: &[(usize, usize)]) -> Result<Vec<usize>, AllocError>
     ensures { IfOk result (λ places. places.items ≡ map (λ x. x.1) pairs.now) }
 {
@@ -161,7 +169,7 @@ fn places_of(alloc: Global, pairs: &[(usize, usize)]) -> Result<Vec<usize>, Allo
     Ok(places)
 }
 
-/// The places of the entries.
+/// The places of the operations in entries, which are the last of each.
 fn unknown_places(
     alloc: Global,
     entries: &[(RegCall, usize, usize)],
@@ -175,8 +183,8 @@ fn unknown_places(
     Ok(places)
 }
 
-/// How many of the invocations are not after an end, from a count of those that are known not to
-/// be.
+/// How many of the invocations are not after an end. The search for it begins at a number of which
+/// that is known already.
 fn arrived_by(invocations: &[(usize, usize)], end: usize, from: usize) -> usize
     requires from { from ≤ length invocations.now }
     requires before { (i : ℕ) → i < from → (slice_index_or invocations.now i no_entry).0 ≤ end }
@@ -192,7 +200,7 @@ fn arrived_by(invocations: &[(usize, usize)], end: usize, from: usize) -> usize
     arrived
 }
 
-/// A stage for each end.
+/// The stages: one for each end.
 fn stages_of(
     alloc: Global,
     invocations: &[(usize, usize)],
@@ -213,8 +221,8 @@ fn stages_of(
     Ok(stages)
 }
 
-/// The history of some operations.
-pub(crate) fn history_of(alloc: Global, ops: &[RegOp]) -> Result<History, AllocError>
+/// The operations of a register, sorted for the search.
+pub(crate) fn sorted_history(alloc: Global, ops: &[RegOp]) -> Result<History, AllocError>
     ensures history { IfOk result
         (λ history. IsHistory ops.now history.arrivals.items history.stages.items) }
     ensures classes { IfOk result

@@ -1,9 +1,33 @@
-//! The search for an order.
+//! The search of a linearizability checker for a register with read, write and compare-and-set
+//! (Herlihy and Wing 1990): that of Wing and Gong (1993), with Lowe's cache of configurations
+//! (2017).
 //!
-//! It goes through configurations, each entered once, with the one that it was reached from.
-//! `specs/SearchInside.antt` says what it keeps: each configuration that was entered waits, or all that
-//! may lead past the furthest stage was reached from it. Where none waits, no order passes that
-//! stage. Which one is taken next may be changed: `queue.rt` has the ranks.
+//! A configuration (`config.rt`) is which operations have been linearized so far, and the value
+//! that the register then has. An operation that is linearized is said to be placed, and a list of
+//! operations as they are linearized is an order. A move (`moves.rt`) places one operation more.
+//! Each configuration is entered into the cache once (`search.rt`), and is expanded when its rank
+//! is the highest of those that wait (`queue.rt` has the ranks, and any others would do).
+//!
+//! These prunings keep the search small. Each has a lemma, in `proofs/`, that it loses no order:
+//!
+//! - A read that is known to have happened, and finds its value, is placed at once and alone:
+//!   `settled` in `moves.rt`, `settled_leads` in `LeadLemmas.antt`.
+//! - A read of unknown outcome is left out: `is_unknown` in `register.rt`, `follows_less` in
+//!   `FollowLemmas.antt`.
+//! - Of the operations of unknown outcome with one call, only the one that was invoked first is
+//!   tried: `Class` in `history.rt`, `after_twin` in `FollowLemmas.antt` and `class_leads` in
+//!   `LeadLemmas.antt`.
+//! - An operation of unknown outcome is tried only where some operation that may come next needs
+//!   the value that it leads to: `wanted.rt`, and `is_worth` in `moves.rt`; `wanted_by` and
+//!   `by_size` in `LeadLemmas.antt`. `one_leads` there puts these four together.
+//! - Where there is one move only, it is made in place, and no configuration is entered: `walk.rt`,
+//!   `gone_on` and `dead_end` in `WalkLemmas.antt`.
+//! - A configuration that was entered before is not entered again: `add` in `search.rt`,
+//!   `known_leads` in `GrowthLemmas.antt`.
+//!
+//! `specs/SearchInside.antt` says what the search keeps (`IsSearchKept`): each configuration that
+//! was entered still waits, or whatever may lead from it past the furthest stage has been reached.
+//! So where none waits any more, no order passes that stage.
 
 ghost use Rattle.std.specs.Prelude.{◌≡◌, ◌++◌, ◌<◌, ◌≤◌, length, slice_get, Some, vec_len, IfOk};
 ghost use Rattle.std.specs.Prelude.{false};
@@ -12,55 +36,58 @@ ghost use Rattle.jh_linear.specs.Order.{EndAfterInvoked};
 ghost use Rattle.jh_linear.specs.Reached.{order_at, root};
 ghost use Rattle.jh_linear.specs.Verdict.{IsJudged};
 ghost use Rattle.jh_linear.specs.SearchInside.{AreSame, EachIsMove, ComesOfEntering, IsSearchSoFar};
-ghost use Rattle.jh_linear.specs.SearchInside.{IsSearchKept, IsMove, IsProblem, LeadsTo, ComesOfTurn};
+ghost use Rattle.jh_linear.specs.SearchInside.{IsSearchKept, IsMove, IsProblem, LeadsTo, ComesOfExpansion};
 ghost use Rattle.jh_linear.specs.SearchInside.{ComesOfMove, WasReached, WereTried, stages_in};
 
 use crate::config::{Config, copy_config, first_config};
-use crate::history::{Problem, history_of};
+use crate::history::{Problem, sorted_history};
 use crate::moves::{Move, Source, find_moves};
-use crate::queue::{Queue, Turn, rank_of, second_turn};
+use crate::queue::{Queue, RankedConfig, rank_of, second_expansion};
 use crate::register::RegOp;
 use crate::search::{Added, Furthest, Search, add, note};
 use crate::stuck::{order_of, stuck_of};
-use crate::verdict::{LinVerdict, Order, Reached, Step};
+use crate::verdict::{LinVerdict, Linearization, Reached, Step};
 use crate::walk::{WalkEnd, make, walk};
 use indexmap::IndexSet;
 use std::alloc::{AllocError, Global};
 
-/// What came of going on.
-pub(crate) enum Progress {
+/// How the expansion of a configuration ended, or a part of it.
+pub(crate) enum ExpansionEnd {
+    /// No order was completed, and the search goes on.
     More,
-    /// With these operations the order is complete.
+    /// With these operations behind those of the configuration the order is complete.
     Complete(Vec<usize>),
+    /// A new configuration would exceed the budget.
     Full,
 }
 
-/// Goes on from a configuration by a move, and in place as long as there is one way to go on.
+/// Makes a move from a configuration, and then goes on in place as long as there is one move only.
+/// What comes of it is entered, where it has several moves.
 fn try_move(
     alloc: Global,
     problem: &Problem,
     search: &mut Search,
     at: usize,
     config: &Config,
-    step: Move,
-) -> Result<Progress, AllocError>
+    next_move: Move,
+) -> Result<ExpansionEnd, AllocError>
     requires problem { IsProblem problem.now }
     requires begun { IsSearchSoFar problem.now search.old }
     requires reached { WasReached search.old at config.now }
-    requires moves { IsMove problem.now config.now step }
+    requires moves { IsMove problem.now config.now next_move }
     ensures { IfOk result
-        (λ progress. ComesOfMove problem.now search.old search.new at config.now step progress) }
+        (λ end. ComesOfMove problem.now search.old search.new at config.now next_move end) }
 {
     let mut next = copy_config(alloc, config)?;
     let mut placed = Vec::new(alloc);
-    make(problem, &mut next, &mut placed, step)?;
+    make(problem, &mut next, &mut placed, next_move)?;
     let mut moves = Vec::new(alloc);
     let end = walk(alloc, problem, &mut next, &mut placed, &mut moves)?;
     match end {
-        WalkEnd::Complete => Ok(Progress::Complete(placed)),
+        WalkEnd::Complete => Ok(ExpansionEnd::Complete(placed)),
         WalkEnd::Stuck => {
             note(alloc, search, at, placed.as_slice(), next.stage)?;
-            Ok(Progress::More)
+            Ok(ExpansionEnd::More)
         }
         WalkEnd::Several => {
             note(alloc, search, at, placed.as_slice(), next.stage)?;
@@ -69,14 +96,15 @@ fn try_move(
     }
 }
 
-/// Enters a configuration that was reached from an earlier one.
+/// Enters a configuration that was reached by placing operations behind those of the configuration
+/// at an index.
 fn enter(
     problem: &Problem,
     search: &mut Search,
     at: usize,
     placed: Vec<usize>,
     config: Config,
-) -> Result<Progress, AllocError>
+) -> Result<ExpansionEnd, AllocError>
     requires problem { IsProblem problem.now }
     requires begun { IsSearchSoFar problem.now search.old }
     requires low { at < length search.old.steps.items }
@@ -86,19 +114,19 @@ fn enter(
     requires open { config.stage < stages_in problem.now }
     requires far { config.stage ≤ search.old.furthest.stage }
     ensures { IfOk result
-        (λ progress.
-        ComesOfEntering problem.now search.old search.new at placed.items config progress) }
+        (λ end.
+        ComesOfEntering problem.now search.old search.new at placed.items config end) }
 {
     let rank = rank_of(problem, &config);
     match add(search, problem.budget, at, placed, config, rank)? {
-        Added::Known => Ok(Progress::More),
-        Added::New => Ok(Progress::More),
-        Added::Full => Ok(Progress::Full),
+        Added::Known => Ok(ExpansionEnd::More),
+        Added::New => Ok(ExpansionEnd::More),
+        Added::Full => Ok(ExpansionEnd::Full),
     }
 }
 
-/// Goes on from a configuration by these moves, at last by the first, which of the same rank is
-/// taken up first.
+/// Tries the moves in reverse: among equal ranks the configuration that was entered last is
+/// expanded first, and this is then the one that the first move leads to.
 fn try_moves(
     alloc: Global,
     problem: &Problem,
@@ -106,84 +134,85 @@ fn try_moves(
     at: usize,
     config: &Config,
     moves: &[Move],
-) -> Result<Progress, AllocError>
+) -> Result<ExpansionEnd, AllocError>
     requires problem { IsProblem problem.now }
     requires begun { IsSearchSoFar problem.now search.old }
     requires reached { WasReached search.old at config.now }
     requires moves { EachIsMove problem.now config.now moves.now }
     ensures { IfOk result
-        (λ progress. WereTried problem.now search.old search.new at config.now moves.now progress) }
+        (λ end. WereTried problem.now search.old search.new at config.now moves.now end) }
 {
     let count = moves.len();
-    for step in 0..count {
-        match try_move(alloc, problem, search, at, config, moves[count - 1 - step])? {
-            Progress::More => {}
-            Progress::Complete(placed) => return Ok(Progress::Complete(placed)),
-            Progress::Full => return Ok(Progress::Full),
+    for tried in 0..count {
+        match try_move(alloc, problem, search, at, config, moves[count - 1 - tried])? {
+            ExpansionEnd::More => {}
+            ExpansionEnd::Complete(placed) => return Ok(ExpansionEnd::Complete(placed)),
+            ExpansionEnd::Full => return Ok(ExpansionEnd::Full),
         }
     }
-    Ok(Progress::More)
+    Ok(ExpansionEnd::More)
 }
 
-/// How many of the moves are of operations that happened; these come first.
+/// How many of the moves place an operation that is known to have happened. These moves come first.
 fn happened_in(moves: &[Move]) -> usize
     ensures { result ≤ length moves.now }
 {
-    for (index, step) in moves.iter().enumerate() {
-        if let Source::Unknown(_) = step.source {
+    for (index, next_move) in moves.iter().enumerate() {
+        if let Source::Unknown(_) = next_move.source {
             return index;
         }
     }
     moves.len()
 }
 
-/// Goes on from a configuration by what happened, and lets it wait for its second turn.
+/// The first of two expansions: tries the moves of operations that are known to have happened, and
+/// lets the configuration wait for its second expansion.
 fn put_off(
     alloc: Global,
     problem: &Problem,
     search: &mut Search,
-    turn: Turn,
+    ranked: RankedConfig,
     config: &Config,
     happened: &[Move],
-) -> Result<Progress, AllocError>
+) -> Result<ExpansionEnd, AllocError>
     requires problem { IsProblem problem.now }
     requires begun { IsSearchSoFar problem.now search.old }
-    requires reached { WasReached search.old turn.at config.now }
+    requires reached { WasReached search.old ranked.at config.now }
     requires moves { EachIsMove problem.now config.now happened.now }
-    requires first { turn.is_last ≡ false }
+    requires first { ranked.is_last ≡ false }
     ensures { IfOk result
-        (λ progress. ComesOfTurn problem.now search.old search.new turn progress) }
+        (λ end. ComesOfExpansion problem.now search.old search.new ranked end) }
 {
-    search.waiting.push(second_turn(problem, turn))?;
-    try_moves(alloc, problem, search, turn.at, config, happened)
+    search.waiting.push(second_expansion(problem, ranked))?;
+    try_moves(alloc, problem, search, ranked.at, config, happened)
 }
 
-/// Goes on from a configuration whose turn it is: at the first by what happened, where that is not
-/// all, else by all.
+/// Expands a configuration. The first time, only the moves of operations that are known to have
+/// happened are tried, where there are others too, and these wait for the second time.
 fn expand(
     alloc: Global,
     problem: &Problem,
     search: &mut Search,
-    turn: Turn,
+    ranked: RankedConfig,
     config: &Config,
-) -> Result<Progress, AllocError>
+) -> Result<ExpansionEnd, AllocError>
     requires problem { IsProblem problem.now }
     requires begun { IsSearchSoFar problem.now search.old }
-    requires reached { WasReached search.old turn.at config.now }
+    requires reached { WasReached search.old ranked.at config.now }
     ensures { IfOk result
-        (λ progress. ComesOfTurn problem.now search.old search.new turn progress) }
+        (λ end. ComesOfExpansion problem.now search.old search.new ranked end) }
 {
     let mut found = Vec::new(alloc);
     find_moves(alloc, problem, config, &mut found)?;
     let moves = found.as_slice();
     let happened = happened_in(moves);
-    if turn.is_last || happened == moves.len() {
-        return try_moves(alloc, problem, search, turn.at, config, moves);
+    if ranked.is_last || happened == moves.len() {
+        return try_moves(alloc, problem, search, ranked.at, config, moves);
     }
-    put_off(alloc, problem, search, turn, config, &moves[..happened])
+    put_off(alloc, problem, search, ranked, config, &moves[..happened])
 }
 
-/// A search at its start, with the configuration in which nothing is placed.
+/// A search at its start, with one configuration, in which nothing is placed.
 fn start(alloc: Global, problem: &Problem) -> Result<Search, AllocError>
     requires problem { IsProblem problem.now }
     requires some { 0 < stages_in problem.now }
@@ -196,7 +225,7 @@ fn start(alloc: Global, problem: &Problem) -> Result<Search, AllocError>
     let mut steps = Vec::new(alloc);
     steps.push(first_step(alloc))?;
     let mut waiting = Queue::new(alloc);
-    waiting.push(Turn {
+    waiting.push(RankedConfig {
         rank: 0,
         at: 0,
         is_last: false,
@@ -218,26 +247,26 @@ fn first_step(alloc: Global) -> Step
 {
     Step {
         parent: 0,
-        placed: Order::of(Vec::new(alloc)),
+        placed: Linearization::of(Vec::new(alloc)),
     }
 }
 
-/// Whether the operations can have happened one after another on a register with this initial
-/// value. `Valid` carries an order, `Invalid` says that there is none, and up to where there is
-/// one, and `Unknown` that the budget was used up. Each operation has to end after its invocation.
+/// Whether the operations are linearizable on a register with this initial value. `Valid` carries a
+/// linearization. `Invalid` says that there is none, and up to which completion there is one.
+/// `Unknown` says that the budget was used up. Each operation has to end after its invocation.
 ///
-/// The budget counts configurations: a set of operations that are placed, with the register's
-/// value, counts once, when it is entered. One from which there is one way to go on, or none, is
-/// not entered. `Unknown` carries as many as the budget. With a budget of 0 the answer is `Unknown`
-/// of none.
+/// The budget counts configurations: a set of operations that have been linearized, with the value
+/// that the register then has, counts once, when it is entered. One from which there is one move,
+/// or none, is not entered. `Unknown` carries as many as the budget. With a budget of 0 the answer
+/// is `Unknown`, and carries none.
 ///
 /// Errors: out of memory.
 ///
-/// Let w be how many operations may be in flight at once, and u how many different calls are not
-/// known to have happened. Takes O(n log n) for n operations, and for each configuration w + u
-/// words of memory, those for what was placed since the one before it, and for each way to go on
-/// from it w + u steps for each operation that is placed until there are several ways again.
-/// docs/register.md says more.
+/// Let w be how many operations may be in flight at once, and u how many different calls the
+/// operations of unknown outcome have. Takes O(n log n) for n operations. Each configuration takes
+/// w + u words of memory, and one for each operation that was placed since the configuration before
+/// it. Each move from it takes w + u steps, and as many for each operation that is placed then
+/// until there are several moves again. docs/register.md says more.
 pub fn check(
     alloc: Global,
     ops: &[RegOp],
@@ -250,9 +279,9 @@ pub fn check(
     if budget == 0 {
         return Ok(LinVerdict::Unknown(Reached::of(Vec::new(alloc))));
     }
-    let history = history_of(alloc, ops)?;
+    let history = sorted_history(alloc, ops)?;
     if history.stages.is_empty() {
-        return Ok(LinVerdict::Valid(Order::of(Vec::new(alloc))));
+        return Ok(LinVerdict::Valid(Linearization::of(Vec::new(alloc))));
     }
     let problem = Problem {
         ops,
@@ -261,15 +290,15 @@ pub fn check(
         budget,
     };
     let mut search = start(alloc, &problem)?;
-    'searching: while let Some(turn) = search.waiting.pop() {
-        let config = config_at(alloc, &search.configs, turn.at)?;
-        match expand(alloc, &problem, &mut search, turn, &config)? {
-            Progress::More => {}
-            Progress::Full => return Ok(LinVerdict::Unknown(Reached::of(search.steps))),
-            Progress::Complete(placed) => {
-                let mut order = order_of(alloc, search.steps.as_slice(), turn.at)?;
+    'searching: while let Some(ranked) = search.waiting.pop() {
+        let config = config_at(alloc, &search.configs, ranked.at)?;
+        match expand(alloc, &problem, &mut search, ranked, &config)? {
+            ExpansionEnd::More => {}
+            ExpansionEnd::Full => return Ok(LinVerdict::Unknown(Reached::of(search.steps))),
+            ExpansionEnd::Complete(placed) => {
+                let mut order = order_of(alloc, search.steps.as_slice(), ranked.at)?;
                 order.extend_from_slice(placed.as_slice())?;
-                return Ok(LinVerdict::Valid(Order::of(order)));
+                return Ok(LinVerdict::Valid(Linearization::of(order)));
             }
         }
     }

@@ -1,9 +1,11 @@
-//! The ways to go on from a configuration.
+//! The moves from a configuration: which operations may be placed next, and are worth a try.
 //!
-//! `specs/SearchInside.antt` says which are enough for no order to be lost (`AreEnough`), and what is
-//! left out may be changed where none is. Here a read that happened and matches the value is placed
-//! at once and alone; of the operations of unknown outcome with one call only the one invoked first
-//! is tried, and only where something that may come next needs its value.
+//! Three prunings stand here. A read that is known to have happened, and finds its value, is placed
+//! at once and alone. Of the operations of unknown outcome with one call, only the one that was
+//! invoked first is tried. And it is tried only where an operation that may come next needs the
+//! value that it leads to. `specs/SearchInside.antt` says which moves have to be there
+//! (`AreEnough`), and `one_leads` in `proofs/LeadLemmas.antt` shows that no order is lost then.
+//! Another pruning that leaves such moves may take the place of these.
 
 ghost use Rattle.std.specs.Prelude.{◌≡◌, ℤ, ◌<◌, ◌≤◌, length, vec_len, true, false, IfSome, OnOk};
 ghost use Rattle.std.specs.Prelude.{Option, None};
@@ -26,9 +28,9 @@ use std::alloc::{AllocError, Global};
 /// Where a move takes its operation from.
 #[derive(Clone, Copy, Debug)]
 pub(crate) enum Source {
-    /// From what happened and is pending, at this index.
+    /// From the pending operations, which are known to have happened, at this index.
     Happened(usize),
-    /// From a class of unknown operations: its next.
+    /// From the class of operations of unknown outcome at this index, which has the next of them.
     Unknown(usize),
 }
 
@@ -39,7 +41,7 @@ pub(crate) struct Move {
     pub(crate) value: Option<i64>,
 }
 
-/// The class at an index; past the end, one with no operations.
+/// The class at an index. Past the end it is one with no operations.
 fn class_at(classes: &[Class], class: usize) -> Class
     ensures { result ≡ rule.class_at classes.now class }
 {
@@ -49,7 +51,7 @@ fn class_at(classes: &[Class], class: usize) -> Class
     }
 }
 
-/// The number at an index; past the end, 0.
+/// The number at an index. Past the end it is 0.
 fn at_or_zero(places: &[usize], index: usize) -> usize
     ensures { result ≡ rule.next_at places.now index }
 {
@@ -90,7 +92,8 @@ fn is_in_time(op: RegOp, other: RegOp) -> bool
     }
 }
 
-/// Whether the next operation of a class is left and may come before the stage's operation.
+/// Whether a class has an operation that is not placed, and the next of them was invoked before the
+/// end of the stage, so that it may come next.
 pub(crate) fn is_ready(problem: &Problem, config: &Config, class: usize) -> bool
     requires problem { IsProblem problem.now }
     requires stage { config.now.stage < stages_in problem.now }
@@ -104,7 +107,7 @@ pub(crate) fn is_ready(problem: &Problem, config: &Config, class: usize) -> bool
     next < upto && is_in_time(op_of(problem, config, Source::Unknown(class)), last)
 }
 
-/// The first of the pending operations that may be placed at once and alone.
+/// The index of the first pending operation that may be placed at once and alone, if there is one.
 fn settled(problem: &Problem, config: &Config) -> Option<usize>
     requires problem { IsProblem problem.now }
     ensures some { IfSome result (λ index. IsSettledAt problem.now config.now index) }
@@ -122,7 +125,7 @@ fn settled(problem: &Problem, config: &Config) -> Option<usize>
     None
 }
 
-/// Puts a move last, where the value allows it.
+/// Appends the move of an operation, where the value allows it.
 fn push_move(
     problem: &Problem,
     config: &Config,
@@ -142,7 +145,7 @@ fn push_move(
     Ok(())
 }
 
-/// Puts last the moves of all that happened and is pending, where the value allows them.
+/// Appends the moves of all pending operations, where the value allows them.
 fn push_happened(
     problem: &Problem,
     config: &Config,
@@ -181,7 +184,7 @@ fn is_worth(problem: &Problem, config: &Config, wanted: &Wanted, class: usize) -
     }
 }
 
-/// Puts last a move of each class whose next operation is worth a try.
+/// Appends the move of the next operation of each class where it is worth a try.
 fn push_unknown(
     problem: &Problem,
     config: &Config,
@@ -205,7 +208,8 @@ fn push_unknown(
     Ok(())
 }
 
-/// Finds the ways to go on from a configuration: what happened by invocation, then what is unknown.
+/// Finds the moves from a configuration: first those of operations that are known to have happened,
+/// in the order of their invocations, then those of operations of unknown outcome.
 pub(crate) fn find_moves(
     alloc: Global,
     problem: &Problem,

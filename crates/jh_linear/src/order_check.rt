@@ -1,8 +1,7 @@
-//! A given order, checked without memory.
+//! Checks whether a given order is a linearization, and takes no memory for it.
 //!
 //! `specs/Order.antt` says what an order is, part by part, and `specs/Verdict.antt` which part each
-//! refusal stands for. How a part is looked at may be changed; each part has a function with its
-//! exact clause.
+//! refusal stands for. Each part has a function here, whose clause says exactly that part.
 
 ghost use Rattle.std.specs.Prelude.{◌≡◌, ◌+◌, ◌<◌, ◌↔◌, ◌∷◌, ℤ, Option, length, drop, filter, true};
 ghost use Rattle.std.specs.Prelude.{IsTrue, MatchResult};
@@ -17,25 +16,25 @@ ghost use Rattle.jh_linear.specs.declared.register.Outcome.TheVariants.{Done};
 use crate::register::{Outcome, RegCall, RegOp, after};
 use thiserror::Error;
 
-/// Why places are no order, the first of these that applies.
+/// Why a list of places is no order. The first of these that applies is given.
 #[derive(Clone, Copy, Debug, PartialEq, Eq, Error)]
 pub enum OrderFault {
     /// A place is that of no operation.
     #[error("no such operation")]
     NoSuch,
-    /// A place stands there twice.
+    /// A place stands in the list twice.
     #[error("repeated operation")]
     Repeat,
     /// One of the operations failed.
     #[error("failed operation")]
     Failed,
-    /// An operation that happened is not there.
+    /// An operation that is known to have happened is missing.
     #[error("missing operation")]
     Missing,
-    /// One that ended before another was invoked stands behind that one.
+    /// An operation that ended before another was invoked stands behind that other one.
     #[error("precedence")]
     Precedence,
-    /// The calls do not run on a register, one after another, from the initial value.
+    /// A register with the initial value does not allow the operations one after another.
     #[error("illegal")]
     Illegal,
 }
@@ -45,11 +44,11 @@ pub enum OrderFault {
 ///
 /// Errors, in this order: `NoSuch`, `Repeat`, `Failed`, `Missing`, `Precedence`, `Illegal`.
 ///
-/// Takes no memory. Takes time linear in the operations and the places, but for `Repeat`: there
-/// each place is looked for among those behind it up to the first that was invoked after its end.
-/// So an order of m places with w in flight at once takes m * w steps, and up to m more for each
-/// operation that is not known to have happened. Places that break precedence are compared each
-/// with each: m * m steps.
+/// Takes no memory. Takes time linear in the operations and the places, except for `Repeat`: there
+/// each place is looked for among those behind it, up to the first that was invoked after its end.
+/// So an order of m places with w operations in flight at once takes m * w steps, and up to m more
+/// for each operation that is not known to have happened. Where places break precedence, each is
+/// compared with each, which takes m * m steps.
 pub fn check_order(ops: &[RegOp], initial: Option<i64>, order: &[usize]) -> Result<(), OrderFault>
     requires ends { EndAfterInvoked ops.now }
     ensures judged { MatchResult result
@@ -77,7 +76,7 @@ pub fn check_order(ops: &[RegOp], initial: Option<i64>, order: &[usize]) -> Resu
     Ok(())
 }
 
-/// The operation at a place; past the end, one that failed.
+/// The operation at a place. Past the end it is one that failed.
 pub(crate) fn op_at(ops: &[RegOp], place: usize) -> RegOp
     ensures { result ≡ rule.op_at ops.now place }
 {
@@ -126,7 +125,7 @@ fn is_done(ops: &[RegOp], place: usize) -> bool
     }
 }
 
-/// How many of the places are those of what happened.
+/// How many of the places are those of operations that are known to have happened.
 fn count_done(ops: &[RegOp], order: &[usize]) -> usize
     ensures { result ≡ length (filter (is_op_done ops.now) order.now) }
 {
@@ -139,7 +138,7 @@ fn count_done(ops: &[RegOp], order: &[usize]) -> usize
     count
 }
 
-/// How many operations happened.
+/// How many operations are known to have happened.
 fn count_all_done(ops: &[RegOp]) -> usize
     ensures { result ≡ length (done_places_below ops.now (length ops.now)) }
 {
@@ -152,7 +151,8 @@ fn count_all_done(ops: &[RegOp]) -> usize
     count
 }
 
-/// Whether all that happened is among the places, which are apart: then it is enough to count.
+/// Whether all operations that are known to have happened are among the places. Since no place
+/// stands there twice, it is enough to count them.
 fn has_all_done(ops: &[RegOp], order: &[usize]) -> bool
     requires apart { HasNoneTwice order.now }
     ensures { IsTrue result ↔ HasAllDone ops.now order.now }
@@ -160,7 +160,7 @@ fn has_all_done(ops: &[RegOp], order: &[usize]) -> bool
     count_done(ops, order) == count_all_done(ops)
 }
 
-/// Whether an operation happened, and ended before this place in the history.
+/// Whether an operation is known to have happened, and ended before this place in the history.
 fn is_over(op: RegOp, at: usize) -> bool
     ensures { IsTrue result ↔ ((op.outcome ≡ Done) × EndsBefore op.ended at) }
 {
@@ -170,8 +170,8 @@ fn is_over(op: RegOp, at: usize) -> bool
     }
 }
 
-/// Whether none stands behind one that was invoked after its end. It is enough to know the latest
-/// invocation so far.
+/// Whether no operation stands behind one that was invoked after its end. It is enough to know the
+/// latest invocation so far.
 fn none_late(ops: &[RegOp], order: &[usize]) -> bool
     ensures { IsTrue result ↔ IsNoneLate ops.now order.now }
 {
@@ -186,8 +186,8 @@ fn none_late(ops: &[RegOp], order: &[usize]) -> bool
     true
 }
 
-/// Whether a place is among those behind it. Where none of them is late, it can stand only before
-/// the first that was invoked after its end.
+/// Whether a place is among those behind it. Where these keep precedence (`in_time`), it can stand
+/// only before the first of them that was invoked after its end.
 fn stands_again(ops: &[RegOp], place: usize, behind: &[usize], in_time: bool) -> bool
     requires in_time { in_time ≡ true → IsNoneLate ops.now (place ∷ behind.now) }
     ensures { result ≡ has behind.now place }
@@ -204,7 +204,7 @@ fn stands_again(ops: &[RegOp], place: usize, behind: &[usize], in_time: bool) ->
     false
 }
 
-/// What stands behind a place.
+/// The places behind an index.
 fn behind(order: &[usize], index: usize) -> &[usize]
     requires { index < length order.now }
     ensures { result.now ≡ drop (index + 1) order.now }
@@ -212,7 +212,7 @@ fn behind(order: &[usize], index: usize) -> &[usize]
     &order[index + 1..]
 }
 
-/// Whether no place stands there twice.
+/// Whether no place stands in the list twice.
 fn are_apart(ops: &[RegOp], order: &[usize]) -> bool
     ensures { IsTrue result ↔ HasNoneTwice order.now }
 {
@@ -225,7 +225,7 @@ fn are_apart(ops: &[RegOp], order: &[usize]) -> bool
     true
 }
 
-/// Whether the calls lead from the initial value to some value.
+/// Whether a register with the initial value allows the operations one after another.
 fn runs(ops: &[RegOp], initial: Option<i64>, order: &[usize]) -> bool
     ensures { IsTrue result ↔ ((last : Option ℤ) × IsLegalFrom ops.now initial order.now last) }
 {

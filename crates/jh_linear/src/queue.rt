@@ -1,15 +1,17 @@
-//! Which configuration the search goes on from next. Any would do: nothing that is proved hangs on
-//! the ranks, which say only how soon an order is found.
+//! Which configuration is expanded next: the one of the highest rank. Any other choice would be
+//! right too. Nothing that is proved rests on the ranks, which decide only how soon an order is
+//! found.
 //!
-//! The further a configuration came, the sooner its turn comes, and an operation of unknown outcome
-//! is held to be worth some stages: one that is placed may be wanted later. So an order that does
-//! without it is looked for first, as far as these stages. For the same reason a configuration has
-//! two turns. At the first one only what happened is tried; what is unknown waits for the second.
-//! docs/performance.md has what comes of it.
+//! The more stages a configuration has passed, the higher its rank. Each operation of unknown
+//! outcome that it has placed costs it the rank of some stages, since a later operation may need
+//! that one. So an order that does without it is looked for first, for as many stages as it costs.
+//! For the same reason a configuration is expanded twice: at first only by operations that are
+//! known to have happened, and then, at a lower rank, by those of unknown outcome too.
+//! docs/performance.md shows how many configurations histories take.
 
 ghost use Rattle.std.specs.Prelude.{◌≡◌, [], IfSome, IfNone, OnOk, true};
-ghost use Rattle.jh_linear.specs.TurnsInside.{IsWith};
-ghost use Rattle.jh_linear.specs.declared.queue.Turn.{Turn};
+ghost use Rattle.jh_linear.specs.WaitingInside.{IsWith};
+ghost use Rattle.jh_linear.specs.declared.queue.RankedConfig.{RankedConfig};
 
 use crate::config::Config;
 use crate::history::{History, Problem};
@@ -17,64 +19,64 @@ use std::alloc::{AllocError, Global};
 use std::collections::BinaryHeap;
 use std::marker::Model;
 
-/// At most how many stages one operation of unknown outcome is worth.
+/// How many stages one operation of unknown outcome costs at most.
 const MAX_PRICE: usize = 10;
 
-/// A turn of a configuration to be gone on from. The greatest is taken first.
+/// A configuration that waits to be expanded, with its rank. The greatest is taken first.
 #[derive(Clone, Copy, Debug, PartialEq, Eq, PartialOrd, Ord)]
-pub(crate) struct Turn {
+pub(crate) struct RankedConfig {
     pub(crate) rank: usize,
-    /// The configuration's index. Of the same rank the latest comes first.
+    /// The index of the configuration. Of equal ranks the one that was entered last comes first.
     pub(crate) at: usize,
-    /// Whether all is tried, and not only what happened.
+    /// Whether this is its last expansion, in which all moves are tried.
     pub(crate) is_last: bool,
 }
 
-/// The turns that are to come. A contract sees them in some order.
+/// The configurations that wait. A contract sees a list of them, in some order.
 #[derive(Drop)]
 pub(crate) struct Queue {
-    turns: BinaryHeap<Turn>,
+    configs: BinaryHeap<RankedConfig>,
 }
 
 impl Model for Queue {
     ghost use Rattle.std.specs.Prelude.{List};
     ghost use Rattle.std.specs.BinaryHeap.{heap_items};
-    ghost use Rattle.jh_linear.specs.declared.queue.Turn.{Turn};
+    ghost use Rattle.jh_linear.specs.declared.queue.RankedConfig.{RankedConfig};
 
-    ghost Value = { List Turn };
+    ghost Value = { List RankedConfig };
 
-    ghost view = { λ a. heap_items a.turns };
+    ghost view = { λ a. heap_items a.configs };
 }
 
 impl Queue {
-    /// A queue with no turns.
+    /// A queue in which nothing waits.
     pub(crate) fn new(alloc: Global) -> Queue
         ensures { result ≡ [] }
     {
         Queue {
-            turns: BinaryHeap::new(alloc),
+            configs: BinaryHeap::new(alloc),
         }
     }
 
-    /// Puts in a turn.
-    pub(crate) fn push(&mut self, turn: Turn) -> Result<(), AllocError>
-        ensures { OnOk result (IsWith turn self.old self.new) }
+    /// Lets a configuration wait.
+    pub(crate) fn push(&mut self, ranked: RankedConfig) -> Result<(), AllocError>
+        ensures { OnOk result (IsWith ranked self.old self.new) }
     {
-        self.turns.push(turn)?;
+        self.configs.push(ranked)?;
         Ok(())
     }
 
-    /// Takes out the greatest.
-    pub(crate) fn pop(&mut self) -> Option<Turn>
-        ensures some { IfSome result (λ turn. IsWith turn self.new self.old) }
+    /// Takes out the one of the highest rank.
+    pub(crate) fn pop(&mut self) -> Option<RankedConfig>
+        ensures some { IfSome result (λ ranked. IsWith ranked self.new self.old) }
         ensures none { IfNone result ((self.old ≡ []) × (self.new ≡ [])) }
     {
-        self.turns.pop()
+        self.configs.pop()
     }
 }
 
-/// How many stages one operation of unknown outcome is worth: as many as there are for each of
-/// them, up to a limit.
+/// How many stages one operation of unknown outcome costs: the number of stages divided by the
+/// number of these operations, at least 1, and up to a limit.
 fn price(history: &History) -> usize {
     match history.stages.len().checked_div(history.unknown.len()) {
         Some(stages) => stages.clamp(1, MAX_PRICE),
@@ -82,8 +84,8 @@ fn price(history: &History) -> usize {
     }
 }
 
-/// The rank of a configuration: the stages that it has passed, and the worth of what is unknown and
-/// not placed.
+/// The rank of a configuration: how many stages it has passed, and the price of each operation of
+/// unknown outcome that it has not placed.
 pub(crate) fn rank_of(problem: &Problem, config: &Config) -> usize {
     let mut left = 0usize;
     for (class, next) in problem.history.classes.iter().zip(config.next.as_slice()) {
@@ -93,14 +95,15 @@ pub(crate) fn rank_of(problem: &Problem, config: &Config) -> usize {
         .saturating_add(config.stage)
 }
 
-/// The second turn of a configuration, where what is unknown is tried as well.
-pub(crate) fn second_turn(problem: &Problem, turn: Turn) -> Turn
-    ensures at { result.at ≡ turn.at }
+/// A configuration that waits for its second expansion. It ranks as if it had placed one operation
+/// of unknown outcome more, which is what comes of that expansion.
+pub(crate) fn second_expansion(problem: &Problem, ranked: RankedConfig) -> RankedConfig
+    ensures at { result.at ≡ ranked.at }
     ensures last { result.is_last ≡ true }
 {
-    Turn {
-        rank: turn.rank.saturating_sub(price(&problem.history)),
-        at: turn.at,
+    RankedConfig {
+        rank: ranked.rank.saturating_sub(price(&problem.history)),
+        at: ranked.at,
         is_last: true,
     }
 }

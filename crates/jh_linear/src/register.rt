@@ -1,7 +1,8 @@
-//! The operations of a register, as the judge takes them, and the register itself.
+//! The operations of a register, as the checker takes them, and the register itself.
 //!
-//! `specs/Order.antt` has the register's rule. What the search leaves out, and what it places at
-//! once, stands in `specs/SearchInside.antt`, and may be changed where no order is lost.
+//! `specs/Order.antt` says how the register behaves (`Allows`). `specs/SearchInside.antt` says
+//! which operations the search leaves out (`IsUnsureChange` has those that it tries), and which it
+//! places at once (`IsSettled`).
 
 ghost use Rattle.std.specs.Prelude.{◌≡◌, ℤ, Option, Some, IfSome, IsTrue, ◌↔◌, true};
 ghost use Rattle.jh_linear.specs.Order.{Allows};
@@ -18,22 +19,25 @@ pub enum Outcome {
     Done,
     /// It did not happen.
     Failed,
-    /// It is not known: it may take effect at any time after its invocation, or never.
+    /// It is not known whether it happened: it may take effect at any time after its invocation, or
+    /// never.
     Unsure,
 }
 
 /// What was asked of the register, whose value is an integer or nil.
 #[derive(Clone, Copy, Debug, PartialEq, Eq, PartialOrd, Ord)]
 pub enum RegCall {
-    /// Read this value, or any where none is parsed.
+    /// A read that answered this value. `None` stands for any value, as of a read that answered
+    /// nil.
     Read(Option<i64>),
-    /// Write this value.
+    /// A write of this value.
     Write(i64),
-    /// Compare and set: where the first value is held, write the second.
+    /// A compare-and-set: where the register has the first value, it gets the second.
     Cas(i64, i64),
 }
 
-/// One operation, with the places in the history where it was invoked and where it ended.
+/// One operation: an invocation with its outcome, and the places in the history where it was
+/// invoked and where it ended.
 #[derive(Clone, Copy, Debug, PartialEq, Eq)]
 pub struct RegOp {
     pub invoked: usize,
@@ -42,7 +46,8 @@ pub struct RegOp {
     pub call: RegCall,
 }
 
-/// The register's value after a call, or nothing where the value does not allow the call.
+/// The value of the register after a call, or nothing where its value before does not allow the
+/// call.
 pub(crate) fn after(call: RegCall, value: Option<i64>) -> Option<Option<i64>>
     ensures allowed { IfSome result (λ next. Allows call value next) }
     ensures only { (next : Option ℤ) → Allows call value next → result ≡ Some next }
@@ -65,8 +70,8 @@ fn value_is(value: Option<i64>, wanted: i64) -> bool
     }
 }
 
-/// Whether an operation is tried though it is not known to have happened. A read is not: an order
-/// holds without it.
+/// Whether an operation is tried though it is not known to have happened. A read is not tried,
+/// since an order that has it is still an order when it is left out.
 pub(crate) fn is_unknown(op: RegOp) -> bool
     ensures { result ≡ rule.is_unsure_change op.outcome op.call }
 {
@@ -77,7 +82,8 @@ pub(crate) fn is_unknown(op: RegOp) -> bool
     }
 }
 
-/// The value that a call needs, where no other would do.
+/// The value that the register must have for a call, if there is one: that of a read, or the first
+/// of a compare-and-set.
 pub(crate) fn needed(call: RegCall) -> Option<i64>
     ensures { (value : Option ℤ) → Needs call value → (x : ℤ) × (result ≡ Some x)
         × (value ≡ Some x) }
@@ -89,7 +95,8 @@ pub(crate) fn needed(call: RegCall) -> Option<i64>
     }
 }
 
-/// Whether two calls are one call. Reads are never: nobody asks.
+/// Whether two calls are the same. It is always false for reads, which are never compared: the
+/// search compares the calls of operations of unknown outcome only, and leaves reads of these out.
 pub(crate) fn is_same(first: RegCall, second: RegCall) -> bool
     ensures { result ≡ true → first ≡ second }
 {
@@ -101,8 +108,9 @@ pub(crate) fn is_same(first: RegCall, second: RegCall) -> bool
     }
 }
 
-/// Whether an operation is a read that happened and that the value allows. Wherever one may come
-/// next, it may come at once: what follows it is not changed by it.
+/// Whether an operation is a read that is known to have happened, and that the value allows. Such a
+/// read can be placed at once wherever it may come next, since it changes nothing for the
+/// operations that follow.
 pub(crate) fn is_settled(op: RegOp, value: Option<i64>) -> bool
     ensures settled { result ≡ true → IsSettled op value }
     ensures other { result ≡ false → op.outcome ≡ Done → op.call ≡ Read None → ⊥ }

@@ -1,4 +1,5 @@
-//! Where a search that came to its end got stuck. `specs/Stuck.antt` says what it stands for.
+//! Why there is no order: the completion at which a search got stuck that expanded all
+//! configurations. `specs/Stuck.antt` says what that means.
 
 ghost use Rattle.std.specs.Prelude.{◌≡◌, ◌++◌, ℤ, ◌<◌, Option, length, reverse, IfOk, OnOk};
 ghost use Rattle.jh_linear.specs.Order.{IsLegalFrom};
@@ -13,10 +14,10 @@ use crate::history::Problem;
 use crate::order_check::op_at;
 use crate::register::{Outcome, RegOp, after};
 use crate::search::Search;
-use crate::verdict::{Order, Step, Stuck};
+use crate::verdict::{Linearization, Step, Stuck};
 use std::alloc::{AllocError, Global};
 
-/// The order that a step stands for.
+/// The order that the step at an index stands for.
 pub(crate) fn order_of(alloc: Global, steps: &[Step], last: usize) -> Result<Vec<usize>, AllocError>
     requires earlier { NameEarlier steps.now }
     requires last { last < length steps.now }
@@ -33,7 +34,7 @@ pub(crate) fn order_of(alloc: Global, steps: &[Step], last: usize) -> Result<Vec
     Ok(order)
 }
 
-/// Puts places last, from the last to the first.
+/// Appends places, from the last to the first.
 fn push_reversed(order: &mut Vec<usize>, placed: &[usize]) -> Result<(), AllocError>
     ensures { OnOk result (order.new.items ≡ order.old.items ++ reverse placed.now) }
 {
@@ -44,14 +45,14 @@ fn push_reversed(order: &mut Vec<usize>, placed: &[usize]) -> Result<(), AllocEr
     Ok(())
 }
 
-/// Where an operation ended; one with no such place ends after all others.
+/// The place where an operation ended. One with no such place ends after all others.
 fn end_of(op: RegOp) -> usize
     ensures { result ≡ rule.op_end op }
 {
     op.ended.unwrap_or(usize::MAX)
 }
 
-/// Whether an operation is known to have happened, in a history that is cut at a place.
+/// Whether an operation is known to have happened by a history that is cut right before a place.
 fn is_known(op: RegOp, cut: usize) -> bool
     ensures { result ≡ inside.is_known op cut }
 {
@@ -61,7 +62,8 @@ fn is_known(op: RegOp, cut: usize) -> bool
     }
 }
 
-/// How many of the places there are up to the last that is known to have happened.
+/// How many places of an order there are up to the last operation that is known to have happened,
+/// by a history that is cut right before a place.
 fn known_until(ops: &[RegOp], order: &[usize], cut: usize) -> usize
     ensures { IsKnownUntil ops.now order.now cut result }
 {
@@ -74,7 +76,7 @@ fn known_until(ops: &[RegOp], order: &[usize], cut: usize) -> usize
     count
 }
 
-/// The value that an order leads to.
+/// The value that the register has after an order.
 fn value_after(ops: &[RegOp], initial: Option<i64>, order: &[usize]) -> Option<i64>
     ensures { (last : Option ℤ) → IsLegalFrom ops.now initial order.now last → result ≡ last }
 {
@@ -87,7 +89,7 @@ fn value_after(ops: &[RegOp], initial: Option<i64>, order: &[usize]) -> Option<i
     value
 }
 
-/// Why there is no order, where nothing waits any more.
+/// Why there is no order, where no configuration waits any more.
 pub(crate) fn stuck_of(
     alloc: Global,
     problem: &Problem,
@@ -105,7 +107,7 @@ pub(crate) fn stuck_of(
     let value = value_after(problem.ops, problem.initial, order.as_slice());
     Ok(Stuck {
         end,
-        order: Order::of(order),
+        order: Linearization::of(order),
         value,
     })
 }

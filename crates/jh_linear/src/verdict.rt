@@ -1,4 +1,4 @@
-//! What the judge answers.
+//! What the checker answers.
 //!
 //! `specs/Verdict.antt` says what each answer means, over the lists that contracts see here.
 
@@ -6,13 +6,14 @@ ghost use Rattle.std.specs.Prelude.{◌≡◌};
 
 use std::marker::Model;
 
-/// Places of operations, one after another. A contract sees a list.
+/// The places of operations in the order in which these are linearized: a linearization, or a part
+/// of one. A contract sees a list.
 #[derive(Debug, Drop)]
-pub struct Order {
+pub struct Linearization {
     places: Vec<usize>,
 }
 
-impl Model for Order {
+impl Model for Linearization {
     ghost use Rattle.std.specs.Prelude.{List, ℕ};
 
     ghost Value = { List ℕ };
@@ -20,12 +21,12 @@ impl Model for Order {
     ghost view = { λ a. a.places.items };
 }
 
-impl Order {
-    /// The order of a vector. Takes no memory.
-    pub fn of(places: Vec<usize>) -> Order
+impl Linearization {
+    /// The linearization with the places of a vector. Takes no memory.
+    pub fn of(places: Vec<usize>) -> Linearization
         ensures { result ≡ places.items }
     {
-        Order { places }
+        Linearization { places }
     }
 
     /// The places, one after another.
@@ -35,25 +36,25 @@ impl Order {
         self.places.as_slice()
     }
 
-    /// The vector, given back without memory.
+    /// The vector of the places. Takes no memory.
     pub fn into_vec(self) -> Vec<usize>
         ensures { result.items ≡ self }
     {
-        let Order { places } = self;
+        let Linearization { places } = self;
         places
     }
 }
 
-/// A configuration that the judge reached, as one before it and what was placed since: it stands
-/// for the order of the step `parent` with `placed` behind it. The first step of all names itself,
-/// places nothing, and stands for the empty order.
+/// A configuration that the search reached, given as an earlier one and the operations that were
+/// linearized since: it stands for the order of the step `parent` with `placed` behind it. The
+/// first step of all names itself as its parent, places nothing, and stands for the empty order.
 #[derive(Debug, Drop)]
 pub struct Step {
     pub parent: usize,
-    pub placed: Order,
+    pub placed: Linearization,
 }
 
-/// What the judge reached, step by step. A contract sees a list of steps.
+/// The configurations that the search reached, each as a step. A contract sees a list of steps.
 #[derive(Debug, Drop)]
 pub struct Reached {
     steps: Vec<Step>,
@@ -69,21 +70,21 @@ impl Model for Reached {
 }
 
 impl Reached {
-    /// What the steps of a vector stand for. Takes no memory.
+    /// The configurations that the steps of a vector stand for. Takes no memory.
     pub fn of(steps: Vec<Step>) -> Reached
         ensures { result ≡ steps.items }
     {
         Reached { steps }
     }
 
-    /// The steps, one after another.
+    /// The steps.
     pub fn as_slice(&self) -> &[Step]
         ensures { result.now ≡ self.now }
     {
         self.steps.as_slice()
     }
 
-    /// The vector, given back without memory.
+    /// The vector of the steps. Takes no memory.
     pub fn into_vec(self) -> Vec<Step>
         ensures { result.items ≡ self }
     {
@@ -92,28 +93,29 @@ impl Reached {
     }
 }
 
-/// Why operations have no order: where the history is to be cut for them to have one.
-/// `specs/Stuck.antt` says what is known of operations in a history that is cut.
+/// Why operations have no linearization: the completion right before which the history has to be
+/// cut for them to have one. `specs/Stuck.antt` says what is known of operations in a history that
+/// is cut.
 #[derive(Debug, Drop)]
 pub struct Stuck {
-    /// The place of the first completion with which there is no order any more: where the operation
-    /// ended that it completes, and `usize::MAX` for one that happened and has no such place. Of
-    /// several at one place any may be meant.
+    /// The place of the first completion with which there is no linearization any more. It is the
+    /// place where the operation ended, and `usize::MAX` for an operation that happened and has no
+    /// such place. Where several operations ended at that place, any of them may be meant.
     pub end: usize,
-    /// An order of the history cut right before that completion.
-    pub order: Order,
-    /// The register's value after that order.
+    /// A linearization of the history that is cut right before that completion.
+    pub order: Linearization,
+    /// The value of the register after it.
     pub value: Option<i64>,
 }
 
-/// The judge's answer on the operations of a register.
+/// The checker's answer on the operations of a register.
 #[derive(Debug, Drop)]
 pub enum LinVerdict {
-    /// They can have happened in this order.
-    Valid(Order),
-    /// There is no order in which they can have happened, and this is where it ends.
+    /// They are linearizable: they can have taken effect in this order.
+    Valid(Linearization),
+    /// They are not linearizable, and this is the completion at which that shows.
     Invalid(Stuck),
-    /// The budget was used up: as many steps as the budget, no two of which stand for the same
-    /// places and value.
+    /// The budget was used up. There are as many steps as the budget, no two of which stand for the
+    /// same operations and value.
     Unknown(Reached),
 }

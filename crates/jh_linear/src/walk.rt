@@ -1,5 +1,6 @@
-//! A configuration that goes on in place, as long as there is one way to go on. `specs/SearchInside.antt`
-//! says that no order is lost by it (`HasGone`).
+//! A configuration that is changed in place as long as it has one move only, so that none of those
+//! between are entered. `specs/SearchInside.antt` says that no order is lost by it (`HasGone`),
+//! which `gone_on` and `dead_end` in `proofs/WalkLemmas.antt` show.
 
 ghost use Rattle.std.specs.Prelude.{◌≡◌, ◌<◌, length, vec_len, IfOk, OnOk};
 ghost use Rattle.jh_linear.specs.SearchInside.{EndsAs, HasGone, IsMadeBy, IsMove, IsProblem, stages_in};
@@ -9,35 +10,36 @@ use crate::history::Problem;
 use crate::moves::{Move, find_moves, place_of};
 use std::alloc::{AllocError, Global};
 
-/// Where a configuration that goes on in place ends.
+/// How a walk ended.
 pub(crate) enum WalkEnd {
-    /// There are several ways to go on.
+    /// The configuration has several moves.
     Several,
-    /// There is none.
+    /// It has no move.
     Stuck,
-    /// Every stage is passed.
+    /// It has passed every stage, so that its order is complete.
     Complete,
 }
 
-/// Makes a move, and puts its operation behind those that were placed.
+/// Makes a move, and appends its operation to those that were placed.
 pub(crate) fn make(
     problem: &Problem,
     config: &mut Config,
     placed: &mut Vec<usize>,
-    step: Move,
+    next_move: Move,
 ) -> Result<(), AllocError>
     requires problem { IsProblem problem.now }
     requires stage { config.old.stage < stages_in problem.now }
     requires sizes { vec_len config.old.next ≡ length problem.now.history.classes.items }
-    requires moves { IsMove problem.now config.old step }
+    requires moves { IsMove problem.now config.old next_move }
     ensures { OnOk result
-        (IsMadeBy problem.now config.old placed.old.items step config.new placed.new.items) }
+        (IsMadeBy problem.now config.old placed.old.items next_move config.new placed.new.items) }
 {
-    placed.push(place_of(problem, config, step.source))?;
-    place(problem, config, step)
+    placed.push(place_of(problem, config, next_move.source))?;
+    place(problem, config, next_move)
 }
 
-/// Goes on as long as there is one way to go on. Each way is one operation more, so it ends.
+/// Makes moves as long as there is one only. Each places one operation more, so as many moves as
+/// there are operations are enough.
 pub(crate) fn walk(
     alloc: Global,
     problem: &Problem,

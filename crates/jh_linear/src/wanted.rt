@@ -1,5 +1,9 @@
-//! The values that something which may come next needs. They are put into a set once for all ways
-//! to go on, since there may be as many of these as operations.
+//! The values that are wanted at a configuration: those that some operation which may come next
+//! needs the register to have. An operation of unknown outcome is tried only where it leads to one
+//! of them. What comes next otherwise is a write, and overwrites the value, or a read of unknown
+//! outcome, which is left out (`by_size` in `proofs/LeadLemmas.antt`). The values are put into a
+//! set once for a configuration, and not looked for anew for each move, since there may be many
+//! moves.
 
 ghost use Rattle.std.specs.Prelude.{◌≡◌, ℤ, ◌<◌, false, Option, Some, OnOk, IfOk, length, vec_len};
 ghost use Rattle.jh_linear.specs.SearchInside.{IsProblem, IsReady, IsWanted, Needs, source_call};
@@ -14,13 +18,13 @@ use crate::register::{RegCall, needed};
 use std::alloc::{AllocError, Global};
 use std::collections::HashSet;
 
-/// Values of the register.
+/// The values of the register that are wanted.
 #[derive(Drop)]
 pub(crate) struct Wanted {
     pub(crate) values: HashSet<i64>,
 }
 
-/// Puts in the value that a call needs, if it needs one.
+/// Adds the value that a call needs, if it needs one.
 fn put(wanted: &mut Wanted, call: RegCall) -> Result<(), AllocError>
     ensures needs { OnOk result ((value : Option ℤ) → Needs call value → Holds wanted.new value) }
     ensures more { OnOk result (HoldsMore wanted.old wanted.new) }
@@ -31,7 +35,7 @@ fn put(wanted: &mut Wanted, call: RegCall) -> Result<(), AllocError>
     Ok(())
 }
 
-/// Whether a value is one of them.
+/// Whether a value is wanted.
 pub(crate) fn is_held(wanted: &Wanted, value: Option<i64>) -> bool
     ensures { result ≡ false → Holds wanted.now value → ⊥ }
 {
@@ -41,7 +45,7 @@ pub(crate) fn is_held(wanted: &Wanted, value: Option<i64>) -> bool
     }
 }
 
-/// Puts in what each operation needs that happened and is pending.
+/// Adds the values that the pending operations need.
 fn put_happened(problem: &Problem, config: &Config, wanted: &mut Wanted) -> Result<(), AllocError>
     ensures happened { OnOk result
         (HoldsHappened problem.now config.now wanted.new (vec_len config.now.pending)) }
@@ -53,7 +57,7 @@ fn put_happened(problem: &Problem, config: &Config, wanted: &mut Wanted) -> Resu
     Ok(())
 }
 
-/// Puts in what the next operation of a class needs, where it may come next.
+/// Adds the value that the next operation of a class needs, where that operation may come next.
 fn put_next(
     problem: &Problem,
     config: &Config,
@@ -74,7 +78,7 @@ fn put_next(
     Ok(())
 }
 
-/// Puts in what the next operation of each class needs, where it may come next.
+/// Adds the values that the next operations of the classes need, where these may come next.
 fn put_unknown(problem: &Problem, config: &Config, wanted: &mut Wanted) -> Result<(), AllocError>
     requires problem { IsProblem problem.now }
     requires stage { config.now.stage < stages_in problem.now }
@@ -89,7 +93,7 @@ fn put_unknown(problem: &Problem, config: &Config, wanted: &mut Wanted) -> Resul
     Ok(())
 }
 
-/// The values that something which may come next needs.
+/// The values that are wanted at a configuration.
 pub(crate) fn wanted_by(
     alloc: Global,
     problem: &Problem,

@@ -6,7 +6,7 @@ use Rattle.std.proofs.lemmas.Bool.{false≢true}
 use Rattle.std.proofs.lemmas.List.Elements.{All-contains, All-map}
 use Rattle.jh_checkers.specs.declared.checker.Checker.TheVariants.{Register}
 use Rattle.jh_edn.specs.Edn.{Edn, nil, boolean, int, char, str, keyword, symbol, list, vector, mapping, set, tagged, is_integer, is_keyword}
-use Rattle.jh_linear.specs.Calls.{IsLeastBad, answer_in, answered_value, bad_place, completion_of, op_with_call, place_of_value, read_of, reg_call_of, reg_op_of}
+use Rattle.jh_linear.specs.Operations.{IsLeastBad, answer_in, answered_value, bad_place, completion_of, op_with_call, place_of_value, read_of, reg_call_of, reg_op_of}
 use Rattle.jh_ops.specs.Operation.{Operation}
 use Rattle.jh_ops.specs.Pairing.{history_pairs}
 use Rattle.jh_ops.specs.Requests.{asked_content, request_name}

@@ -1,7 +1,7 @@
 //! Histories of a register with what the judge says of each, and orders with what is wrong with them.
 
 use crate::check::rows::{Ask, ask_all, calls_in};
-use jh_linear::{LinVerdict, Order, OrderFault, Reached, RegOpsError, check, check_order};
+use jh_linear::{LinVerdict, Linearization, OrderFault, Reached, RegOpsError, check, check_order};
 use std::alloc::Global;
 use std::test::Fail;
 
@@ -150,7 +150,7 @@ fn errors_have_messages(rt: HostRuntime) -> Result<(), Fail> {
 
 #[test]
 fn gives_vectors_back(rt: HostRuntime) {
-    let order = Order::of(Vec::new(rt.alloc()));
+    let order = Linearization::of(Vec::new(rt.alloc()));
     assert_eq!(rt; order.as_slice().len(), 0);
     assert_eq!(rt; order.into_vec().len(), 0);
     let reached = Reached::of(Vec::new(rt.alloc()));

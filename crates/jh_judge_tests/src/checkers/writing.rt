@@ -4,7 +4,7 @@ use crate::narrow::Narrow;
 use crate::spelled::ops_of;
 use jh_checkers::{Explanation, Finding, write_finding};
 use jh_edn::EdnError;
-use jh_linear::{LinVerdict, Order, Stuck};
+use jh_linear::{LinVerdict, Linearization, Stuck};
 use std::alloc::Global;
 
 /// The line of the finding below.
@@ -16,7 +16,7 @@ const STUCK: &str =
 fn stuck_finding(alloc: Global) -> Option<Finding> {
     let stuck = Stuck {
         end: 4,
-        order: Order::of(Vec::from_slice(alloc, &[2, 0]).ok()?),
+        order: Linearization::of(Vec::from_slice(alloc, &[2, 0]).ok()?),
         value: Some(-7),
     };
     let explanation = Explanation {

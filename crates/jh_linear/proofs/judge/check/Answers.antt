@@ -5,10 +5,10 @@ use Rattle.jh_linear.specs.declared.verdict.Step.{Step}
 use Rattle.jh_linear.specs.Order.{IsOrder}
 use Rattle.jh_linear.specs.Reached.{order_at, AreReached, NameEarlier}
 use Rattle.jh_linear.specs.SearchInside.{IsProblem}
-use Rattle.jh_linear.specs.TurnsInside.{awaits}
-use Rattle.jh_linear.proofs.JudgeLemmas.{empty_order, is_order, all_reached, fewer_turns, kept_emptied, kept_on}
+use Rattle.jh_linear.specs.WaitingInside.{awaits}
+use Rattle.jh_linear.proofs.JudgeLemmas.{empty_order, is_order, all_reached, fewer_expansions, kept_emptied, kept_on}
 use Rattle.jh_linear.proofs.StuckLemmas.{no_order}
-use Rattle.jh_linear.proofs.TurnLemmas.{awaits_own}
+use Rattle.jh_linear.proofs.WaitingLemmas.{awaits_own}
 use Rattle.jh_linear.proofs.judge.check.Goals as goal
 
 pub returns-then-is_empty : goal.returns-then-is_empty
@@ -29,8 +29,8 @@ start-requires-clause-problem c = record { ends = c.requires.ends; history = c.i
 pub config_at-requires : goal.config_at-requires
 config_at-requires c =
     let kept = c.searching.invariant in
-    let there : awaits c.searching.search.waiting c.in-Some.turn.at ≡ true = awaits_own c.in-Some.turn c.pop.new.self c.searching.search.waiting c.in-Some.ensures.some in
-    omega (arith, kept.inside c.in-Some.turn.at there, kept.begun.known.sizes)
+    let there : awaits c.searching.search.waiting c.in-Some.ranked.at ≡ true = awaits_own c.in-Some.ranked c.pop.new.self c.searching.search.waiting c.in-Some.ensures.some in
+    omega (arith, kept.inside c.in-Some.ranked.at there, kept.begun.known.sizes)
 
 pub expand-requires-clause-problem : goal.expand-requires-clause-problem
 expand-requires-clause-problem c = record { ends = c.requires.ends; history = c.in_ok-history.ensures.history; classes = c.in_ok-history.ensures.classes }
@@ -60,7 +60,7 @@ order_of-requires-clause-earlier c =
 pub order_of-requires-clause-last : goal.order_of-requires-clause-last
 order_of-requires-clause-last c =
     let e = rw c.in-Complete.is at c.in_ok-expand.ensures in
-    subst (λ (ss : List Step). c.in-Some.turn.at < length ss) (sym c.as_slice.ensures.value) e.1
+    subst (λ (ss : List Step). c.in-Some.ranked.at < length ss) (sym c.as_slice.ensures.value) e.1
 
 pub returns-in-Complete : goal.returns-in-Complete
 returns-in-Complete c =
@@ -72,9 +72,9 @@ returns-in-Complete c =
       judged = (
         some,
         subst (λ o. IsOrder c.args.ops.now c.args.initial o)
-            (sym (c.of-in-Complete.ensures ∙ c.in_ok-extend_from_slice-in-Complete.ensures.items ∙ ap (λ o. o ++ c.as_slice-in-Complete.result.now) (c.in_ok-order-in-Complete.ensures ∙ ap (λ (ss : List Step). order_at ss c.in-Some.turn.at) c.as_slice.ensures.value)
-            ∙ ap (λ o. order_at c.expand.new.search.steps.items c.in-Some.turn.at ++ o) c.as_slice-in-Complete.ensures.value))
-            (is_order p stood (order_at c.expand.new.search.steps.items c.in-Some.turn.at ++ c.in-Complete.placed.items) e.0),
+            (sym (c.of-in-Complete.ensures ∙ c.in_ok-extend_from_slice-in-Complete.ensures.items ∙ ap (λ o. o ++ c.as_slice-in-Complete.result.now) (c.in_ok-order-in-Complete.ensures ∙ ap (λ (ss : List Step). order_at ss c.in-Some.ranked.at) c.as_slice.ensures.value)
+            ∙ ap (λ o. order_at c.expand.new.search.steps.items c.in-Some.ranked.at ++ o) c.as_slice-in-Complete.ensures.value))
+            (is_order p stood (order_at c.expand.new.search.steps.items c.in-Some.ranked.at ++ c.in-Complete.placed.items) e.0),
       );
     }
 
@@ -83,14 +83,14 @@ searching-preserved c =
     let p : Problem = record { ops = c.args.ops; initial = c.args.initial; history = c.in_ok-history.history; budget = c.args.budget } in
     let stood : IsProblem p = record { ends = c.requires.ends; history = c.in_ok-history.ensures.history; classes = c.in_ok-history.ensures.classes } in
     let e = rw c.in-More.is at c.in_ok-expand.ensures in
-    kept_on p stood c.searching.search c.expand.new.search c.in-Some.turn c.pop.new.self c.in-Some.ensures.some c.searching.invariant e
+    kept_on p stood c.searching.search c.expand.new.search c.in-Some.ranked c.pop.new.self c.in-Some.ensures.some c.searching.invariant e
 
 pub searching-smaller : goal.searching-smaller
 searching-smaller c =
     let p : Problem = record { ops = c.args.ops; initial = c.args.initial; history = c.in_ok-history.history; budget = c.args.budget } in
     let stood : IsProblem p = record { ends = c.requires.ends; history = c.in_ok-history.ensures.history; classes = c.in_ok-history.ensures.classes } in
     let e = rw c.in-More.is at c.in_ok-expand.ensures in
-    fewer_turns p stood c.searching.search c.expand.new.search c.in-Some.turn c.pop.new.self c.in-Some.ensures.some c.searching.invariant e
+    fewer_expansions p stood c.searching.search c.expand.new.search c.in-Some.ranked c.pop.new.self c.in-Some.ensures.some c.searching.invariant e
 
 pub stuck_of-requires-clause-problem : goal.stuck_of-requires-clause-problem
 stuck_of-requires-clause-problem c = record { ends = c.requires.ends; history = c.in_ok-history.ensures.history; classes = c.in_ok-history.ensures.classes }

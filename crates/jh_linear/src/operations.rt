@@ -1,16 +1,18 @@
-//! The operations of a register in the pairs of a history.
+//! The operations of a register in a history: one for each pair of an invocation and its
+//! completion.
 //!
-//! `specs/Calls.antt` says which call each pair stands for, and where a bad value is reported.
+//! `specs/Operations.antt` says which operation each pair stands for, and where a bad value is
+//! reported.
 
 ghost use Rattle.std.specs.Prelude.{◌≡◌, All, IfOk, MatchResult, length, slice_get, option_map};
 ghost use Rattle.jh_edn.specs.View.{view};
 ghost use Rattle.jh_ops.specs.Operation.{operation, operations};
 ghost use Rattle.jh_ops.specs.Pairing.{IsPairWithin};
-ghost use Rattle.jh_linear.specs.Calls as rule;
+ghost use Rattle.jh_linear.specs.Operations as rule;
 ghost use Rattle.jh_linear.specs.CheckingInside as place;
-ghost use Rattle.jh_linear.specs.Calls.{AreRegOps, IsLeastBad, RefusesPairs};
+ghost use Rattle.jh_linear.specs.Operations.{AreRegOps, IsLeastBad, RefusesPairs};
 ghost use Rattle.jh_linear.specs.Order.{EndAfterInvoked};
-ghost use Rattle.jh_linear.specs.declared.calls.RegOpsError.TheVariants.{OutOfMemory};
+ghost use Rattle.jh_linear.specs.declared.operations.RegOpsError.TheVariants.{OutOfMemory};
 
 use crate::register::{Outcome, RegCall, RegOp};
 use jh_edn::Value;
@@ -18,11 +20,11 @@ use jh_ops::{Kind, Op, Pair};
 use std::alloc::{AllocError, AllocFailed, Global};
 use thiserror::Error;
 
-/// Why the pairs of a history stand for no operations of a register.
+/// Why a history has no operations of a register.
 #[derive(Clone, Copy, Debug, PartialEq, Eq, Error)]
 pub enum RegOpsError {
-    /// The operation at this place of the history, from 0, has a value that its function does not
-    /// take, or a function that no register has.
+    /// The invocation or completion at this place of the history, from 0, has a value that its
+    /// function does not take, or a function that no register has.
     #[error("operation {0}: bad value")]
     BadValue(usize),
     #[error("out of memory")]
@@ -48,47 +50,49 @@ impl<T: Drop> From<AllocFailed<T>> for RegOpsError {
 /// The operations of a register that pairs stand for, one each, in the order of the pairs: those
 /// that `jh_ops::pair` gives for the history. Only client operations are in pairs.
 ///
-/// A `:read` has the value that its `:ok` completion has, an integer or nil; one that did not
-/// complete `:ok` has nil. A `:write` has the integer, a `:cas` the two integers `[old new]`, in a
-/// vector or a list, that it was invoked with. The function is that of the invocation. `:ok`
-/// happened, `:fail` did not; `:info`, or no completion, is not known. An operation ended at the
-/// place of its completion, whatever that was.
+/// The function of an operation is that of its invocation. A `:read` has the value of its `:ok`
+/// completion, which is an integer or nil. A `:read` that did not complete `:ok` has nil. A
+/// `:write` has the integer that it was invoked with, and a `:cas` the two integers `[old new]`, in
+/// a vector or a list. An operation that completed `:ok` happened, and one that completed `:fail`
+/// did not. Of one that completed `:info`, or has no completion, it is not known. An operation
+/// ended at the place of its completion, whatever that was.
 ///
 /// The operations meet the condition of `check` and `check_order`.
 ///
-/// Errors: `BadValue` at the least place of one: of a `:read` at its completion, of any other, also
-/// one with another function, at its invocation. `OutOfMemory` only where no value is bad.
+/// Errors: `BadValue` at the least place of a bad value. That of a `:read` is reported at its
+/// completion, that of any other operation at its invocation, and so is a function that is none of
+/// the three. `OutOfMemory` only where no value is bad.
 ///
 /// Takes time linear in the pairs.
 pub fn reg_ops(alloc: Global, ops: &[Op], pairs: &[Pair]) -> Result<Vec<RegOp>, RegOpsError>
     requires within { All (IsPairWithin (length ops.now)) pairs.now }
     ensures parsed { MatchResult result
-        (λ calls. AreRegOps (operations ops.now) pairs.now calls.items)
+        (λ register_ops. AreRegOps (operations ops.now) pairs.now register_ops.items)
         (RefusesPairs (operations ops.now) pairs.now) }
-    ensures ends { IfOk result (λ calls. EndAfterInvoked calls.items) }
+    ensures ends { IfOk result (λ register_ops. EndAfterInvoked register_ops.items) }
 {
     if let Some(place) = least_bad(ops, pairs) {
         return Err(RegOpsError::BadValue(place));
     }
-    let mut calls = Vec::with_capacity(alloc, pairs.len())?;
+    let mut register_ops = Vec::with_capacity(alloc, pairs.len())?;
     for pair in pairs {
-        if let Some(call) = reg_op(ops, *pair) {
-            calls.push(call)?;
+        if let Some(operation) = reg_op(ops, *pair) {
+            register_ops.push(operation)?;
         }
     }
-    Ok(calls)
+    Ok(register_ops)
 }
 
-// What stands at a place, and what it means, each as the definition of the same name has it.
+// Each of these functions computes the definition of nearly the same name in specs/Operations.antt.
 
-/// The operation at a place, if there is one.
-fn op_at(ops: &[Op], place: usize) -> Option<&Op>
+/// The invocation or completion at a place of the history, if there is one.
+fn history_op_at(ops: &[Op], place: usize) -> Option<&Op>
     ensures { option_map (λ op. operation op.now) result ≡ slice_get (operations ops.now) place }
 {
     ops.get(place)
 }
 
-/// The read that was answered with this value, an integer or nil.
+/// The read that answered this value, which has to be an integer or nil.
 fn read_of(value: &Value) -> Option<RegCall>
     ensures { result ≡ rule.read_of (view value.now) }
 {
@@ -107,7 +111,7 @@ fn write_of(value: &Value) -> Option<RegCall>
     Some(RegCall::Write(new))
 }
 
-/// The compare and set of a value, which has to be two integers in a vector or a list.
+/// The compare-and-set of a value, which has to be two integers in a vector or a list.
 fn cas_of(value: &Value) -> Option<RegCall>
     ensures { result ≡ rule.cas_of (view value.now) }
 {
@@ -117,7 +121,8 @@ fn cas_of(value: &Value) -> Option<RegCall>
     }
 }
 
-/// The register's call that an invocation means; what a read has seen is the answer.
+/// What an invocation asks of the register. The value of a read is its answer, and not that of its
+/// invocation.
 fn call_of(invocation: &Op, answer: Option<&Value>) -> Option<RegCall>
     ensures { result
         ≡ rule.reg_call_of (view invocation.now.f) (view invocation.now.value)
@@ -143,10 +148,10 @@ fn completion_of(ops: &[Op], pair: Pair) -> Option<&Op>
         ≡ rule.completion_of (operations ops.now) pair }
 {
     let place = pair.outcome?;
-    op_at(ops, place)
+    history_op_at(ops, place)
 }
 
-/// How an operation with this completion ended; one without a completion may have happened.
+/// How an operation with this completion ended. One without a completion may have happened.
 fn outcome_of(completion: Option<&Op>) -> Outcome
     ensures { result ≡ rule.outcome_of (option_map (λ op. op.now.kind) completion.entry) }
 {
@@ -160,7 +165,7 @@ fn outcome_of(completion: Option<&Op>) -> Outcome
     }
 }
 
-/// The value of a completion that is `:ok`.
+/// The value of a completion, where that is `:ok`.
 fn answer_of(completion: Option<&Op>) -> Option<&Value>
     ensures { option_map (λ v. view v.now) result
         ≡ rule.answered_value (option_map (λ op. operation op.now) completion.entry) }
@@ -172,11 +177,11 @@ fn answer_of(completion: Option<&Op>) -> Option<&Value>
     }
 }
 
-/// The register's operation of a pair, if its call can be parsed.
+/// The operation of a register that a pair stands for, if its value can be parsed.
 fn reg_op(ops: &[Op], pair: Pair) -> Option<RegOp>
     ensures { result ≡ rule.reg_op_of (operations ops.now) pair }
 {
-    let invocation = op_at(ops, pair.invoke)?;
+    let invocation = history_op_at(ops, pair.invoke)?;
     let completion = completion_of(ops, pair);
     let call = call_of(invocation, answer_of(completion))?;
     Some(RegOp {
@@ -187,11 +192,11 @@ fn reg_op(ops: &[Op], pair: Pair) -> Option<RegOp>
     })
 }
 
-/// Whether the operation at a place is a read.
+/// Whether a read is invoked at a place.
 fn reads_at(ops: &[Op], place: usize) -> bool
     ensures { result ≡ rule.reads_at (operations ops.now) place }
 {
-    match op_at(ops, place) {
+    match history_op_at(ops, place) {
         Some(op) => op.f.is_keyword("read"),
         None => false,
     }

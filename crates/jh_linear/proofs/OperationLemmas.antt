@@ -10,7 +10,7 @@ use Rattle.jh_ops.specs.Pairing.{IsPairWithin}
 use Rattle.jh_ops.specs.declared.pairs.Pair.{Pair}
 use Rattle.jh_linear.specs.declared.register.RegOp.{RegOp}
 use Rattle.jh_linear.specs.Order.{EndAfterInvoked}
-use Rattle.jh_linear.specs.Calls.{AreRegOps, IsLeastBad, bad_place, reg_op_of, op_with_call}
+use Rattle.jh_linear.specs.Operations.{AreRegOps, IsLeastBad, bad_place, reg_op_of, op_with_call}
 use Rattle.jh_linear.specs.CheckingInside.{lesser_place}
 
 module _ (history : List Operation) (pairs : List Pair) (pair : Pair) where
@@ -60,7 +60,7 @@ mapped f None y h = absurd (let bad = h in cc)
 mapped f (Some z) y h = let same : f z ≡ y = cc in (z, same)
 
 -- each operation ends after its invocation, as pairs do
-pub ends_if : (history : List Operation) (count : ℕ) (pairs : List Pair) (calls : List RegOp) → All (IsPairWithin count) pairs → AreRegOps history pairs calls → EndAfterInvoked calls
+pub ends_if : (history : List Operation) (count : ℕ) (pairs : List Pair) (ops : List RegOp) → All (IsPairWithin count) pairs → AreRegOps history pairs ops → EndAfterInvoked ops
 ends_if history count [] [] within are place end is = absurd (let bad = is in cc)
 ends_if history count [] (c ∷ cs) within are place end is = absurd (let bad = are in cc)
 ends_if history count (p ∷ ps) [] within are place end is = absurd (let bad = are in cc)

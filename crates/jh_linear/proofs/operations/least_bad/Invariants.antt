@@ -1,7 +1,7 @@
 use Rattle.std.proofs.Common.{take}
 use Rattle.jh_ops.specs.Operation.{operations}
-use Rattle.jh_linear.specs.Calls.{IsLeastBad}
-use Rattle.jh_linear.proofs.calls.least_bad.Given as goal
+use Rattle.jh_linear.specs.Operations.{IsLeastBad}
+use Rattle.jh_linear.proofs.operations.least_bad.Given as goal
 
 abbrev pub invariant-loop-pair : goal.invariant-loop-pair
 invariant-loop-pair l = IsLeastBad (operations l.ops) (take l.pair-index l.pairs) l.least

@@ -1,9 +1,9 @@
 use Rattle.std.proofs.Common.{◌≤◌, length, subst, arith}
 use Rattle.std.proofs.lemmas.List.{take_all}
 use Rattle.jh_ops.specs.Operation.{operations}
-use Rattle.jh_linear.specs.Calls.{AreRegOps}
-use Rattle.jh_linear.proofs.CallLemmas.{ends_if}
-use Rattle.jh_linear.proofs.calls.reg_ops.Goals as goal
+use Rattle.jh_linear.specs.Operations.{AreRegOps}
+use Rattle.jh_linear.proofs.OperationLemmas.{ends_if}
+use Rattle.jh_linear.proofs.operations.reg_ops.Goals as goal
 
 pub returns-clause-ends : goal.returns-clause-ends
 returns-clause-ends c =
@@ -11,4 +11,4 @@ returns-clause-ends c =
     let pairs = c.args.pairs.now in
     let l = c.loop-pair in
     let all : length pairs ≤ l.pair-index = omega arith in
-    ends_if history (length c.args.ops.now) pairs l.calls.items c.requires.within (subst (λ ps. AreRegOps history ps l.calls.items) (take_all l.pair-index pairs all) l.invariant)
+    ends_if history (length c.args.ops.now) pairs l.register_ops.items c.requires.within (subst (λ ps. AreRegOps history ps l.register_ops.items) (take_all l.pair-index pairs all) l.invariant)

@@ -1,10 +1,10 @@
 use Rattle.std.proofs.Common.{◌+◌, ◌<◌, length, take, sym, subst, arith}
 use Rattle.std.proofs.lemmas.List.{take_more}
 use Rattle.jh_ops.specs.Operation.{operations}
-use Rattle.jh_linear.specs.Calls.{IsLeastBad}
+use Rattle.jh_linear.specs.Operations.{IsLeastBad}
 use Rattle.jh_linear.specs.CheckingInside.{lesser_place}
-use Rattle.jh_linear.proofs.CallLemmas.{least_more}
-use Rattle.jh_linear.proofs.calls.least_bad.Goals as goal
+use Rattle.jh_linear.proofs.OperationLemmas.{least_more}
+use Rattle.jh_linear.proofs.operations.least_bad.Goals as goal
 
 pub loop-pair-preserved : goal.loop-pair-preserved
 loop-pair-preserved c =

@@ -1,7 +1,7 @@
 use Rattle.std.proofs.Common.{length, map, sym, ap, subst, ◌∙◌}
 use Rattle.jh_linear.specs.SearchInside.{AreClasses, AreClassesUpTo, AreStages, IsHistory}
 use Rattle.jh_linear.proofs.HistoryLemmas.{are_classes, is_history}
-use Rattle.jh_linear.proofs.history.history_of.Goals as goal
+use Rattle.jh_linear.proofs.history.sorted_history.Goals as goal
 
 pub returns-clause-history : goal.returns-clause-history
 returns-clause-history c =
