@@ -105,6 +105,10 @@ ends_before a b = nat_lt (end_place a) (end_place b)
 abbrev pub reads_in : List Operation → List Pair → List Pair
 reads_in history calls = in_order ends_before (filter (is_ok_read history) calls)
 
+-- where they are completed, in order: the bounds of reads stand in the same
+abbrev pub read_ends : List Operation → List Pair → List ℕ
+read_ends history calls = map end_place (reads_in history calls)
+
 -- the value lies between the bounds, both included
 abbrev pub is_in_bounds : ReadBounds → Bool
 is_in_bounds read = int_le read.lower read.value && int_le read.value read.upper

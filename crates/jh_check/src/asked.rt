@@ -12,8 +12,13 @@ use jh_edn::Value;
 use jh_ops::{Kind, Op};
 use std::alloc::{AllocError, Global};
 
-/// The values in normal order.
-fn sorted(values: Vec<Value>) -> Result<Vec<Value>, AllocError>
+/// The values in normal order: ascending by `Value::compare`, and those that rank equal in the order
+/// in which they stood.
+///
+/// Errors: where memory runs out.
+///
+/// Takes O(n log n) comparisons for n values.
+pub fn in_normal_order(values: Vec<Value>) -> Result<Vec<Value>, AllocError>
     ensures order { IfOk result
         (λ sorted. views sorted.items ≡ in_order is_below (views values.items)) }
     ensures ascends { IfOk result (λ sorted. Ascends (views sorted.items)) }
@@ -55,7 +60,7 @@ pub(crate) fn sorted_values(
     for op in history {
         push_value(alloc, kind, name, op, &mut values)?;
     }
-    sorted(values)
+    in_normal_order(values)
 }
 
 /// The values in normal form and in normal order.
@@ -68,5 +73,5 @@ pub(crate) fn sorted_normal(alloc: Global, items: &[Value]) -> Result<Vec<Value>
     for item in items {
         values.push(item.normal(alloc)?)?;
     }
-    sorted(values)
+    in_normal_order(values)
 }

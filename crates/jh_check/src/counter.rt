@@ -90,10 +90,10 @@ fn compare_ends(a: &Pair, b: &Pair) -> Ordering
 
 /// The reads that happened, in the order of their completions.
 fn sorted_reads(alloc: Global, history: &[Op], calls: &[Pair]) -> Result<Vec<Pair>, AllocError>
-    requires { All (IsPairWithin (length history.now)) calls.now }
     ensures reads { IfOk result
         (λ reads. reads.items ≡ reads_in (operations history.now) calls.now) }
-    ensures within { IfOk result (λ reads. All (IsPairWithin (length history.now)) reads.items) }
+    ensures within { All (IsPairWithin (length history.now)) calls.now
+        → IfOk result (λ reads. All (IsPairWithin (length history.now)) reads.items) }
 {
     let mut reads = Vec::new(alloc);
     for call in calls {
@@ -103,6 +103,24 @@ fn sorted_reads(alloc: Global, history: &[Op], calls: &[Pair]) -> Result<Vec<Pai
     }
     reads.sort_by(compare_ends)?;
     Ok(reads)
+}
+
+/// Where those of these calls of a history end that are reads which happened, in order: where these
+/// are the calls that `check_counter` judges, in the order of the reads of its result.
+///
+/// Errors: where memory runs out.
+///
+/// Takes O(n log n) for n calls.
+pub fn read_ends(alloc: Global, history: &[Op], calls: &[Pair]) -> Result<Vec<usize>, AllocError>
+    ensures { IfOk result
+        (λ ends. ends.items ≡ rule.read_ends (operations history.now) calls.now) }
+{
+    let reads = sorted_reads(alloc, history, calls)?;
+    let mut ends = Vec::new(alloc);
+    for read in &reads {
+        ends.push(end_of(*read))?;
+    }
+    Ok(ends)
 }
 
 /// A read with its bounds, by what these are at each place.

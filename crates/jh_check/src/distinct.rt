@@ -16,8 +16,10 @@ pub(crate) fn is_same(a: &Value, b: &Value) -> bool
     matches!(a.compare(b), Ordering::Equal)
 }
 
-/// Whether the value is one of these, which ascend.
-pub(crate) fn is_among(values: &[Value], value: &Value) -> bool
+/// Whether the value is one of these, which ascend. A value is one of them where it ranks equal to it.
+///
+/// Takes O(log n) comparisons for n values.
+pub fn is_among(values: &[Value], value: &Value) -> bool
     requires { Ascends (views values.now) }
     ensures { result ≡ rule.has_same_value (views values.now) (view value.now) }
 {

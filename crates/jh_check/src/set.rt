@@ -38,8 +38,9 @@ pub struct SetResult {
     pub found: Option<SetFound>,
 }
 
-/// The last read that happened, with its place.
-fn final_read(history: &[Op]) -> Option<(usize, &Op)>
+/// The last read of a set that happened, with its place: the last operation that completes a client's
+/// `:read` as `:ok`. By it `check_set` judges the set.
+pub fn final_read(history: &[Op]) -> Option<(usize, &Op)>
     ensures { option_map (λ read. (read.0, operation read.1.now)) result
         ≡ rule.final_read (operations history.now) }
 {

@@ -1,2 +1,2 @@
 mod MarkLemmas
-mod ReadLemmas
+mod CallLemmas

@@ -11,7 +11,7 @@ use Rattle.jh_edn.specs.Normal.{normal}
 use Rattle.jh_ops.specs.Operation.{Operation, is_asked}
 use Rattle.jh_ops.specs.Pairing.{history_pairs}
 use Rattle.jh_ops.specs.declared.operation.Kind.{Kind}
-use Rattle.jh_check.specs.CounterResults.{end_place, is_in_bounds, reads_in}
+use Rattle.jh_check.specs.CounterResults.{is_in_bounds, read_ends}
 use Rattle.jh_check.specs.Distinct.{has_same_value}
 use Rattle.jh_check.specs.SetResults.{final_read}
 use Rattle.jh_check.specs.declared.counter.ReadBounds.{ReadBounds}
@@ -108,14 +108,11 @@ ids_note duplicated history call =
 
 -- ---- counters
 
--- where the reads that happened are completed, in order: the bounds of reads stand in the same
-abbrev pub read_ends : List Operation → List ℕ
-read_ends history = map end_place (reads_in history (history_pairs history))
-
 -- the bounds of the read that is completed at an index, if one is
 abbrev pub read_bounds_at : List ReadBounds → List Operation → ℕ → Option ReadBounds
 read_bounds_at reads history index =
-    option_and_then (slice_get reads) (place_among (read_ends history) index)
+    option_and_then (slice_get reads)
+    (place_among (read_ends history (history_pairs history)) index)
 
 -- the bounds, where what was read lies outside
 abbrev pub outside_note : ReadBounds → Option Note

@@ -13,7 +13,6 @@ use Rattle.jh_ops.specs.declared.operation.Op.{Op}
 use Rattle.jh_ops.specs.declared.operation.Process.{Process}
 use Rattle.jh_ops.specs.declared.pairs.Pair.{Pair}
 use Rattle.jh_ops.specs.Pairing.{is_invoke}
-use Rattle.jh_check.specs.CounterResults.{end_place, is_ok_read}
 use Rattle.jh_check.specs.SetResults.{final_read}
 use Rattle.jh_check.specs.declared.counter.ReadBounds.{ReadBounds}
 use Rattle.jh_check.specs.declared.set.SetFound.{SetFound}
@@ -41,10 +40,6 @@ invocations history =
 abbrev pub pair_with : Kind → ℕ → Option ℕ → List Pair
 pair_with Kind.Invoke place next = record { invoke = place; outcome = next } ∷ []
 pair_with _ place next = []
-
--- where those of these pairs end that are reads which happened
-abbrev pub ok_read_ends : List Operation → List Pair → List ℕ
-ok_read_ends history pairs = map end_place (filter (is_ok_read history) pairs)
 
 -- a call gave one of these ids
 abbrev pub gives_one_of : List Edn → List Operation → Call → Bool

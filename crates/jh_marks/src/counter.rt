@@ -1,93 +1,69 @@
 //! The marks of counters. `specs/Marked.antt` has the rule.
 
-ghost use Rattle.std.specs.Prelude.{◌≡◌, [], ◌∷◌, ◌++◌, nat_lt, IfOk, OnOk, option_and_then};
-ghost use Rattle.std.specs.Ordering.{is_lt};
+ghost use Rattle.std.specs.Prelude.{◌≡◌, ◌++◌, IfOk, OnOk, option_and_then};
 ghost use Rattle.jh_ops.specs.Operation.{operations};
 ghost use Rattle.jh_ops.specs.Pairing.{history_pairs};
 ghost use Rattle.jh_check.specs.CounterResults as counter;
 ghost use Rattle.jh_marks.specs.Marked as rule;
 ghost use Rattle.jh_marks.specs.Marked.{marks_by};
-ghost use Rattle.jh_marks.specs.MarkedInside.{bounds_with, ok_read_ends, pair_with};
+ghost use Rattle.jh_marks.specs.MarkedInside.{bounds_with, pair_with};
 
 use crate::notes::{noted, push_note};
 use crate::places::{place_of, places_of};
-use jh_check::{ReadBounds, end_of, is_ok_read};
+use jh_check::{ReadBounds, read_ends};
 use jh_ops::{Kind, Op, Pair, Process};
 use jh_timeline::{Bar, Call, Mark, Note};
 use std::alloc::{AllocError, Global};
-use std::cmp::Ordering;
 use std::collections::BTreeMap;
 
-/// Puts the end of a call last, if it is a read that happened.
-fn push_end(history: &[Op], pair: Pair, ends: &mut Vec<usize>) -> Result<(), AllocError>
-    ensures { OnOk result (ends.new.items
-        ≡ ends.old.items ++ ok_read_ends (operations history.now) (pair ∷ [])) }
+/// Puts the call of a client's record last, if the record is an invocation, where this is the place
+/// of the client's next record.
+fn push_call(
+    kind: Kind,
+    place: usize,
+    next: Option<usize>,
+    calls: &mut Vec<Pair>,
+) -> Result<(), AllocError>
+    ensures { OnOk result (calls.new.items ≡ calls.old.items ++ pair_with kind place next) }
 {
-    if is_ok_read(history, pair) {
-        ends.push(end_of(pair))?;
+    match kind {
+        Kind::Invoke => calls.push(Pair {
+            invoke: place,
+            outcome: next,
+        })?,
+        _ => (),
     }
     Ok(())
 }
 
-/// The same of the call of a client's record, if it is an invocation, where this is the place of
-/// the client's next record.
-fn push_read(
-    history: &[Op],
-    kind: Kind,
-    place: usize,
-    next: Option<usize>,
-    ends: &mut Vec<usize>,
-) -> Result<(), AllocError>
-    ensures { OnOk result (ends.new.items
-        ≡ ends.old.items ++ ok_read_ends (operations history.now) (pair_with kind place next)) }
-{
-    match kind {
-        Kind::Invoke => {
-            let pair = Pair {
-                invoke: place,
-                outcome: next,
-            };
-            push_end(history, pair, ends)
-        }
-        _ => Ok(()),
-    }
-}
-
-/// Where the reads that happened end, in the order of their invocations.
-fn ends_by_invocation(alloc: Global, history: &[Op]) -> Result<Vec<usize>, AllocError>
-    ensures { IfOk result (λ ends. ends.items
-        ≡ ok_read_ends (operations history.now) (history_pairs (operations history.now))) }
+/// The calls of clients, in the order of their invocations. `jh_ops::pair` refuses a history that is
+/// not well formed, and the marks of such a history are defined too.
+fn calls_of(alloc: Global, history: &[Op]) -> Result<Vec<Pair>, AllocError>
+    ensures { IfOk result (λ calls. calls.items ≡ history_pairs (operations history.now)) }
 {
     let mut next = BTreeMap::new(alloc);
-    let mut ends = Vec::new(alloc);
+    let mut calls = Vec::new(alloc);
     let mut place = history.len();
     while place > 0 {
         place -= 1;
         let op = &history[place];
         if let Process::Client(client) = op.process {
             let outcome = next.get(&client).copied();
-            push_read(history, op.kind, place, outcome, &mut ends)?;
+            push_call(op.kind, place, outcome, &mut calls)?;
             next.insert(client, place)?;
         }
     }
-    ends.reverse();
-    Ok(ends)
-}
-
-/// Which of two numbers is the lower.
-fn compare(a: &usize, b: &usize) -> Ordering
-    ensures { is_lt result ≡ nat_lt a.now b.now }
-{
-    a.cmp(b)
+    calls.reverse();
+    Ok(calls)
 }
 
 /// Where the reads that happened end, in order.
-fn read_ends(alloc: Global, history: &[Op]) -> Result<Vec<usize>, AllocError>
-    ensures { IfOk result (λ ends. ends.items ≡ rule.read_ends (operations history.now)) }
+fn ends_of(alloc: Global, history: &[Op]) -> Result<Vec<usize>, AllocError>
+    ensures { IfOk result (λ ends. ends.items
+        ≡ counter.read_ends (operations history.now) (history_pairs (operations history.now))) }
 {
-    let mut ends = ends_by_invocation(alloc, history)?;
-    ends.sort_by(compare)?;
-    Ok(ends)
+    let calls = calls_of(alloc, history)?;
+    read_ends(alloc, history, &calls)
 }
 
 /// Whether a read lies within its bounds.
@@ -141,7 +117,7 @@ pub(crate) fn counter_marks(
     ensures { IfOk result (λ marks. marks.items
         ≡ marks_by (rule.counter_note reads.now (operations history.now)) bars.now) }
 {
-    let ends = read_ends(alloc, history)?;
+    let ends = ends_of(alloc, history)?;
     let places = places_of(alloc, &ends)?;
     let mut marks = Vec::new(alloc);
     for (number, bar) in bars.iter().enumerate() {

@@ -11,8 +11,8 @@ ghost use Rattle.jh_marks.specs.Marked.{ids_note, marks_by};
 
 use crate::notes::{noted, push_note};
 use crate::operations::completion_of;
-use crate::values::{has_one_of, sorted};
-use jh_check::Duplicate;
+use crate::values::has_one_of;
+use jh_check::{Duplicate, in_normal_order};
 use jh_edn::Value;
 use jh_ops::{Kind, Op};
 use jh_timeline::{Bar, Call, Mark, Note};
@@ -29,7 +29,7 @@ fn ids_of(alloc: Global, duplicated: &[Duplicate]) -> Result<Vec<Value>, AllocEr
     for duplicate in duplicated {
         ids.push(duplicate.id.copy(alloc)?)?;
     }
-    sorted(ids)
+    in_normal_order(ids)
 }
 
 /// Whether a call gave one of these ids, which ascend.

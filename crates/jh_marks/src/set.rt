@@ -14,7 +14,7 @@ ghost use Rattle.jh_marks.specs.MarkedInside.{found_note_with};
 use crate::notes::{no_marks, noted, push_note};
 use crate::operations::{is_completed_at, op_at};
 use crate::values::{has_one_of, sorted_copies};
-use jh_check::SetFound;
+use jh_check::{SetFound, final_read};
 use jh_edn::Value;
 use jh_ops::{Kind, Op};
 use jh_timeline::{Bar, Call, Mark, Note};
@@ -24,13 +24,8 @@ use std::alloc::{AllocError, Global};
 fn final_read_at(history: &[Op]) -> Option<usize>
     ensures { result ≡ option_map (λ read. read.0) (final_read (operations history.now)) }
 {
-    let mut found = None;
-    for (place, op) in history.iter().enumerate() {
-        if op.is_asked(Kind::Ok, "read") {
-            found = Some(place);
-        }
-    }
-    found
+    let (place, _read) = final_read(history)?;
+    Some(place)
 }
 
 /// Where the read is completed that shows something unexpected.

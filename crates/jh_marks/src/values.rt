@@ -1,27 +1,16 @@
-//! Values in normal order, and whether an operation has one of them.
+//! Copies of values in normal order, and whether an operation has one of them.
 
 ghost use Rattle.std.specs.Prelude.{◌≡◌, IfOk};
 ghost use Rattle.jh_edn.specs.Order.{in_order, is_below};
-ghost use Rattle.jh_edn.specs.View.{view, views};
+ghost use Rattle.jh_edn.specs.View.{views};
 ghost use Rattle.jh_ops.specs.Operation.{operation};
-ghost use Rattle.jh_check.specs.Distinct as distinct;
 ghost use Rattle.jh_check.specs.Distinct.{Ascends};
 ghost use Rattle.jh_marks.specs.Marked as rule;
 
+use jh_check::{in_normal_order, is_among};
 use jh_edn::Value;
 use jh_ops::{Kind, Op};
 use std::alloc::{AllocError, Global};
-
-/// The values in normal order.
-pub(crate) fn sorted(values: Vec<Value>) -> Result<Vec<Value>, AllocError>
-    ensures order { IfOk result
-        (λ sorted. views sorted.items ≡ in_order is_below (views values.items)) }
-    ensures ascends { IfOk result (λ sorted. Ascends (views sorted.items)) }
-{
-    let mut values = values;
-    values.sort_by(Value::compare)?;
-    Ok(values)
-}
 
 /// Copies of the values, in normal order.
 pub(crate) fn sorted_copies(alloc: Global, values: &[Value]) -> Result<Vec<Value>, AllocError>
@@ -33,17 +22,7 @@ pub(crate) fn sorted_copies(alloc: Global, values: &[Value]) -> Result<Vec<Value
     for value in values {
         copies.push(value.copy(alloc)?)?;
     }
-    sorted(copies)
-}
-
-/// Whether the value is one of these, which ascend.
-fn is_among(values: &[Value], value: &Value) -> bool
-    requires { Ascends (views values.now) }
-    ensures { result ≡ distinct.has_same_value (views values.now) (view value.now) }
-{
-    values
-        .binary_search_by(|other| other.compare(value))
-        .is_ok()
+    in_normal_order(copies)
 }
 
 /// Whether a client's operation of this kind and function has one of these values, which ascend.

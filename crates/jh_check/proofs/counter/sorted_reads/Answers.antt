@@ -23,7 +23,7 @@ returns-clause-reads c =
     ∙ ap (in_order ends_before) (found c)
 
 pub returns-clause-within : goal.returns-clause-within
-returns-clause-within c =
+returns-clause-within c = λ all.
     let within = IsPairWithin (length c.args.history.now) in
     All-permutation within c.loop-call.reads.items c.sort_by.new.self.items c.in_ok-sort_by.ensures.permutation
-    (All-same within _ _ (found c) (All-filter (is_ok_read (operations c.args.history.now)) within c.args.calls.now c.requires))
+    (All-same within _ _ (found c) (All-filter (is_ok_read (operations c.args.history.now)) within c.args.calls.now all))
