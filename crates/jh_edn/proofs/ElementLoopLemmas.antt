@@ -8,7 +8,7 @@ use Rattle.std.proofs.lemmas.Str.{IsCharBoundary-after_ascii}
 use Rattle.jh_edn.specs.declared.syntax_error.SyntaxError.{SyntaxError}
 use Rattle.jh_edn.specs.declared.syntax_error.ReadError.{ReadError}
 use Rattle.jh_edn.specs.declared.syntax_error.ReadError.TheVariants as errors
-use Rattle.jh_edn.specs.declared.syntax_error.Kind.TheVariants.{UnexpectedEnd, TooDeep}
+use Rattle.jh_edn.specs.declared.syntax_error.SyntaxErrorKind.TheVariants.{UnexpectedEnd, TooDeep}
 use Rattle.jh_edn.specs.Edn.{Edn}
 use Rattle.jh_edn.specs.Bytes.{underscore, semicolon, line_feed, is_space, begins_discard}
 use Rattle.jh_edn.specs.Gives.{Fails}

@@ -3,8 +3,8 @@ use Rattle.std.proofs.Common.{◌≡◌, ℕ, ◌-◌, List, [], ◌∷◌, ◌+
 use Rattle.std.specs.Str.{IsUtf8}
 use Rattle.std.proofs.lemmas.List.{append-nil}
 use Rattle.jh_edn.specs.declared.error.EdnError.{EdnError}
-use Rattle.jh_edn.specs.declared.syntax_error.Kind.{Kind}
-use Rattle.jh_edn.specs.declared.syntax_error.Kind.TheVariants.{UnexpectedEnd, BadToken, FloatUnsupported, IntegerRange, BadEscape, OddMap, DuplicateKey, TooDeep}
+use Rattle.jh_edn.specs.declared.syntax_error.SyntaxErrorKind.{SyntaxErrorKind}
+use Rattle.jh_edn.specs.declared.syntax_error.SyntaxErrorKind.TheVariants.{UnexpectedEnd, BadToken, FloatUnsupported, IntegerRange, BadEscape, OddMap, DuplicateKey, TooDeep}
 use Rattle.jh_edn.specs.Edn.{Edn}
 use Rattle.jh_edn.specs.Spelling.{IsGap, SpellsAll, Reads, NothingReads}
 use Rattle.jh_edn.specs.Reading.{error_at, IsFirstErrorAt, line_at, IsReached, IsErrorBehind}
@@ -52,7 +52,7 @@ pub spells_nothing : (xs : List Edn) (text : List ℕ) (at : ℕ) → IsUtf8 tex
 spells_nothing xs text at utf8 behind h = (utf8, λ ys spelled. let p = behind ys spelled in nothing_spelled text at h p.0 p.2)
 
 -- each kind's error is one with a line
-with_line : (text : List ℕ) (kind : Kind) (line : ℕ)
+with_line : (text : List ℕ) (kind : SyntaxErrorKind) (line : ℕ)
     → (SpellsNothing text → RefusesText text (error_at kind line)) × (IsErrorBehind text (error_at kind line) → IsFirstError text (error_at kind line))
 with_line text UnexpectedEnd line = (λ h. h, λ h. h)
 with_line text BadToken line = (λ h. h, λ h. h)

@@ -4,7 +4,7 @@ use Rattle.std.specs.Prelude.{ℤ, pos, ◌||◌}
 use Rattle.std.specs.Ordering.{is_eq}
 use Rattle.std.specs.List.Sorted.{ties}
 use Rattle.std.proofs.lemmas.Bool.{eqb-false}
-use Rattle.jh_edn.specs.declared.key.Mark.TheVariants as mark
+use Rattle.jh_edn.specs.declared.key.KeyMark.TheVariants as mark
 use Rattle.jh_edn.specs.Edn.{Edn, nil, boolean, int, char, str, keyword, symbol, list, vector, mapping, set, tagged, Items, no_items, item, items_of, Members, no_members, member, members_of}
 use Rattle.jh_edn.specs.Equality.{IsSequence, PicksItem, Picks, Equals, AreEqualItems, AreEqualElements, AreEqualMembers, IsNew, Differ, keys_of, KeysDiffer}
 use Rattle.jh_edn.specs.Order.{in_order, kind_of}

@@ -11,17 +11,17 @@ use Rattle.std.proofs.lemmas.Cmp.{nat_cmp_total, int_cmp_total, nat_list_cmp_tot
 use Rattle.std.proofs.lemmas.List.MinMax.{ranks_by}
 use Rattle.std.proofs.lemmas.Map.Lookups.{exact_unsigned, exact_signed, exact_bytes}
 use Rattle.jh_edn.specs.declared.key.Part.{Part}
-use Rattle.jh_edn.specs.declared.key.Mark.{Mark}
-use Rattle.jh_edn.specs.declared.key.Mark.TheVariants.{Last, More, Nil, Bool as Boolean, Int, Char, Str, Keyword, Symbol, Sequence, Map, Set, Tagged}
+use Rattle.jh_edn.specs.declared.key.KeyMark.{KeyMark}
+use Rattle.jh_edn.specs.declared.key.KeyMark.TheVariants.{Last, More, Nil, Bool as Boolean, Int, Char, Str, Keyword, Symbol, Sequence, Map, Set, Tagged}
 use Rattle.jh_edn.specs.contracts.key.PartOrd.TheImpl as part
-use Rattle.jh_edn.specs.contracts.key.MarkOrd.TheImpl as mark
+use Rattle.jh_edn.specs.contracts.key.KeyMarkOrd.TheImpl as mark
 use Rattle.jh_edn.specs.Order.{in_order}
 use Rattle.jh_edn.proofs.SortLemmas.{sorted_is, map_in_order}
 use Rattle.jh_edn.specs.Key.{KeyPart, key_part, key_parts, keys_in, mark_place, part_cmp, key_cmp, is_key_below}
 
 -- ---- the derived order
 
-marks : (a b : Mark) → mark.ghosts.cmp a b ≡ nat_cmp (mark_place a) (mark_place b)
+marks : (a b : KeyMark) → mark.ghosts.cmp a b ≡ nat_cmp (mark_place a) (mark_place b)
 marks Last Last = refl
 marks More More = refl
 marks Nil Nil = refl
@@ -68,7 +68,7 @@ then_equal Less b h = absurd cc
 then_equal Equal b h = (refl, h)
 then_equal Greater b h = absurd cc
 
-mark_exact : (a b : Mark) → mark_place a ≡ mark_place b → a ≡ b
+mark_exact : (a b : KeyMark) → mark_place a ≡ mark_place b → a ≡ b
 mark_exact Last Last h = refl
 mark_exact More More h = refl
 mark_exact Nil Nil h = refl

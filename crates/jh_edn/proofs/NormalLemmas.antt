@@ -9,7 +9,7 @@ use Rattle.std.specs.List.Sorted.{ties}
 use Rattle.std.proofs.lemmas.Cmp.{tied_itself}
 use Rattle.std.proofs.lemmas.Map.Lookups.{exact_unsigned, exact_signed, exact_bytes}
 use Rattle.std.proofs.lemmas.Grind.{common_steps}
-use Rattle.jh_edn.specs.declared.key.Mark.TheVariants as mark
+use Rattle.jh_edn.specs.declared.key.KeyMark.TheVariants as mark
 use Rattle.jh_edn.specs.Edn.{Edn, nil, boolean, int, char, str, keyword, symbol, list, vector, mapping, set, tagged, Items, no_items, item, items_of, Members, no_members, member, members_of}
 use Rattle.jh_edn.specs.Equality.{Equals, IsNew, Differ, keys_of, KeysDiffer}
 use Rattle.jh_edn.specs.Order.{in_order, text_cmp, edn_cmp, items_cmp, members_cmp, is_below, has_key_below}

@@ -8,7 +8,7 @@ use Rattle.std.specs.Cmp.{IsTotalOrder, IsStrictWeakOrder}
 use Rattle.std.proofs.lemmas.Cmp.{on_total}
 use Rattle.std.proofs.lemmas.List.MinMax.{ranks_by}
 use Rattle.std.proofs.lemmas.Grind.{common_steps}
-use Rattle.jh_edn.specs.declared.key.Mark.TheVariants as mark
+use Rattle.jh_edn.specs.declared.key.KeyMark.TheVariants as mark
 use Rattle.jh_edn.specs.Edn.{Edn, nil, boolean, int, char, str, keyword, symbol, list, vector, mapping, set, tagged, Items, no_items, item, Members, no_members, member}
 use Rattle.jh_edn.specs.Order.{text_cmp, edn_cmp, items_cmp, members_cmp, is_below, has_key_below}
 use Rattle.jh_edn.specs.Key.{KeyPart, bare_part, numbered_part, text_part, key_cmp, marked_keys}

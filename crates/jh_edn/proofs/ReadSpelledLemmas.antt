@@ -7,8 +7,8 @@ use Rattle.std.proofs.lemmas.Grind.{common_steps}
 use Rattle.std.proofs.lemmas.Bool.{eqb-true}
 use Rattle.std.proofs.lemmas.List.{take-append-drop}
 use Rattle.jh_edn.specs.declared.syntax_error.SyntaxError.{SyntaxError}
-use Rattle.jh_edn.specs.declared.syntax_error.Kind.{Kind}
-use Rattle.jh_edn.specs.declared.syntax_error.Kind.TheVariants.{BadToken}
+use Rattle.jh_edn.specs.declared.syntax_error.SyntaxErrorKind.{SyntaxErrorKind}
+use Rattle.jh_edn.specs.declared.syntax_error.SyntaxErrorKind.TheVariants.{BadToken}
 use Rattle.jh_edn.specs.Edn.{Edn, nil, boolean, str, keyword, symbol, list, vector, mapping, set, tagged, Items, items_of, members_of}
 use Rattle.jh_edn.specs.Bytes.{open_paren, close_paren, quote, backslash, colon, open_bracket, close_bracket, open_brace, close_brace, semicolon, hash, underscore, line_feed, begins_discard, is_space, is_token_byte}
 use Rattle.jh_edn.specs.Spelling.{is_name, is_symbol_name, is_tag, BeginsNoToken, IsLine, EndsLine, BeginsWithGap, nothing, white, comment, discard, Inner, SpellsElements, SpellsFront, grammar_around, inside}
@@ -63,7 +63,7 @@ module _ (deep : DeeperReads) (inner : Inner) where
   atom_of-sound : (token : List ℕ) (x : Edn) → atom_of token ≡ Ok x → Stands x token
   unfolding atom_of
   atom_of-sound token x e =
-      let other : Result Edn Kind = cond (eqb (get_or token 0 0) colon && is_name (drop 1 token)) (Ok (keyword (drop 1 token))) (constant_or_symbol (constant_of token) token) in
+      let other : Result Edn SyntaxErrorKind = cond (eqb (get_or token 0 0) colon && is_name (drop 1 token)) (Ok (keyword (drop 1 token))) (constant_or_symbol (constant_of token) token) in
       elim (chosen (begins_number token) (int_value (number_of token)) other (Ok x) e) [
         | inl p ↦
             let a = as_int_ok (number_of token) x p.1 in

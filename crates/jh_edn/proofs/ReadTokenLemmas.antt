@@ -12,8 +12,8 @@ use Rattle.std.proofs.lemmas.Slice.Eq.{bytes_eq-Decides}
 use Rattle.std.proofs.lemmas.Bool.{eqb-true}
 use Rattle.std.proofs.lemmas.List.{take-append-drop, append-nil}
 use Rattle.jh_edn.specs.declared.syntax_error.SyntaxError.{SyntaxError}
-use Rattle.jh_edn.specs.declared.syntax_error.Kind.{Kind}
-use Rattle.jh_edn.specs.declared.syntax_error.Kind.TheVariants.{UnexpectedEnd, BadToken, FloatUnsupported, IntegerRange, DuplicateKey}
+use Rattle.jh_edn.specs.declared.syntax_error.SyntaxErrorKind.{SyntaxErrorKind}
+use Rattle.jh_edn.specs.declared.syntax_error.SyntaxErrorKind.TheVariants.{UnexpectedEnd, BadToken, FloatUnsupported, IntegerRange, DuplicateKey}
 use Rattle.jh_edn.specs.Edn.{Edn, int, char, mapping, set, no_items, item, items_of, members_of}
 use Rattle.jh_edn.specs.Bytes.{is_blank, quote, backslash, capital_n, digit_zero, is_token_byte, is_plain, escaped_byte}
 use Rattle.jh_edn.specs.Spelling.{HasNoLeadingZero, IsInteger, IsBody, char_named, char_numbered, IsCharacter, BeginsNoToken, items_of_members}
@@ -107,7 +107,7 @@ unfolding integer_spelled
 integer_sound core z some e =
     let ds = drop (sign_len core) core in
     let v = signed_digits_value 10 core in
-    let last : Result ℤ Kind = cond (ltb (magnitude v) (2 ^ 63)) (Ok v) (Err IntegerRange) in
+    let last : Result ℤ SyntaxErrorKind = cond (ltb (magnitude v) (2 ^ 63)) (Ok v) (Err IntegerRange) in
     elim (chosen (ltb 1 (length ds) && eqb (get_or ds 0 0) digit_zero) (Err BadToken) last (Ok z) e) [
       | inl p ↦ absurd (let bad = p.1 in cc)
       | inr p ↦
@@ -137,7 +137,7 @@ unfolding number_of
 number_sound token z begins e =
     let core = take (digits_end token) token in
     let rest = drop (digits_end token) token in
-    let second : Result ℤ Kind = cond (is_suffix rest) (integer_spelled core) (Err BadToken) in
+    let second : Result ℤ SyntaxErrorKind = cond (is_suffix rest) (integer_spelled core) (Err BadToken) in
     elim (chosen (begins_fraction rest) (Err FloatUnsupported) second (Ok z) e) [
       | inl p ↦ absurd (let bad = p.1 in cc)
       | inr p ↦
@@ -150,11 +150,11 @@ number_sound token z begins e =
           ]
     ]
 
-pub as_int_ok : (a : Result ℤ Kind) (x : Edn) → int_value a ≡ Ok x → (z : ℤ) × (a ≡ Ok z) × (int z ≡ x)
+pub as_int_ok : (a : Result ℤ SyntaxErrorKind) (x : Edn) → int_value a ≡ Ok x → (z : ℤ) × (a ≡ Ok z) × (int z ≡ x)
 as_int_ok (Ok z) x e = (z, refl, cc)
 as_int_ok (Err k) x e = absurd cc
 
-pub placed_ok : (a : Result Edn Kind) (s after : List ℕ) (x : Edn) (r : List ℕ) → atom_or_error a s after ≡ Ok (x, r) → (a ≡ Ok x) × (after ≡ r)
+pub placed_ok : (a : Result Edn SyntaxErrorKind) (s after : List ℕ) (x : Edn) (r : List ℕ) → atom_or_error a s after ≡ Ok (x, r) → (a ≡ Ok x) × (after ≡ r)
 placed_ok (Ok y) s after x r e = let p = ok_is (y, after) (x, r) e in (ap (λ (q : Edn × List ℕ). Ok q.0) p, ap (λ (q : Edn × List ℕ). q.1) p)
 placed_ok (Err k) s after x r e = absurd cc
 

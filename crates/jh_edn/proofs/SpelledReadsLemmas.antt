@@ -5,7 +5,7 @@ use Rattle.std.proofs.lemmas.Grind.{common_steps}
 use Rattle.std.proofs.lemmas.Bool.{eqb-true, cases_Bool}
 use Rattle.std.proofs.lemmas.List.{length-append}
 use Rattle.jh_edn.specs.declared.syntax_error.SyntaxError.{SyntaxError}
-use Rattle.jh_edn.specs.declared.syntax_error.Kind.TheVariants.{BadToken}
+use Rattle.jh_edn.specs.declared.syntax_error.SyntaxErrorKind.TheVariants.{BadToken}
 use Rattle.jh_edn.specs.Edn.{Edn, nil, boolean, int, char, str, keyword, symbol, list, vector, mapping, set, tagged, Items, no_items, item, items_of, Members, members_of}
 use Rattle.jh_edn.specs.Bytes.{line_feed, space, underscore, is_letter, open_paren, close_paren, quote, backslash, colon, open_bracket, close_bracket, open_brace, close_brace, semicolon, hash, underscore, line_feed, begins_discard, is_space, is_delimiter, is_token_byte, is_digit, is_symbol, is_first}
 use Rattle.std.specs.List.{list_all}

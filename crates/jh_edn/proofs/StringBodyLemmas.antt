@@ -5,7 +5,7 @@ use Rattle.std.specs.List.{prefix_len}
 use Rattle.std.proofs.lemmas.Grind.{common_steps}
 use Rattle.std.proofs.lemmas.List.{append-nil}
 use Rattle.jh_edn.specs.declared.syntax_error.SyntaxError.{SyntaxError}
-use Rattle.jh_edn.specs.declared.syntax_error.Kind.TheVariants.{BadEscape}
+use Rattle.jh_edn.specs.declared.syntax_error.SyntaxErrorKind.TheVariants.{BadEscape}
 use Rattle.jh_edn.specs.Bytes.{is_plain, escaped_byte}
 use Rattle.jh_edn.specs.Reading.{body, read_with_front, syntax_error}
 use Rattle.jh_edn.proofs.PrefixLemmas.{prefix_len-cases}

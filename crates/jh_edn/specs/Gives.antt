@@ -3,7 +3,7 @@
 use Rattle.std.specs.Prelude.{◌≡◌, ℕ, ◌<◌, length, List, [], ◌∷◌, Result, Ok, Err}
 use Rattle.std.specs.Str.{IsUtf8}
 use Rattle.jh_edn.specs.declared.syntax_error.SyntaxError.{SyntaxError}
-use Rattle.jh_edn.specs.declared.syntax_error.Kind.TheVariants as kinds
+use Rattle.jh_edn.specs.declared.syntax_error.SyntaxErrorKind.TheVariants as kinds
 use Rattle.jh_edn.specs.declared.syntax_error.ReadError.{ReadError}
 use Rattle.jh_edn.specs.declared.syntax_error.ReadError.TheVariants as errors
 use Rattle.jh_edn.specs.declared.string.Stop.{Stop}

@@ -7,8 +7,8 @@ use Rattle.std.specs.declared.cmp.Ordering.{Ordering}
 use Rattle.std.specs.Ordering.{nat_cmp, int_cmp, ordering_then, is_lt, is_eq}
 use Rattle.std.specs.Cmp.Lexicographic.{slice_cmp}
 use Rattle.jh_edn.specs.declared.key.Part.{Part}
-use Rattle.jh_edn.specs.declared.key.Mark.{Mark}
-use Rattle.jh_edn.specs.declared.key.Mark.TheVariants as mark
+use Rattle.jh_edn.specs.declared.key.KeyMark.{KeyMark}
+use Rattle.jh_edn.specs.declared.key.KeyMark.TheVariants as mark
 use Rattle.jh_edn.specs.Edn.{Edn, nil, boolean, int, char, str, keyword, symbol, list, vector}
 use Rattle.jh_edn.specs.Edn.{mapping, set, tagged, Items, no_items, item, Members, no_members}
 use Rattle.jh_edn.specs.Edn.{member}
@@ -16,7 +16,7 @@ use Rattle.jh_edn.specs.Order.{in_order, text_cmp}
 
 -- a part of a key: what begins or ends there, and its number or text where it has one
 pub record KeyPart : Type 0 where
-  pub mark : Mark
+  pub mark : KeyMark
   pub number : ℤ
   pub text : List ℕ
 
@@ -31,17 +31,17 @@ key_parts ps = map key_part ps
 abbrev pub keys_in : List (Vec Part Global) → List (List KeyPart)
 keys_in vs = map (λ v. key_parts v.items) vs
 
-abbrev pub bare_part : Mark → KeyPart
+abbrev pub bare_part : KeyMark → KeyPart
 bare_part m = record { mark = m; number = pos 0; text = [] }
 
-abbrev pub numbered_part : Mark → ℤ → KeyPart
+abbrev pub numbered_part : KeyMark → ℤ → KeyPart
 numbered_part m z = record { mark = m; number = z; text = [] }
 
-abbrev pub text_part : Mark → List ℕ → KeyPart
+abbrev pub text_part : KeyMark → List ℕ → KeyPart
 text_part m s = record { mark = m; number = pos 0; text = s }
 
 -- where a mark stands among the marks
-abbrev pub mark_place : Mark → ℕ
+abbrev pub mark_place : KeyMark → ℕ
 mark_place mark.Last = 0
 mark_place mark.More = 1
 mark_place mark.Nil = 2

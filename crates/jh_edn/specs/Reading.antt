@@ -13,11 +13,11 @@ use Rattle.jh_edn.specs.declared.error.EdnError.TheVariants as errors
 use Rattle.jh_edn.specs.declared.syntax_error.SyntaxError.{SyntaxError}
 use Rattle.jh_edn.specs.declared.syntax_error.ReadError.{ReadError}
 use Rattle.jh_edn.specs.declared.syntax_error.ReadError.TheVariants as reads
-use Rattle.jh_edn.specs.declared.syntax_error.Kind.{Kind}
-use Rattle.jh_edn.specs.declared.syntax_error.Kind.TheVariants.{UnexpectedEnd, BadToken}
-use Rattle.jh_edn.specs.declared.syntax_error.Kind.TheVariants.{FloatUnsupported, IntegerRange}
-use Rattle.jh_edn.specs.declared.syntax_error.Kind.TheVariants.{BadEscape, OddMap, DuplicateKey}
-use Rattle.jh_edn.specs.declared.syntax_error.Kind.TheVariants.{TooDeep}
+use Rattle.jh_edn.specs.declared.syntax_error.SyntaxErrorKind.{SyntaxErrorKind}
+use Rattle.jh_edn.specs.declared.syntax_error.SyntaxErrorKind.TheVariants.{UnexpectedEnd, BadToken}
+use Rattle.jh_edn.specs.declared.syntax_error.SyntaxErrorKind.TheVariants.{FloatUnsupported, IntegerRange}
+use Rattle.jh_edn.specs.declared.syntax_error.SyntaxErrorKind.TheVariants.{BadEscape, OddMap, DuplicateKey}
+use Rattle.jh_edn.specs.declared.syntax_error.SyntaxErrorKind.TheVariants.{TooDeep}
 use Rattle.jh_edn.specs.Edn.{Edn, nil, boolean, int, char, str, keyword, symbol, list, vector}
 use Rattle.jh_edn.specs.Edn.{mapping, set, tagged, items_of, members_of}
 use Rattle.jh_edn.specs.Bytes.{open_paren, close_paren, hash, is_blank, quote, plus, minus}
@@ -44,7 +44,7 @@ abbrev pub ◌>>=◌ : {A B : Type 0} → Result A SyntaxError → (A → Result
 (Err e) >>= f = Err e
 
 -- an error at the front of s
-abbrev pub syntax_error : {A : Type 0} → Kind → List ℕ → Result A SyntaxError
+abbrev pub syntax_error : {A : Type 0} → SyntaxErrorKind → List ℕ → Result A SyntaxError
 syntax_error kind s = Err (record { kind = kind; left = length s })
 
 -- these stand before what was read
@@ -117,7 +117,7 @@ magnitude (pos n) = n
 magnitude (negsuc n) = n
 
 -- a sign and digits: BadToken for a leading zero, then IntegerRange
-unfoldable pub integer_spelled : List ℕ → Result ℤ Kind
+unfoldable pub integer_spelled : List ℕ → Result ℤ SyntaxErrorKind
 integer_spelled core =
     if nat_lt 1 (length (drop (sign_len core) core))
     && slice_index (drop (sign_len core) core) 0 == digit_zero then Err BadToken
@@ -126,7 +126,7 @@ integer_spelled core =
     else Err IntegerRange
 
 -- what follows the digits comes first: FloatUnsupported, then BadToken, then the digits themselves
-unfoldable pub number_of : List ℕ → Result ℤ Kind
+unfoldable pub number_of : List ℕ → Result ℤ SyntaxErrorKind
 number_of token =
     if begins_fraction (drop (digits_end token) token) then Err FloatUnsupported
     else if is_suffix (drop (digits_end token) token)
@@ -134,7 +134,7 @@ number_of token =
     else Err BadToken
 
 -- an integer as a value
-abbrev pub int_value : Result ℤ Kind → Result Edn Kind
+abbrev pub int_value : Result ℤ SyntaxErrorKind → Result Edn SyntaxErrorKind
 int_value (Ok z) = Ok (int z)
 int_value (Err k) = Err k
 
@@ -147,19 +147,19 @@ constant_of token =
     else None
 
 -- such a constant, or else a symbol, or BadToken
-abbrev pub constant_or_symbol : Option Edn → List ℕ → Result Edn Kind
+abbrev pub constant_or_symbol : Option Edn → List ℕ → Result Edn SyntaxErrorKind
 constant_or_symbol (Some x) token = Ok x
 constant_or_symbol None token = if is_symbol_name token then Ok (symbol token) else Err BadToken
 
 -- a token: a number, a keyword, nil, true, false, a symbol, or BadToken
-unfoldable pub atom_of : List ℕ → Result Edn Kind
+unfoldable pub atom_of : List ℕ → Result Edn SyntaxErrorKind
 atom_of token =
     if begins_number token then int_value (number_of token)
     else if slice_index token 0 == colon && is_name (drop 1 token) then Ok (keyword (drop 1 token))
     else constant_or_symbol (constant_of token) token
 
 -- a token's error stands at its first character
-abbrev pub atom_or_error : Result Edn Kind → List ℕ → List ℕ → Result (Edn × List ℕ) SyntaxError
+abbrev pub atom_or_error : Result Edn SyntaxErrorKind → List ℕ → List ℕ → Result (Edn × List ℕ) SyntaxError
 atom_or_error (Ok x) s after = Ok (x, after)
 atom_or_error (Err k) s after = syntax_error k s
 
@@ -187,7 +187,7 @@ char_of c [] = lone_char c
 char_of c (d ∷ token) = char_spelled (encode_utf8 c ++ d ∷ token)
 
 -- a character as a value
-abbrev pub char_value : Option ℕ → Result Edn Kind
+abbrev pub char_value : Option ℕ → Result Edn SyntaxErrorKind
 char_value (Some c) = Ok (char c)
 char_value None = Err BadToken
 
@@ -344,7 +344,7 @@ abbrev pub line_at : List ℕ → ℕ → ℕ
 line_at text left = 1 + count_by (λ c. c == line_feed) (take (length text - left) text)
 
 -- what is wrong, at that line
-abbrev pub error_at : Kind → ℕ → EdnError
+abbrev pub error_at : SyntaxErrorKind → ℕ → EdnError
 error_at UnexpectedEnd line = errors.UnexpectedEnd line
 error_at BadToken line = errors.BadToken line
 error_at FloatUnsupported line = errors.FloatUnsupported line

@@ -2,7 +2,7 @@
 use Rattle.std.specs.Prelude.{◌≡◌, ℕ, suc, ◌-◌, ◌==◌, if◌then◌else◌, length, List, [], ◌∷◌, ◌++◌}
 use Rattle.std.specs.Prelude.{Option, Some, None, Result, Ok}
 use Rattle.jh_edn.specs.declared.syntax_error.SyntaxError.{SyntaxError}
-use Rattle.jh_edn.specs.declared.syntax_error.Kind.TheVariants.{UnexpectedEnd}
+use Rattle.jh_edn.specs.declared.syntax_error.SyntaxErrorKind.TheVariants.{UnexpectedEnd}
 use Rattle.jh_edn.specs.Edn.{Edn, elements_of}
 use Rattle.jh_edn.specs.Reading.{Read, ◌>>=◌, syntax_error, items, gap, read}
 use Rattle.jh_edn.specs.Spelling.{Reads, depth_limit}

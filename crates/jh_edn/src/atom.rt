@@ -12,7 +12,7 @@ ghost use Rattle.jh_edn.specs.View.{view};
 
 use crate::name::{is_name, is_symbol_name};
 use crate::scan::{digits_len, is_digit, token_len};
-use crate::syntax_error::{Kind, ReadError, syntax_error_at};
+use crate::syntax_error::{ReadError, SyntaxErrorKind, syntax_error_at};
 use crate::text::Text;
 use crate::value::Value;
 use std::alloc::Global;
@@ -59,23 +59,23 @@ fn is_suffix(rest: &[u8]) -> bool
 
 /// The integer of a sign and digits.
 #[tactic(auto, using(crate::proofs::NumberLemmas::too_large, crate::proofs::NumberLemmas::unsigned_is), unfolding(crate::specs::Reading::integer_spelled))]
-fn integer_of(core: &[u8]) -> Result<i64, Kind>
+fn integer_of(core: &[u8]) -> Result<i64, SyntaxErrorKind>
     requires { IsNumeral 10 (without_leading_sign core.now) }
     ensures { result ≡ reading.integer_spelled core.now }
 {
     let digits = &core[sign_len(core)..];
     if digits.len() > 1 && digits[0] == b'0' {
-        return Err(Kind::BadToken);
+        return Err(SyntaxErrorKind::BadToken);
     }
     match fast_float::parse_i64(core) {
         Ok(n) => Ok(n),
-        Err(_) => Err(Kind::IntegerRange),
+        Err(_) => Err(SyntaxErrorKind::IntegerRange),
     }
 }
 
 /// The integer of a token that begins as a number does, or what is wrong with it.
 #[tactic(auto, using(crate::proofs::NumberLemmas::numeral_cut), unfolding(crate::specs::Reading::number_of))]
-fn number_of(token: &[u8]) -> Result<i64, Kind>
+fn number_of(token: &[u8]) -> Result<i64, SyntaxErrorKind>
     requires { reading.begins_number token.now ≡ true }
     ensures { result ≡ reading.number_of token.now }
 {
@@ -83,10 +83,10 @@ fn number_of(token: &[u8]) -> Result<i64, Kind>
     let end = sign + digits_len(&token[sign..]);
     let rest = &token[end..];
     if begins_fraction(rest) {
-        return Err(Kind::FloatUnsupported);
+        return Err(SyntaxErrorKind::FloatUnsupported);
     }
     if !is_suffix(rest) {
-        return Err(Kind::BadToken);
+        return Err(SyntaxErrorKind::BadToken);
     }
     integer_of(&token[..end])
 }
@@ -132,5 +132,5 @@ pub(crate) fn atom(alloc: Global, rest: &str) -> Result<(Value, &str), ReadError
         let name = Text::of(alloc, token)?;
         return Ok((Value::Symbol(name), &rest[len..]));
     }
-    Err(syntax_error_at(Kind::BadToken, rest))
+    Err(syntax_error_at(SyntaxErrorKind::BadToken, rest))
 }

@@ -14,7 +14,7 @@ ghost use Rattle.jh_edn.specs.Spelling as spelling;
 ghost use Rattle.jh_edn.specs.View.{view};
 
 use crate::scan::token_len;
-use crate::syntax_error::{Kind, ReadError, syntax_error_at};
+use crate::syntax_error::{ReadError, SyntaxErrorKind, syntax_error_at};
 use crate::value::Value;
 
 /// White space, but for the comma.
@@ -93,7 +93,7 @@ pub(crate) fn character(rest: &str) -> Result<(Value, &str), ReadError>
     let behind = &rest[1..];
     let mut chars = behind.chars();
     let Some(first) = chars.next() else {
-        return Err(syntax_error_at(Kind::UnexpectedEnd, ""));
+        return Err(syntax_error_at(SyntaxErrorKind::UnexpectedEnd, ""));
     };
     let after = chars.as_str();
     let len = token_len(after);
@@ -104,6 +104,6 @@ pub(crate) fn character(rest: &str) -> Result<(Value, &str), ReadError>
     };
     match found {
         Some(c) => Ok((Value::Char(c), &after[len..])),
-        None => Err(syntax_error_at(Kind::BadToken, rest)),
+        None => Err(syntax_error_at(SyntaxErrorKind::BadToken, rest)),
     }
 }

@@ -20,7 +20,7 @@ use crate::name::is_tag;
 use crate::pairs::{make_pairs, repeats_element, repeats_key};
 use crate::scan::{after_blank, begins_discard, begins_set, is_token_byte, token_len};
 use crate::string::string;
-use crate::syntax_error::{Kind, ReadError, SyntaxError, syntax_error_at};
+use crate::syntax_error::{ReadError, SyntaxError, SyntaxErrorKind, syntax_error_at};
 use crate::text::Text;
 use crate::value::{Tagged, Value, Values};
 use std::alloc::Global;
@@ -36,7 +36,7 @@ const DISCARD_LEN: usize = 2;
 const MAP_ROOM: usize = 16;
 
 /// An error at the closing bracket just before the text.
-fn syntax_error_before(kind: Kind, after: &str) -> ReadError
+fn syntax_error_before(kind: SyntaxErrorKind, after: &str) -> ReadError
     requires { length after.now < 2 ^ 63 }
     ensures { result ≡ ReadError.Syntax (record { kind = kind; left = length after.now + 1 }) }
 {
@@ -62,10 +62,10 @@ fn close_map(alloc: Global, items: Vec<Value>, after: &str) -> Result<(Value, &s
     ensures text { IfOk result (λ x. IsUtf8 x.1.now) }
 {
     let Some(pairs) = make_pairs(alloc, items)? else {
-        return Err(syntax_error_before(Kind::OddMap, after));
+        return Err(syntax_error_before(SyntaxErrorKind::OddMap, after));
     };
     if repeats_key(alloc, &pairs)? {
-        return Err(syntax_error_before(Kind::DuplicateKey, after));
+        return Err(syntax_error_before(SyntaxErrorKind::DuplicateKey, after));
     }
     Ok((Value::Map(pairs), after))
 }
@@ -77,7 +77,7 @@ fn close_set(alloc: Global, items: Values, after: &str) -> Result<(Value, &str),
     ensures text { IfOk result (λ x. IsUtf8 x.1.now) }
 {
     if repeats_element(alloc, &items)? {
-        return Err(syntax_error_before(Kind::DuplicateKey, after));
+        return Err(syntax_error_before(SyntaxErrorKind::DuplicateKey, after));
     }
     Ok((Value::Set(items), after))
 }
@@ -91,7 +91,7 @@ pub(crate) fn element(alloc: Global, rest: &str, depth: usize) -> Result<(Value,
 {
     let bytes = rest.as_bytes();
     if bytes.is_empty() {
-        return Err(syntax_error_at(Kind::UnexpectedEnd, ""));
+        return Err(syntax_error_at(SyntaxErrorKind::UnexpectedEnd, ""));
     }
     match bytes[0] {
         b'"' => {
@@ -113,7 +113,7 @@ pub(crate) fn element(alloc: Global, rest: &str, depth: usize) -> Result<(Value,
         b'\\' => character(rest),
         b'#' => hashed(alloc, rest, depth),
         first if is_token_byte(first) => atom(alloc, rest),
-        _ => Err(syntax_error_at(Kind::BadToken, rest)),
+        _ => Err(syntax_error_at(SyntaxErrorKind::BadToken, rest)),
     }
 }
 
@@ -134,7 +134,7 @@ fn hashed(alloc: Global, rest: &str, depth: usize) -> Result<(Value, &str), Read
     let len = token_len(behind);
     let tag = &behind[..len];
     if !is_tag(tag.as_bytes()) {
-        return Err(syntax_error_at(Kind::BadToken, rest));
+        return Err(syntax_error_at(SyntaxErrorKind::BadToken, rest));
     }
     let (value, after) = one_inside(alloc, rest, 1 + len, depth)?;
     let tag = Text::of(alloc, tag)?;
@@ -159,7 +159,7 @@ fn elements_inside(
     ensures text { IfOk result (λ x. IsUtf8 x.1.now) }
 {
     if depth == 0 {
-        return Err(syntax_error_at(Kind::TooDeep, rest));
+        return Err(syntax_error_at(SyntaxErrorKind::TooDeep, rest));
     }
     elements(alloc, &rest[front..], close, room, depth - 1)
 }
@@ -178,7 +178,7 @@ fn one_inside(
     ensures text { IfOk result (λ x. IsUtf8 x.1.now) }
 {
     if depth == 0 {
-        return Err(syntax_error_at(Kind::TooDeep, rest));
+        return Err(syntax_error_at(SyntaxErrorKind::TooDeep, rest));
     }
     let here = after_gap(alloc, &rest[front..], depth - 1)?;
     element(alloc, here, depth - 1)
@@ -217,7 +217,7 @@ pub(crate) fn next_item(
     let here = after_gap(alloc, rest, depth)?;
     let bytes = here.as_bytes();
     if bytes.is_empty() {
-        return Err(syntax_error_at(Kind::UnexpectedEnd, ""));
+        return Err(syntax_error_at(SyntaxErrorKind::UnexpectedEnd, ""));
     }
     if bytes[0] == close {
         return Ok((None, &here[1..]));

@@ -8,7 +8,7 @@ ghost use Rattle.std.specs.Prelude.{◌≡◌};
 ghost use Rattle.jh_edn.specs.declared.error.EdnError.TheVariants.{OutOfMemory};
 ghost use Rattle.jh_edn.specs.Reading.{error_at};
 
-use crate::syntax_error::Kind;
+use crate::syntax_error::SyntaxErrorKind;
 use std::alloc::{AllocError, AllocFailed};
 use thiserror::Error;
 
@@ -71,17 +71,17 @@ impl<T: Drop> From<AllocFailed<T>> for EdnError {
 }
 
 /// The error at that line.
-pub(crate) fn error_at_line(kind: Kind, line: u64) -> EdnError
+pub(crate) fn error_at_line(kind: SyntaxErrorKind, line: u64) -> EdnError
     ensures { result ≡ error_at kind line }
 {
     match kind {
-        Kind::UnexpectedEnd => EdnError::UnexpectedEnd(line),
-        Kind::BadToken => EdnError::BadToken(line),
-        Kind::FloatUnsupported => EdnError::FloatUnsupported(line),
-        Kind::IntegerRange => EdnError::IntegerRange(line),
-        Kind::BadEscape => EdnError::BadEscape(line),
-        Kind::OddMap => EdnError::OddMap(line),
-        Kind::DuplicateKey => EdnError::DuplicateKey(line),
-        Kind::TooDeep => EdnError::TooDeep(line),
+        SyntaxErrorKind::UnexpectedEnd => EdnError::UnexpectedEnd(line),
+        SyntaxErrorKind::BadToken => EdnError::BadToken(line),
+        SyntaxErrorKind::FloatUnsupported => EdnError::FloatUnsupported(line),
+        SyntaxErrorKind::IntegerRange => EdnError::IntegerRange(line),
+        SyntaxErrorKind::BadEscape => EdnError::BadEscape(line),
+        SyntaxErrorKind::OddMap => EdnError::OddMap(line),
+        SyntaxErrorKind::DuplicateKey => EdnError::DuplicateKey(line),
+        SyntaxErrorKind::TooDeep => EdnError::TooDeep(line),
     }
 }

@@ -15,7 +15,7 @@ use std::alloc::{AllocError, Global};
 
 /// What a part of a key begins, or ends.
 #[derive(Clone, Copy, Debug, PartialEq, Eq, PartialOrd, Ord)]
-pub(crate) enum Mark {
+pub(crate) enum KeyMark {
     /// The end of the elements of a collection.
     Last,
     /// One more element of a collection.
@@ -37,14 +37,14 @@ pub(crate) enum Mark {
 /// A part of a key: a mark, with the number or the text of what it begins.
 #[derive(Clone, Copy, Debug, PartialEq, Eq, PartialOrd, Ord)]
 pub(crate) struct Part<'a> {
-    mark: Mark,
+    mark: KeyMark,
     number: i64,
     text: &'a str,
 }
 
 impl<'a> Part<'a> {
     /// A part that is a mark alone.
-    fn bare(mark: Mark) -> Part<'a>
+    fn bare(mark: KeyMark) -> Part<'a>
         ensures { keys.key_part result ≡ keys.bare_part mark }
     {
         Part {
@@ -55,7 +55,7 @@ impl<'a> Part<'a> {
     }
 
     /// A part of a mark and a number.
-    fn numbered(mark: Mark, number: i64) -> Part<'a>
+    fn numbered(mark: KeyMark, number: i64) -> Part<'a>
         ensures { keys.key_part result ≡ keys.numbered_part mark number }
     {
         Part {
@@ -66,7 +66,7 @@ impl<'a> Part<'a> {
     }
 
     /// A part of a mark and a text.
-    fn texted(mark: Mark, text: &'a str) -> Part<'a>
+    fn texted(mark: KeyMark, text: &'a str) -> Part<'a>
         ensures { keys.key_part result ≡ keys.text_part mark text.now }
     {
         Part {
@@ -92,10 +92,10 @@ fn push_marked<'a>(codes: &[Vec<Part<'a>>], key: &mut Vec<Part<'a>>) -> Result<(
         ≡ key_parts key.old.items ++ keys.marked_keys (keys_in codes.now)) }
 {
     for code in codes {
-        push(Part::bare(Mark::More), key)?;
+        push(Part::bare(KeyMark::More), key)?;
         key.extend_from_slice(code)?;
     }
-    push(Part::bare(Mark::Last), key)
+    push(Part::bare(KeyMark::Last), key)
 }
 
 /// Appends the keys in ascending order, each led by a mark, and an end.
@@ -119,25 +119,25 @@ pub(crate) fn push_key<'a>(
         (key_parts key.new.items ≡ key_parts key.old.items ++ keys.key_of (view value.now)) }
 {
     match value {
-        Value::Nil => push(Part::bare(Mark::Nil), key),
-        Value::Bool(b) => push(Part::numbered(Mark::Bool, i64::from(*b)), key),
-        Value::Int(n) => push(Part::numbered(Mark::Int, *n), key),
-        Value::Char(c) => push(Part::numbered(Mark::Char, i64::from(u32::from(*c))), key),
-        Value::Str(text) => push(Part::texted(Mark::Str, text.as_str()), key),
-        Value::Keyword(name) => push(Part::texted(Mark::Keyword, name.as_str()), key),
-        Value::Symbol(name) => push(Part::texted(Mark::Symbol, name.as_str()), key),
+        Value::Nil => push(Part::bare(KeyMark::Nil), key),
+        Value::Bool(b) => push(Part::numbered(KeyMark::Bool, i64::from(*b)), key),
+        Value::Int(n) => push(Part::numbered(KeyMark::Int, *n), key),
+        Value::Char(c) => push(Part::numbered(KeyMark::Char, i64::from(u32::from(*c))), key),
+        Value::Str(text) => push(Part::texted(KeyMark::Str, text.as_str()), key),
+        Value::Keyword(name) => push(Part::texted(KeyMark::Keyword, name.as_str()), key),
+        Value::Symbol(name) => push(Part::texted(KeyMark::Symbol, name.as_str()), key),
         Value::List(items) => push_items(alloc, items, key),
         Value::Vector(items) => push_items(alloc, items, key),
         Value::Map(pairs) => {
-            push(Part::bare(Mark::Map), key)?;
+            push(Part::bare(KeyMark::Map), key)?;
             push_sorted(pair_keys(alloc, pairs)?, key)
         }
         Value::Set(items) => {
-            push(Part::bare(Mark::Set), key)?;
+            push(Part::bare(KeyMark::Set), key)?;
             push_sorted(item_keys(alloc, items)?, key)
         }
         Value::Tagged(tagged) => {
-            push(Part::texted(Mark::Tagged, tagged.tag()), key)?;
+            push(Part::texted(KeyMark::Tagged, tagged.tag()), key)?;
             push_key(alloc, &tagged.inside.1, key)
         }
     }
@@ -153,12 +153,12 @@ fn push_items<'a>(
     ensures { OnOk result (key_parts key.new.items
         ≡ key_parts key.old.items ++ keys.key_of (vector (items_of items.now))) }
 {
-    push(Part::bare(Mark::Sequence), key)?;
+    push(Part::bare(KeyMark::Sequence), key)?;
     for item in &items.items {
-        push(Part::bare(Mark::More), key)?;
+        push(Part::bare(KeyMark::More), key)?;
         push_key(alloc, item, key)?;
     }
-    push(Part::bare(Mark::Last), key)
+    push(Part::bare(KeyMark::Last), key)
 }
 
 /// The key of each element.

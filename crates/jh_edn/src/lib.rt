@@ -11,6 +11,7 @@ mod error;
 mod fingerprint;
 mod is_normal;
 mod key;
+mod keyed;
 mod laws;
 mod line;
 mod name;
@@ -30,6 +31,7 @@ mod writer;
 pub use all::read_all;
 pub use bytes::read_bytes;
 pub use error::EdnError;
+pub use keyed::value_under;
 pub use laws::{
     equality_laws, normal_laws, order_laws, print_laws, spelled_once, values_are_spelled,
 };

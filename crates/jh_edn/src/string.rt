@@ -10,7 +10,7 @@ ghost use Rattle.jh_edn.specs.Gives.{Gives, rest_at_stop, IsShorter};
 ghost use Rattle.jh_edn.specs.Reading.{body};
 
 use crate::scan::{plain_len, unescape};
-use crate::syntax_error::{Kind, ReadError, syntax_error_at};
+use crate::syntax_error::{ReadError, SyntaxErrorKind, syntax_error_at};
 use crate::text::Text;
 use std::alloc::Global;
 
@@ -71,9 +71,9 @@ fn string_in_pieces(alloc: Global, rest: &str) -> Result<(Text, &str), ReadError
         text.push_str(&left[..len])?;
         left = &left[len..];
         match stop_at(left) {
-            Stop::End => return Err(syntax_error_at(Kind::UnexpectedEnd, "")),
+            Stop::End => return Err(syntax_error_at(SyntaxErrorKind::UnexpectedEnd, "")),
             Stop::Close(after) => return Ok((Text::of_string(alloc, text)?, after)),
-            Stop::BadEscape => return Err(syntax_error_at(Kind::BadEscape, left)),
+            Stop::BadEscape => return Err(syntax_error_at(SyntaxErrorKind::BadEscape, left)),
             Stop::Escape(c, after) => {
                 text.push(c)?;
                 left = after;

@@ -10,7 +10,7 @@ use std::alloc::{AllocError, AllocFailed};
 
 /// What is wrong.
 #[derive(Clone, Copy, Debug, PartialEq, Eq)]
-pub(crate) enum Kind {
+pub(crate) enum SyntaxErrorKind {
     UnexpectedEnd,
     BadToken,
     FloatUnsupported,
@@ -24,7 +24,7 @@ pub(crate) enum Kind {
 /// What is wrong, and how many bytes of the text are left there.
 #[derive(Clone, Copy, Debug, PartialEq, Eq)]
 pub(crate) struct SyntaxError {
-    pub(crate) kind: Kind,
+    pub(crate) kind: SyntaxErrorKind,
     pub(crate) left: usize,
 }
 
@@ -52,7 +52,7 @@ impl<T: Drop> From<AllocFailed<T>> for ReadError {
 }
 
 /// The error at the front of the text.
-pub(crate) fn syntax_error_at(kind: Kind, rest: &str) -> ReadError
+pub(crate) fn syntax_error_at(kind: SyntaxErrorKind, rest: &str) -> ReadError
     ensures { result ≡ ReadError.Syntax (record { kind = kind; left = length rest.now }) }
 {
     ReadError::Syntax(SyntaxError {

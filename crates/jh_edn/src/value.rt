@@ -37,8 +37,9 @@ pub enum Value {
     Tagged(Tagged),
 }
 
-// Written out, it is one call wherever a value is dropped. A derived one is proved there, for each
-// kind of value.
+// This isn't derived, because a derived drop would be proved at each way out of every function that
+// holds a value, once for each of the twelve kinds. Written out, it is proved once, and is one call
+// there.
 impl Drop for Value {
     fn drop(self) {
         match self {
