@@ -147,8 +147,8 @@ abbrev mutual
   operands_of no_items = []
   operands_of (item x xs) = record { value = x; parsed = parsed_generator x } ∷ operands_of xs
 
--- Why a value is refused as a generator: it means none. Memory can be wanted only where it means
--- one.
+-- Why a value is refused as a generator: it means none. `OutOfMemory` is possible only where it
+-- means one.
 abbrev pub RefusesGenerator : Edn → GenTextError → Type 0
 RefusesGenerator value BadGenerator = parsed_generator value ≡ None
 RefusesGenerator value OutOfMemory = IsSome (parsed_generator value)

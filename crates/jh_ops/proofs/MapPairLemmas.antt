@@ -19,15 +19,6 @@ use Rattle.jh_ops.specs.PartsInside.{pairs_without_first}
 
 -- ---- what is found among the pairs that a program holds
 
-pub value_under-found : (name : List ℕ) (pairs : List (Value × Value))
-    → option_map (λ pair. view pair.1) (find (λ pair. is_keyword name (view pair.0)) pairs) ≡ value_under name (view_pairs pairs)
-value_under-found name [] = refl
-value_under-found name (p ∷ ps) =
-    elim (is_keyword name (view p.0))
-    as (λ b. option_map (λ pair. view pair.1) (cond b (Some p) (find (λ pair. is_keyword name (view pair.0)) ps))
-    ≡ option_map (λ pair. pair.1) (cond b (Some (view_pair p)) (find (λ pair. is_keyword name pair.0) (view_pairs ps))))
-    [ true ↦ refl | false ↦ value_under-found name ps ]
-
 pub find-viewed : (test : Edn × Edn → Bool) (pairs : List (Value × Value)) → option_map view_pair (find (λ pair. test (view_pair pair)) pairs) ≡ find test (view_pairs pairs)
 find-viewed test [] = refl
 find-viewed test (p ∷ ps) =

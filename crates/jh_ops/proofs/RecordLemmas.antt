@@ -16,7 +16,7 @@ use Rattle.jh_ops.specs.Operation.{Operation}
 use Rattle.jh_ops.specs.RecordParts.{function_named, function_of, takes, shape_number, holds, shape_of_value, elements, IsPlain, event_word_in, first_word, IsHeadingOf, IsWordOf, AreWordsOfValues}
 use Rattle.jh_ops.specs.Words.{Content, Nothing, One, Several, content_value, content_number, integers, MayHave, function_name, Record, pairs_of_event, operation_of, CanBeKept, StandFor, event_word, heading, process_word}
 use Rattle.jh_ops.specs.declared.record.Function.{Function}
-use Rattle.jh_ops.specs.declared.record.Shape.{Shape}
+use Rattle.jh_ops.specs.declared.record.ValueShape.{ValueShape}
 use Rattle.jh_ops.proofs.MapPairLemmas.{keyword_is}
 use Rattle.jh_edn.proofs.CitedLemmas.{list_of-items_of}
 
@@ -71,10 +71,10 @@ function_again Function.Step = refl
 
 -- ---- its value
 
-abbrev pub shape_in : Content → Shape
-shape_in Nothing = Shape.Nil
-shape_in (One z) = Shape.Integer
-shape_in (Several zs) = Shape.Vector
+abbrev pub shape_in : Content → ValueShape
+shape_in Nothing = ValueShape.Nil
+shape_in (One z) = ValueShape.Integer
+shape_in (Several zs) = ValueShape.Vector
 
 pub number_is : (c : Content) → shape_number (shape_in c) ≡ content_number c
 number_is Nothing = refl
@@ -92,31 +92,31 @@ are_integers_again : (zs : List ℤ) → list_all is_integer (map int zs) ≡ tr
 are_integers_again [] = refl
 are_integers_again (z ∷ zs) = are_integers_again zs
 
-value_is : (value : Edn) (s : Shape) → shape_of_value value ≡ Some s → (c : Content) × (content_value c ≡ value) × (shape_in c ≡ s)
-value_is nil s found = (Nothing, refl, let e : Some Shape.Nil ≡ Some s = found in cc)
-value_is (int z) s found = (One z, refl, let e : Some Shape.Integer ≡ Some s = found in cc)
+value_is : (value : Edn) (s : ValueShape) → shape_of_value value ≡ Some s → (c : Content) × (content_value c ≡ value) × (shape_in c ≡ s)
+value_is nil s found = (Nothing, refl, let e : Some ValueShape.Nil ≡ Some s = found in cc)
+value_is (int z) s found = (One z, refl, let e : Some ValueShape.Integer ≡ Some s = found in cc)
 value_is (vector xs) s found =
     elim (cases_Bool (list_all is_integer (list_of xs))) [
       | inl hit ↦
           let from = all_integers xs hit in
-          (Several from.0, sym (ap vector from.1), (let e : Some Shape.Vector ≡ Some s = sym (ap (λ b. cond b (Some Shape.Vector) None) hit) ∙ found in cc))
-      | inr miss ↦ absurd (let clash : None ≡ Some s = sym (ap (λ b. cond b (Some Shape.Vector) None) miss) ∙ found in cc)
+          (Several from.0, sym (ap vector from.1), (let e : Some ValueShape.Vector ≡ Some s = sym (ap (λ b. cond b (Some ValueShape.Vector) None) hit) ∙ found in cc))
+      | inr miss ↦ absurd (let clash : None ≡ Some s = sym (ap (λ b. cond b (Some ValueShape.Vector) None) miss) ∙ found in cc)
     ]
 value_is _ s found = absurd (let clash : None ≡ Some s = found in cc)
 
-pub then_some_is : (b : Bool) → then_some b Shape.Vector ≡ cond b (Some Shape.Vector) None
+pub then_some_is : (b : Bool) → then_some b ValueShape.Vector ≡ cond b (Some ValueShape.Vector) None
 then_some_is true = refl
 then_some_is false = refl
 
 -- the shape of a vector of these values
-pub shape_of_vector : (values : List Value) (b : Bool) → list_all (λ v. is_integer (view v)) values ≡ b → shape_of_value (vector (items_of (views values))) ≡ cond b (Some Shape.Vector) None
+pub shape_of_vector : (values : List Value) (b : Bool) → list_all (λ v. is_integer (view v)) values ≡ b → shape_of_value (vector (items_of (views values))) ≡ cond b (Some ValueShape.Vector) None
 shape_of_vector values b all =
-    ap (λ xs. cond (list_all is_integer xs) (Some Shape.Vector) None) (list_of-items_of (views values)) ∙ ap (λ t. cond t (Some Shape.Vector) None) (list_all-map is_integer view values ∙ all)
+    ap (λ xs. cond (list_all is_integer xs) (Some ValueShape.Vector) None) (list_of-items_of (views values)) ∙ ap (λ t. cond t (Some ValueShape.Vector) None) (list_all-map is_integer view values ∙ all)
 
 shape_again : (c : Content) → shape_of_value (content_value c) ≡ Some (shape_in c)
 shape_again Nothing = refl
 shape_again (One z) = refl
-shape_again (Several zs) = ap (λ xs. cond (list_all is_integer xs) (Some Shape.Vector) None) (list_of-items_of (map int zs)) ∙ ap (λ b. cond b (Some Shape.Vector) None) (are_integers_again zs)
+shape_again (Several zs) = ap (λ xs. cond (list_all is_integer xs) (Some ValueShape.Vector) None) (list_of-items_of (map int zs)) ∙ ap (λ b. cond b (Some ValueShape.Vector) None) (are_integers_again zs)
 
 pub elements_are : (c : Content) → elements (content_value c) ≡ map int (integers c)
 elements_are Nothing = refl
@@ -205,7 +205,7 @@ event_small (Some number) h = omega (arith, h)
 
 -- ---- the whole
 
-pub heading_is : (op : Operation) (f : Function) (s : Shape) (word : ℕ) → event_word_in op.rest ≡ Some word → word ≤ 2 ^ 63 → function_of op.f ≡ Some f → shape_of_value op.value ≡ Some s → IsPlain op
+pub heading_is : (op : Operation) (f : Function) (s : ValueShape) (word : ℕ) → event_word_in op.rest ≡ Some word → word ≤ 2 ^ 63 → function_of op.f ≡ Some f → shape_of_value op.value ≡ Some s → IsPlain op
     → (holds s (length (elements op.value)) && takes f s (length (elements op.value))) ≡ true → IsHeadingOf op (first_word (record { kind = op.kind; function = f; shape = s }) ∷ process_word op.process ∷ word ∷ [])
 heading_is op f s word event small function shape plain fits =
     let e = event_is op.rest word event in
@@ -234,7 +234,7 @@ kept_shape op r same = ap (λ o. shape_of_value o.value) (sym same) ∙ shape_ag
 pub kept_plain : (op : Operation) (r : Record) → CanBeKept r → operation_of r ≡ op → IsPlain op
 kept_plain op r can same = subst IsPlain same (refl, refl, can.process)
 
-pub kept_fits : (op : Operation) (r : Record) (f : Function) (s : Shape) → CanBeKept r → operation_of r ≡ op → function_of op.f ≡ Some f → shape_of_value op.value ≡ Some s
+pub kept_fits : (op : Operation) (r : Record) (f : Function) (s : ValueShape) → CanBeKept r → operation_of r ≡ op → function_of op.f ≡ Some f → shape_of_value op.value ≡ Some s
     → (holds s (length (elements op.value)) && takes f s (length (elements op.value))) ≡ true
 kept_fits op r f s can same function shape =
     let f_is : r.function ≡ f = (let e : Some r.function ≡ Some f = sym (kept_function op r same) ∙ function in cc) in

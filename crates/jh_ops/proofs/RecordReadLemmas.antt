@@ -15,7 +15,7 @@ use Rattle.jh_ops.specs.Words.{Content, Nothing, One, Several, content_value, co
 use Rattle.jh_ops.specs.declared.operation.Kind.{Kind}
 use Rattle.jh_ops.specs.declared.operation.Process.{Process}
 use Rattle.jh_ops.specs.declared.record.Function.{Function}
-use Rattle.jh_ops.specs.declared.record.Shape.{Shape}
+use Rattle.jh_ops.specs.declared.record.ValueShape.{ValueShape}
 use Rattle.jh_ops.specs.declared.words.Head.{Head}
 use Rattle.jh_ops.specs.declared.words.Heading.{Heading}
 use Rattle.jh_ops.proofs.RecordLemmas.{shape_in, number_is, may_have, takes_again, few, holds_again, event_small, kept_function, kept_event}
@@ -31,15 +31,15 @@ one_of [] h = absurd (let clash : false ≡ true = h in cc)
 one_of (x ∷ []) h = (x, refl)
 one_of (x ∷ y ∷ xs) h = absurd (grind (arith, h))
 
-shape_is : (s : Shape) (zs : List ℤ) → holds s (length zs) ≡ true → shape_in (content_of s zs) ≡ s
-shape_is Shape.Nil zs h = refl
-shape_is Shape.Integer zs h = (let one = one_of zs h in ap (λ ys. shape_in (content_of Shape.Integer ys)) one.1)
-shape_is Shape.Vector zs h = refl
+shape_is : (s : ValueShape) (zs : List ℤ) → holds s (length zs) ≡ true → shape_in (content_of s zs) ≡ s
+shape_is ValueShape.Nil zs h = refl
+shape_is ValueShape.Integer zs h = (let one = one_of zs h in ap (λ ys. shape_in (content_of ValueShape.Integer ys)) one.1)
+shape_is ValueShape.Vector zs h = refl
 
-integers_are : (s : Shape) (zs : List ℤ) → holds s (length zs) ≡ true → integers (content_of s zs) ≡ zs
-integers_are Shape.Nil zs h = sym (none_of zs h)
-integers_are Shape.Integer zs h = (let one = one_of zs h in ap (λ ys. integers (content_of Shape.Integer ys)) one.1 ∙ sym one.1)
-integers_are Shape.Vector zs h = refl
+integers_are : (s : ValueShape) (zs : List ℤ) → holds s (length zs) ≡ true → integers (content_of s zs) ≡ zs
+integers_are ValueShape.Nil zs h = sym (none_of zs h)
+integers_are ValueShape.Integer zs h = (let one = one_of zs h in ap (λ ys. integers (content_of ValueShape.Integer ys)) one.1 ∙ sym one.1)
+integers_are ValueShape.Vector zs h = refl
 
 event_is : (word : ℕ) → event_word (event_of word) ≡ word
 event_is word =
@@ -134,10 +134,10 @@ number_again Function.Add = refl
 number_again Function.Generate = refl
 number_again Function.Step = refl
 
-shape_again : (s : Shape) → shape_numbered (shape_number s) ≡ Some s
-shape_again Shape.Nil = refl
-shape_again Shape.Integer = refl
-shape_again Shape.Vector = refl
+shape_again : (s : ValueShape) → shape_numbered (shape_number s) ≡ Some s
+shape_again ValueShape.Nil = refl
+shape_again ValueShape.Integer = refl
+shape_again ValueShape.Vector = refl
 
 same_head : (these those : Head) → first_word these ≡ first_word those → these ≡ those
 same_head these those same =

@@ -29,8 +29,8 @@ abbrev pub IsParsedAt : List Edn → ℕ → Type 0
 IsParsedAt values place =
     (op : Operation) × (slice_get (parsed_elements values) place ≡ Some (Ok op))
 
--- Why a history is refused: at the first place where no operation is parsed. Memory can be wanted
--- at a place only where operations are parsed up to it.
+-- Why a history is refused: at the first place where no operation is parsed. `OutOfMemory` is
+-- possible only at a place up to which operations are parsed.
 abbrev pub RefusesValues : List Edn → HistoryError → Type 0
 RefusesValues values (Op place refusal) =
     (slice_get (parsed_elements values) place ≡ Some (Err refusal))

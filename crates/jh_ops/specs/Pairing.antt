@@ -106,8 +106,8 @@ HasPairError history error =
     (place : ℕ) × (pair_error_at history place ≡ Some error)
     × ((earlier : ℕ) → earlier < place → pair_error_at history earlier ≡ None)
 
--- Why a history is refused. Memory can be wanted at an operation only where nothing is wrong up to
--- it.
+-- Why a history is refused. `OutOfMemory` is possible only at an operation up to which nothing is
+-- wrong.
 abbrev pub RefusesHistory : List Operation → PairError → Type 0
 RefusesHistory history OutOfMemory =
     (place : ℕ) × (place < length history)

@@ -14,7 +14,7 @@ use Rattle.jh_ops.specs.Words.{heading, kind_number, function_number, process_wo
 use Rattle.jh_ops.specs.declared.operation.Kind.{Kind}
 use Rattle.jh_ops.specs.declared.operation.Process.{Process}
 use Rattle.jh_ops.specs.declared.record.Function.{Function}
-use Rattle.jh_ops.specs.declared.record.Shape.{Shape}
+use Rattle.jh_ops.specs.declared.record.ValueShape.{ValueShape}
 use Rattle.jh_ops.specs.declared.words.Head.{Head}
 use Rattle.jh_ops.specs.declared.words.Heading.{Heading}
 
@@ -43,42 +43,42 @@ function_numbered number =
     else None
 
 -- whether a function may have a value of this shape, of so many integers
-abbrev pub takes : Function → Shape → ℕ → Bool
+abbrev pub takes : Function → ValueShape → ℕ → Bool
 takes Function.Read shape count = true
-takes Function.Write Shape.Integer count = true
-takes Function.Cas Shape.Vector count = count == 2
-takes Function.Add Shape.Integer count = true
-takes Function.Generate Shape.Nil count = true
-takes Function.Generate Shape.Integer count = true
-takes Function.Step Shape.Integer count = true
-takes Function.Step Shape.Vector count = count == 2
+takes Function.Write ValueShape.Integer count = true
+takes Function.Cas ValueShape.Vector count = count == 2
+takes Function.Add ValueShape.Integer count = true
+takes Function.Generate ValueShape.Nil count = true
+takes Function.Generate ValueShape.Integer count = true
+takes Function.Step ValueShape.Integer count = true
+takes Function.Step ValueShape.Vector count = count == 2
 takes function shape count = false
 
-abbrev pub shape_number : Shape → ℕ
-shape_number Shape.Nil = 0
-shape_number Shape.Integer = 1
-shape_number Shape.Vector = 2
+abbrev pub shape_number : ValueShape → ℕ
+shape_number ValueShape.Nil = 0
+shape_number ValueShape.Integer = 1
+shape_number ValueShape.Vector = 2
 
-abbrev pub shape_numbered : ℕ → Option Shape
+abbrev pub shape_numbered : ℕ → Option ValueShape
 shape_numbered number =
-    if number == 0 then Some Shape.Nil
-    else if number == 1 then Some Shape.Integer
-    else if number == 2 then Some Shape.Vector
+    if number == 0 then Some ValueShape.Nil
+    else if number == 1 then Some ValueShape.Integer
+    else if number == 2 then Some ValueShape.Vector
     else None
 
 -- whether a value of this shape has so many integers
-abbrev pub holds : Shape → ℕ → Bool
-holds Shape.Nil count = count == 0
-holds Shape.Integer count = count == 1
-holds Shape.Vector count = nat_le count 1272
+abbrev pub holds : ValueShape → ℕ → Bool
+holds ValueShape.Nil count = count == 0
+holds ValueShape.Integer count = count == 1
+holds ValueShape.Vector count = nat_le count 1272
 
 abbrev pub are_integers : List Edn → Bool
 are_integers values = list_all is_integer values
 
-abbrev pub shape_of_value : Edn → Option Shape
-shape_of_value nil = Some Shape.Nil
-shape_of_value (int z) = Some Shape.Integer
-shape_of_value (vector xs) = if are_integers (list_of xs) then Some Shape.Vector else None
+abbrev pub shape_of_value : Edn → Option ValueShape
+shape_of_value nil = Some ValueShape.Nil
+shape_of_value (int z) = Some ValueShape.Integer
+shape_of_value (vector xs) = if are_integers (list_of xs) then Some ValueShape.Vector else None
 shape_of_value _ = None
 
 -- the values that take a word each
@@ -140,11 +140,11 @@ abbrev pub event_of : ℕ → Option ℕ
 event_of word = if word == 0 then None else Some (word - 1)
 
 -- the content of this shape with these integers
-abbrev pub content_of : Shape → List ℤ → Content
-content_of Shape.Nil zs = Nothing
-content_of Shape.Integer (z ∷ zs) = One z
-content_of Shape.Integer [] = Nothing
-content_of Shape.Vector zs = Several zs
+abbrev pub content_of : ValueShape → List ℤ → Content
+content_of ValueShape.Nil zs = Nothing
+content_of ValueShape.Integer (z ∷ zs) = One z
+content_of ValueShape.Integer [] = Nothing
+content_of ValueShape.Vector zs = Several zs
 
 -- the record of a heading and of the words after it
 abbrev pub record_of : Heading → List ℕ → Record

@@ -10,7 +10,7 @@ ghost use Rattle.jh_ops.specs.OperationWritten.{IsWritable};
 ghost use Rattle.jh_ops.specs.PartsInside.{pairs_without_first};
 
 use crate::operation::{Kind, Op, Process};
-use jh_edn::{Pairs, Value};
+use jh_edn::{Pairs, Value, value_under};
 use std::alloc::{AllocError, Global};
 use thiserror::Error;
 
@@ -33,23 +33,6 @@ pub enum OpError {
     BadProcess,
     #[error("out of memory")]
     OutOfMemory,
-}
-
-/// The first pair with a keyword, if there is one.
-fn find_pair<'a>(name: &str, pairs: &'a [(Value, Value)]) -> Option<&'a (Value, Value)>
-    ensures { option_copied result
-        ≡ find (λ pair. is_keyword name.now (view pair.0)) pairs.now }
-{
-    pairs.iter().find(|pair| pair.0.is_keyword(name))
-}
-
-/// The value under a keyword.
-fn value_under<'a>(name: &str, pairs: &'a [(Value, Value)]) -> Option<&'a Value>
-    ensures { option_map (λ v. view v.now) result
-        ≡ value_under name.now (view_pairs pairs.now) }
-{
-    let pair = find_pair(name, pairs)?;
-    Some(&pair.1)
 }
 
 /// Whether a pair has a keyword and an integer.

@@ -27,9 +27,9 @@ pub(crate) enum Function {
     Step,
 }
 
-/// What a recorded operation asks with, or answers (`:value`).
+/// The shape of what a recorded operation asks with, or answers (`:value`).
 #[derive(Clone, Copy, Debug, PartialEq, Eq)]
-pub(crate) enum Shape {
+pub(crate) enum ValueShape {
     Nil,
     Integer,
     /// A vector of integers.
@@ -100,62 +100,62 @@ impl Function {
 
     /// Whether it may have a value of this shape with so many integers, if a value of this shape
     /// may have so many.
-    fn takes(self, shape: Shape, count: usize) -> bool
+    fn takes(self, shape: ValueShape, count: usize) -> bool
         ensures { result ≡ rule.takes self shape count }
     {
         match (self, shape) {
             (Function::Read, _) => true,
-            (Function::Write, Shape::Integer) => true,
-            (Function::Cas, Shape::Vector) => count == 2,
-            (Function::Add, Shape::Integer) => true,
-            (Function::Generate, Shape::Nil) => true,
-            (Function::Generate, Shape::Integer) => true,
-            (Function::Step, Shape::Integer) => true,
-            (Function::Step, Shape::Vector) => count == 2,
+            (Function::Write, ValueShape::Integer) => true,
+            (Function::Cas, ValueShape::Vector) => count == 2,
+            (Function::Add, ValueShape::Integer) => true,
+            (Function::Generate, ValueShape::Nil) => true,
+            (Function::Generate, ValueShape::Integer) => true,
+            (Function::Step, ValueShape::Integer) => true,
+            (Function::Step, ValueShape::Vector) => count == 2,
             _ => false,
         }
     }
 
     /// Whether a record of it may have a value of this shape, of so many integers.
-    pub(crate) fn may_have(self, shape: Shape, count: usize) -> bool
+    pub(crate) fn may_have(self, shape: ValueShape, count: usize) -> bool
         ensures { result ≡ (rule.holds shape count && rule.takes self shape count) }
     {
         shape.holds(count) && self.takes(shape, count)
     }
 }
 
-impl Shape {
+impl ValueShape {
     /// The number of the shape in the first word of a record.
     pub(crate) fn number(self) -> u64
         ensures { result ≡ rule.shape_number self }
     {
         match self {
-            Shape::Nil => 0,
-            Shape::Integer => 1,
-            Shape::Vector => 2,
+            ValueShape::Nil => 0,
+            ValueShape::Integer => 1,
+            ValueShape::Vector => 2,
         }
     }
 
     /// The shape with this number, if there is one.
-    pub(crate) fn of_number(number: u64) -> Option<Shape>
+    pub(crate) fn of_number(number: u64) -> Option<ValueShape>
         ensures { result ≡ rule.shape_numbered number }
     {
         match number {
-            0 => Some(Shape::Nil),
-            1 => Some(Shape::Integer),
-            2 => Some(Shape::Vector),
+            0 => Some(ValueShape::Nil),
+            1 => Some(ValueShape::Integer),
+            2 => Some(ValueShape::Vector),
             _ => None,
         }
     }
 
     /// The shape of a value that may be recorded, but for the number of its integers.
-    pub(crate) fn of_value(value: &Value) -> Option<Shape>
+    pub(crate) fn of_value(value: &Value) -> Option<ValueShape>
         ensures { result ≡ rule.shape_of_value (view value.now) }
     {
         match value {
-            Value::Nil => Some(Shape::Nil),
-            Value::Int(_) => Some(Shape::Integer),
-            Value::Vector(items) => are_integers(items.as_slice()).then_some(Shape::Vector),
+            Value::Nil => Some(ValueShape::Nil),
+            Value::Int(_) => Some(ValueShape::Integer),
+            Value::Vector(items) => are_integers(items.as_slice()).then_some(ValueShape::Vector),
             _ => None,
         }
     }
@@ -165,9 +165,9 @@ impl Shape {
         ensures { result ≡ rule.holds self count }
     {
         match self {
-            Shape::Nil => count == 0,
-            Shape::Integer => count == 1,
-            Shape::Vector => count <= MAX_INTEGERS,
+            ValueShape::Nil => count == 0,
+            ValueShape::Integer => count == 1,
+            ValueShape::Vector => count <= MAX_INTEGERS,
         }
     }
 }

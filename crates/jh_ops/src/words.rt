@@ -16,7 +16,7 @@ ghost use Rattle.jh_ops.specs.declared.words.WordsError.TheVariants.{BadWords};
 ghost use Rattle.jh_ops.specs.Words.{IsRecordedAs, RefusesOperation, RefusesWords, AreRecordedOnce};
 
 use crate::operation::{Kind, Op, Process};
-use crate::record::{Function, Shape, count_of, kind_number, kind_of_number};
+use crate::record::{Function, ValueShape, count_of, kind_number, kind_of_number};
 use jh_edn::{Pairs, Value, Values};
 use std::alloc::{AllocError, Global};
 use thiserror::Error;
@@ -43,7 +43,7 @@ pub enum WordsError {
 struct Head {
     kind: Kind,
     function: Function,
-    shape: Shape,
+    shape: ValueShape,
 }
 
 impl Head {
@@ -62,7 +62,7 @@ impl Head {
         Some(Head {
             kind: kind_of_number(word % 4),
             function: Function::of_number(word / 4 % 16)?,
-            shape: Shape::of_number(word / 64)?,
+            shape: ValueShape::of_number(word / 64)?,
         })
     }
 }
@@ -120,7 +120,7 @@ fn heading_of(op: &Op) -> Option<[u64; 3]>
 {
     let event = event_word(op.rest.as_slice())?;
     let function = Function::of_value(&op.f)?;
-    let shape = Shape::of_value(&op.value)?;
+    let shape = ValueShape::of_value(&op.value)?;
     let count = count_of(&op.value);
     if !is_plain(op) {
         return None;
@@ -261,15 +261,15 @@ fn integers_of(alloc: Global, words: &[u64]) -> Result<Vec<Value>, AllocError>
 }
 
 /// The value of this shape with these integers.
-fn value_with(alloc: Global, shape: Shape, words: &[u64]) -> Result<Value, AllocError>
+fn value_with(alloc: Global, shape: ValueShape, words: &[u64]) -> Result<Value, AllocError>
     requires { parts.holds shape (length words.now) ≡ true }
     ensures { IfOk result (λ value. view value
         ≡ rule.content_value (parts.content_of shape (map (cast_signed w64) words.now))) }
 {
     match shape {
-        Shape::Nil => Ok(Value::Nil),
-        Shape::Integer => Ok(Value::Int(words[0].cast_signed())),
-        Shape::Vector => Ok(Value::Vector(Values::of(integers_of(alloc, words)?))),
+        ValueShape::Nil => Ok(Value::Nil),
+        ValueShape::Integer => Ok(Value::Int(words[0].cast_signed())),
+        ValueShape::Vector => Ok(Value::Vector(Values::of(integers_of(alloc, words)?))),
     }
 }
 

@@ -3,7 +3,7 @@ use Rattle.jh_edn.specs.Edn.{vector, items_of}
 use Rattle.jh_edn.specs.View.{view}
 use Rattle.jh_ops.specs.RecordParts.{shape_of_value}
 use Rattle.jh_ops.proofs.RecordLemmas.{shape_of_vector, then_some_is}
-use Rattle.jh_ops.proofs.record.Shape.of_value.Goals as goal
+use Rattle.jh_ops.proofs.record.ValueShape.of_value.Goals as goal
 
 pub returns-in-Vector : goal.returns-in-Vector
 returns-in-Vector c =
