@@ -1,26 +1,16 @@
 -- Facts about the values of a text.
-use Rattle.std.proofs.Common.{◌≡◌, ℕ, ◌+◌, ◌<◌, true, false, if◌then◌else◌, List, [], ◌∷◌, ◌++◌, length, get_or, drop, map, find, Option, Some, None, option_map, option_and_then, ok_or, Err, ap, refl, sym, ◌∙◌, append_assoc, flat_map}
+use Rattle.std.proofs.Common.{◌≡◌, ℕ, ◌+◌, ◌<◌, if◌then◌else◌, List, [], ◌∷◌, ◌++◌, length, get_or, drop, map, Option, Some, None, option_map, option_and_then, ok_or, Err, ap, refl, sym, ◌∙◌, append_assoc, flat_map}
 use Rattle.std.proofs.lemmas.List.{at_drop_more}
 use Rattle.std.proofs.lemmas.List.Folds.{list_all-map}
 use Rattle.std.specs.List.{list_all}
-use Rattle.jh_edn.specs.Edn.{Edn, mapping, members_of, is_keyword, value_under, pairs_in}
+use Rattle.jh_edn.specs.Edn.{Edn, mapping, members_of, value_under, pairs_in}
 use Rattle.jh_edn.proofs.CitedLemmas.{pairs_in-members_of}
-use Rattle.jh_edn.specs.View.{view, view_pair, view_pairs}
+use Rattle.jh_edn.specs.View.{view_pair, view_pairs}
 use Rattle.jh_edn.specs.declared.value.Value.{Value}
 use Rattle.jh_env.specs.Text.{has_known_key, nodes_keyword, text_keys, Keys, each_of}
 use Rattle.jh_env.specs.TextInside.{list_with_front, RefusesShape}
 use Rattle.jh_env.specs.declared.texts.EnvTextError.TheVariants.{UnknownKey, MissingNodes, BadEntry, OutOfMemory}
 use Rattle.jh_env.specs.declared.texts.EnvTextError.{EnvTextError}
-
--- the value under a keyword is that of the first pair that a program finds
-pub value_under-found : (name : List ℕ) (pairs : List (Value × Value))
-    → option_map (λ pair. view pair.1) (find (λ pair. is_keyword name (view pair.0)) pairs) ≡ value_under name (view_pairs pairs)
-value_under-found name [] = refl
-value_under-found name (p ∷ ps) =
-    elim (is_keyword name (view p.0))
-    as (λ b. option_map (λ pair. view pair.1) (if b then Some p else find (λ pair. is_keyword name (view pair.0)) ps)
-    ≡ option_map (λ pair. pair.1) (if b then Some (view_pair p) else find (λ pair. is_keyword name pair.0) (view_pairs ps)))
-    [ true ↦ refl | false ↦ value_under-found name ps ]
 
 -- the keys of a map that a program holds
 pub text_keys-map : (ps : List (Value × Value)) → text_keys (mapping (members_of (view_pairs ps)))

@@ -1,10 +1,9 @@
 //! The shape of an environment's text: its keys, its names and its entries. `specs/Text.antt` says
 //! what they are.
 
-ghost use Rattle.std.specs.Prelude.{◌≡◌, ◌∷◌, map, find, bytes_eq, option_map, option_copied};
+ghost use Rattle.std.specs.Prelude.{◌≡◌, ◌∷◌, map, bytes_eq};
 ghost use Rattle.std.specs.Prelude.{MatchResult};
 ghost use Rattle.std.specs.List.{list_any, list_all};
-ghost use Rattle.jh_edn.specs.Edn.{is_keyword, value_under};
 ghost use Rattle.jh_edn.specs.View.{view, view_pair, view_pairs};
 ghost use Rattle.jh_env.specs.Text as text;
 ghost use Rattle.jh_env.specs.Text.{nodes_keyword, sections};
@@ -12,7 +11,7 @@ ghost use Rattle.jh_env.specs.TextInside.{entries_parsed, list_with_front, Refus
 
 use super::EnvTextError;
 use super::entries::{Entry, SECTIONS, Section};
-use jh_edn::Value;
+use jh_edn::{Value, value_under};
 use std::alloc::Global;
 
 /// Whether one of the six keys has this name.
@@ -37,21 +36,6 @@ fn have_known_keys(pairs: &[(Value, Value)]) -> bool
     ensures { result ≡ list_all (λ pair. text.has_known_key (view_pair pair)) pairs.now }
 {
     pairs.iter().all(|pair| has_known_key(pair))
-}
-
-/// The first pair whose key is the keyword of this name.
-fn find_pair<'a>(name: &str, pairs: &'a [(Value, Value)]) -> Option<&'a (Value, Value)>
-    ensures { option_copied result ≡ find (λ pair. is_keyword name.now (view pair.0)) pairs.now }
-{
-    pairs.iter().find(|pair| pair.0.is_keyword(name))
-}
-
-/// The value under a keyword: that of the first pair with it.
-fn value_under<'a>(name: &str, pairs: &'a [(Value, Value)]) -> Option<&'a Value>
-    ensures { option_map (λ v. view v.now) result ≡ value_under name.now (view_pairs pairs.now) }
-{
-    let pair = find_pair(name, pairs)?;
-    Some(&pair.1)
 }
 
 /// The value of `:nodes` and all pairs of a map that has no unknown key.
