@@ -3,7 +3,7 @@
 use crate::plain_nemesis::cells::{PlainCells, all_links};
 use crate::plain_nemesis::faults::{LinkFault, NodeFault, PlainFault};
 use crate::plain_nemesis::random::Random;
-use jh_env::{Life, Link, MAX_BUMPED, MAX_FIXED, MAX_LOSS, MAX_SLOWED, NodeCell};
+use jh_env::{Life, Link, MAX_BUMPED_MS, MAX_FIXED_MS, MAX_LOSS, MAX_SLOWED_MS, NodeCell};
 use std::alloc::Global;
 
 /// A node of so many, mostly one of the first three, so that faults meet.
@@ -113,7 +113,7 @@ fn random_nodes(alloc: Global, random: &mut Random, count: u8) -> Option<Vec<u8>
 fn bumps(alloc: Global, random: &mut Random, places: &[u8]) -> Option<Vec<(u8, i64)>> {
     let mut bumps = Vec::new(alloc);
     for place in places {
-        let ms = random.offset(MAX_BUMPED.unsigned_abs());
+        let ms = random.offset(MAX_BUMPED_MS.unsigned_abs());
         bumps.push((*place, ms)).ok()?;
     }
     Some(bumps)
@@ -124,9 +124,9 @@ fn bumps(alloc: Global, random: &mut Random, places: &[u8]) -> Option<Vec<(u8, i
 fn link_fault(random: &mut Random) -> LinkFault {
     match random.below(6) {
         0 => LinkFault::Cut,
-        1 => LinkFault::Slow(random.amount(1, MAX_SLOWED)),
+        1 => LinkFault::Slow(random.amount(1, MAX_SLOWED_MS)),
         2 => LinkFault::Loss(level(random, 1)),
-        _ => LinkFault::Fix(random.amount(0, MAX_FIXED)),
+        _ => LinkFault::Fix(random.amount(0, MAX_FIXED_MS)),
     }
 }
 
