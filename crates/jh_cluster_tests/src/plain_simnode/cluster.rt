@@ -38,7 +38,7 @@ pub struct PlainCluster {
 
 /// A request at a node, which is the number of its event, with the nodes that it reaches.
 #[derive(Drop)]
-struct Asked {
+struct PlainRequest {
     number: i128,
     at: usize,
     request: Request,
@@ -136,7 +136,7 @@ impl PlainCluster {
     }
 
     /// A read of the newest replica that responds; it fails where fewer than a majority respond.
-    fn read_by_quorum(&self, asked: &Asked) -> Option<PlainReply> {
+    fn read_by_quorum(&self, asked: &PlainRequest) -> Option<PlainReply> {
         if !self.is_majority(asked.responding.as_slice()) {
             return Some(PlainReply::Fail);
         }
@@ -145,14 +145,14 @@ impl PlainCluster {
     }
 
     /// What is held after the request on the replica at a place. None within: the request fails.
-    fn after(&self, asked: &Asked, place: usize) -> Option<Option<Vec<i64>>> {
+    fn after(&self, asked: &PlainRequest, place: usize) -> Option<Option<Vec<i64>>> {
         let workload = self.settings.workload;
         held_after(self.alloc, workload, asked.request, self.held(place)?).ok()
     }
 
     /// A change of the newest replica reached, which goes to all nodes reached. It fails where
     /// fewer than a majority are reached.
-    fn change_by_quorum(&mut self, asked: &Asked) -> Option<PlainReply> {
+    fn change_by_quorum(&mut self, asked: &PlainRequest) -> Option<PlainReply> {
         if !self.is_majority(asked.reached.as_slice()) {
             return Some(PlainReply::Fail);
         }
@@ -174,7 +174,12 @@ impl PlainCluster {
 
     /// A change of a node's own replica, which goes to the nodes that are told of it and have an
     /// older one.
-    fn change_own(&mut self, asked: &Asked, time: i128, given: &[usize]) -> Option<PlainReply> {
+    fn change_own(
+        &mut self,
+        asked: &PlainRequest,
+        time: i128,
+        given: &[usize],
+    ) -> Option<PlainReply> {
         let Some(held) = self.after(asked, asked.at)? else {
             return Some(PlainReply::Fail);
         };
@@ -188,7 +193,7 @@ impl PlainCluster {
     }
 
     /// The reply of a node that runs, with its clock off by so much.
-    fn serve_running(&mut self, asked: &Asked, clock: i64) -> Option<PlainReply> {
+    fn serve_running(&mut self, asked: &PlainRequest, clock: i64) -> Option<PlainReply> {
         match (self.settings.store, asked.request) {
             (Store::Quorum, Request::Read) => self.read_by_quorum(asked),
             (Store::Quorum, _) => self.change_by_quorum(asked),
@@ -222,7 +227,7 @@ impl PlainCluster {
             (Life::Running, _) => (),
         }
         let reached = reached(self.alloc, env, at, draw)?;
-        let asked = Asked {
+        let asked = PlainRequest {
             number: number as i128,
             at,
             request,

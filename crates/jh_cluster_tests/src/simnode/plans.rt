@@ -5,7 +5,7 @@
 //! how many of them a client ticks, the rows and the seed; the generator, and the schedule.
 
 use crate::simnode::fixtures::plan_of;
-use crate::simnode::rows::{Kind, ask_all};
+use crate::simnode::rows::{TextKind, ask_all};
 use crate::simnode::runs::refusal;
 use jh_nemesis::Step;
 use jh_simnode::{Entry, MAX_ENTRIES, Plan, Schedule, TooLong};
@@ -38,7 +38,7 @@ const REFUSALS: &str = r#"
 
 #[test]
 fn plans_are_refused(rt: HostRuntime) -> Result<(), Fail> {
-    ask_all(rt.alloc(), Kind::Run, REFUSALS)
+    ask_all(rt.alloc(), TextKind::Run, REFUSALS)
 }
 
 const SETTINGS: &str =
@@ -48,7 +48,7 @@ const SETTINGS: &str =
 
 #[test]
 fn a_plan_has_its_parts(rt: HostRuntime) -> Result<(), Fail> {
-    ask_all(rt.alloc(), Kind::Plan, SETTINGS)
+    ask_all(rt.alloc(), TextKind::Plan, SETTINGS)
 }
 
 /// Writes the number of nodes, and what a world keeps for good.

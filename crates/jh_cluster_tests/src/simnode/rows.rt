@@ -7,7 +7,7 @@ use std::test::Fail;
 
 /// What the text of a row is.
 #[derive(Clone, Copy)]
-pub(crate) enum Kind {
+pub(crate) enum TextKind {
     /// Settings of a plan, which comes to its parts.
     Plan,
     /// Settings of a plan, which comes to its run.
@@ -21,18 +21,18 @@ pub(crate) enum Kind {
 }
 
 /// What a text comes to. None: memory was refused.
-fn answer_once(alloc: Global, kind: Kind, text: &str) -> Option<Vec<u8>> {
+fn answer_once(alloc: Global, kind: TextKind, text: &str) -> Option<Vec<u8>> {
     match kind {
-        Kind::Plan => plans::plan_text(alloc, text),
-        Kind::Run => runs::run_answer(alloc, text),
-        Kind::Acts => worlds::answers_text(alloc, text),
-        Kind::Document => documents::document_text(alloc, text),
-        Kind::Lines => documents::lines_answer(alloc, text),
+        TextKind::Plan => plans::plan_text(alloc, text),
+        TextKind::Run => runs::run_answer(alloc, text),
+        TextKind::Acts => worlds::answers_text(alloc, text),
+        TextKind::Document => documents::document_text(alloc, text),
+        TextKind::Lines => documents::lines_answer(alloc, text),
     }
 }
 
 /// Whether a text comes to this. It is asked once more where memory was refused.
-fn is_right(alloc: Global, kind: Kind, text: &str, wanted: &str) -> bool {
+fn is_right(alloc: Global, kind: TextKind, text: &str, wanted: &str) -> bool {
     let answer = match answer_once(alloc, kind, text) {
         None => answer_once(alloc, kind, text),
         answer => answer,
@@ -44,7 +44,7 @@ fn is_right(alloc: Global, kind: Kind, text: &str, wanted: &str) -> bool {
 }
 
 /// Asks each row. One that comes to something else is the failure.
-pub(crate) fn ask_all(alloc: Global, kind: Kind, rows: &str) -> Result<(), Fail> {
+pub(crate) fn ask_all(alloc: Global, kind: TextKind, rows: &str) -> Result<(), Fail> {
     for row in rows.split('§') {
         let (text, wanted) = row.split_once('→').unwrap_or((row, ""));
         if !is_right(alloc, kind, text.trim(), wanted.trim()) {

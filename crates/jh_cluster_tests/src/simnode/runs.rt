@@ -4,7 +4,7 @@
 //! and its history, an operation in a line; or to the refusal of their plan or run.
 
 use crate::simnode::fixtures::plan_of;
-use crate::simnode::rows::{Kind, ask_all};
+use crate::simnode::rows::{TextKind, ask_all};
 use jh_edn::write;
 use jh_ops::{Op, value_of};
 use jh_simnode::{Plan, PlanError, RunError, WorldError, run_serial};
@@ -193,5 +193,5 @@ const RUNS: &str = r#"
 
 #[test]
 fn runs_give_their_histories(rt: HostRuntime) -> Result<(), Fail> {
-    ask_all(rt.alloc(), Kind::Run, RUNS)
+    ask_all(rt.alloc(), TextKind::Run, RUNS)
 }

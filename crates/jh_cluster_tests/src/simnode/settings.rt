@@ -1,7 +1,7 @@
 //! Which settings a document means, and why others are refused.
 
 use crate::simnode::documents::answer_once;
-use crate::simnode::rows::{Kind, ask_all};
+use crate::simnode::rows::{TextKind, ask_all};
 use std::alloc::{AllocError, Global};
 use std::test::Fail;
 
@@ -42,7 +42,7 @@ mode = "threads"
 
 #[test]
 fn documents_mean_settings(rt: HostRuntime) -> Result<(), Fail> {
-    ask_all(rt.alloc(), Kind::Document, DOCUMENTS)
+    ask_all(rt.alloc(), TextKind::Document, DOCUMENTS)
 }
 
 const KEYS: &str = r##"
@@ -85,7 +85,7 @@ store = "none"
 
 #[test]
 fn looks_at_keys_first(rt: HostRuntime) -> Result<(), Fail> {
-    ask_all(rt.alloc(), Kind::Lines, KEYS)
+    ask_all(rt.alloc(), TextKind::Lines, KEYS)
 }
 
 const ELEMENTS: &str = r##"
@@ -121,7 +121,7 @@ schedule = 1
 
 #[test]
 fn looks_at_elements(rt: HostRuntime) -> Result<(), Fail> {
-    ask_all(rt.alloc(), Kind::Lines, ELEMENTS)
+    ask_all(rt.alloc(), TextKind::Lines, ELEMENTS)
 }
 
 const WORDS_AND_NUMBERS: &str = r##"
@@ -189,7 +189,7 @@ budget = 10_000_000
 
 #[test]
 fn looks_at_words_and_numbers(rt: HostRuntime) -> Result<(), Fail> {
-    ask_all(rt.alloc(), Kind::Lines, WORDS_AND_NUMBERS)
+    ask_all(rt.alloc(), TextKind::Lines, WORDS_AND_NUMBERS)
 }
 
 const HEAD: &str =

@@ -1,6 +1,6 @@
 //! What each store does on each request. `worlds` says what a row of acts is.
 
-use crate::simnode::rows::{Kind, ask_all};
+use crate::simnode::rows::{TextKind, ask_all};
 use std::test::Fail;
 
 const ACTS: &str = r#"
@@ -64,5 +64,5 @@ const ACTS: &str = r#"
 
 #[test]
 fn stores_keep_their_rules(rt: HostRuntime) -> Result<(), Fail> {
-    ask_all(rt.alloc(), Kind::Acts, ACTS)
+    ask_all(rt.alloc(), TextKind::Acts, ACTS)
 }

@@ -5,7 +5,7 @@
 //! act stands behind the arrow, with `; ` between. An act whose memory was refused is taken once more.
 
 use crate::simnode::fixtures::{keyword_name, value, values, world_of};
-use crate::simnode::rows::{Kind, ask_all};
+use crate::simnode::rows::{TextKind, ask_all};
 use jh_edn::Value;
 use jh_env::Node;
 use jh_nemesis::StepAnswer;
@@ -55,7 +55,7 @@ const ACTS: &str = r#"
 
 #[test]
 fn worlds_keep_their_faults(rt: HostRuntime) -> Result<(), Fail> {
-    ask_all(rt.alloc(), Kind::Acts, ACTS)
+    ask_all(rt.alloc(), TextKind::Acts, ACTS)
 }
 
 fn request_of(value: &Value) -> Option<Request> {
