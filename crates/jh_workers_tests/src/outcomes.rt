@@ -6,12 +6,12 @@
 //! last operation.
 
 use crate::journals;
-use crate::rows::{Kind, ask_all};
+use crate::rows::{ComparedPart, ask_all};
 use crate::runs::{Finished, may_lack_memory, plan_of, ran, replayed};
 use crate::texts::journal_text;
 use jh_edn::write;
 use jh_nemesis::Nemesis;
-use jh_ops::{Kind as Told, Op, Process};
+use jh_ops::{Kind, Op, Process};
 use jh_simnode::{Event, Plan, nemesis_after};
 use jh_workers::{RunError, audit, follows_plan};
 use std::alloc::Global;
@@ -24,7 +24,7 @@ fn is_nemesis(op: &Op) -> bool {
 }
 
 fn is_completion(op: &Op) -> bool {
-    !is_nemesis(op) && !matches!(op.kind, Told::Invoke)
+    !is_nemesis(op) && !matches!(op.kind, Kind::Invoke)
 }
 
 /// The numbers of client completions and of operations of the nemesis.
@@ -121,12 +121,17 @@ fn value_text(alloc: Global, history: &[Op]) -> Option<String> {
 }
 
 /// What is told of what is left of a run.
-fn answer_of(alloc: Global, kind: Kind, plan: &Plan, finished: &Finished) -> Option<String> {
+fn answer_of(
+    alloc: Global,
+    part: ComparedPart,
+    plan: &Plan,
+    finished: &Finished,
+) -> Option<String> {
     match &finished.history {
         Err(error) => error_text(alloc, *error),
-        Ok(history) => match kind {
-            Kind::Outcome => both_text(alloc, plan, finished, history),
-            Kind::LastValue => value_text(alloc, history),
+        Ok(history) => match part {
+            ComparedPart::Outcome => both_text(alloc, plan, finished, history),
+            ComparedPart::LastValue => value_text(alloc, history),
         },
     }
 }
@@ -135,11 +140,11 @@ fn answer_of(alloc: Global, kind: Kind, plan: &Plan, finished: &Finished) -> Opt
 fn answer_by<R: Threads + Wait + Sync>(
     rt: &R,
     alloc: Global,
-    kind: Kind,
+    part: ComparedPart,
     plan: &Plan,
 ) -> Option<String> {
     match ran(rt, alloc, plan) {
-        Some(finished) => answer_of(alloc, kind, plan, &finished),
+        Some(finished) => answer_of(alloc, part, plan, &finished),
         None => None,
     }
 }
@@ -148,11 +153,11 @@ fn answer_by<R: Threads + Wait + Sync>(
 pub(crate) fn answer_once<R: Threads + Wait + Sync>(
     rt: &R,
     alloc: Global,
-    kind: Kind,
+    part: ComparedPart,
     settings: &str,
 ) -> Option<String> {
     match plan_of(alloc, settings) {
-        Some(plan) => answer_by(rt, alloc, kind, &plan),
+        Some(plan) => answer_by(rt, alloc, part, &plan),
         None => None,
     }
 }
@@ -211,7 +216,7 @@ schedule = ['[0 [:begin 1 [:cut []]]]', '[10000 [:withdraw 1]]']
 
 #[test]
 fn runs_have_outcomes(rt: HostRuntime) -> Result<(), Fail> {
-    ask_all(&rt, rt.alloc(), Kind::Outcome, OUTCOMES)
+    ask_all(&rt, rt.alloc(), ComparedPart::Outcome, OUTCOMES)
 }
 
 const SETS: &str = r#"
@@ -236,7 +241,7 @@ generator = '[:phases [:limit 9 [:rising 0]] [:once :read]]'
 
 #[test]
 fn a_set_is_read_whole(rt: HostRuntime) -> Result<(), Fail> {
-    ask_all(&rt, rt.alloc(), Kind::LastValue, SETS)
+    ask_all(&rt, rt.alloc(), ComparedPart::LastValue, SETS)
 }
 
 const MIXED: &str = r#"

@@ -9,7 +9,7 @@ use std::thread::Threads;
 
 /// What settings come to.
 #[derive(Clone, Copy)]
-pub(crate) enum Kind {
+pub(crate) enum ComparedPart {
     /// The outcome of their run.
     Outcome,
     /// The value of the last operation of their run.
@@ -20,12 +20,12 @@ pub(crate) enum Kind {
 fn is_right<R: Threads + Wait + Sync>(
     rt: &R,
     alloc: Global,
-    kind: Kind,
+    part: ComparedPart,
     settings: &str,
     wanted: &str,
 ) -> bool {
-    let answer = match answer_once(rt, alloc, kind, settings) {
-        None => answer_once(rt, alloc, kind, settings),
+    let answer = match answer_once(rt, alloc, part, settings) {
+        None => answer_once(rt, alloc, part, settings),
         answer => answer,
     };
     match answer {
@@ -38,12 +38,12 @@ fn is_right<R: Threads + Wait + Sync>(
 pub(crate) fn ask_all<R: Threads + Wait + Sync>(
     rt: &R,
     alloc: Global,
-    kind: Kind,
+    part: ComparedPart,
     rows: &str,
 ) -> Result<(), Fail> {
     for row in rows.split('§') {
         let (settings, wanted) = row.split_once('→').unwrap_or((row, ""));
-        if !is_right(rt, alloc, kind, settings, wanted.trim()) {
+        if !is_right(rt, alloc, part, settings, wanted.trim()) {
             return Err(Fail::new(row));
         }
     }
