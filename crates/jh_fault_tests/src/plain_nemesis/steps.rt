@@ -15,7 +15,7 @@ pub enum Habit {
 }
 
 /// A kind of step.
-enum Kind {
+enum PlainStepKind {
     Begin,
     Withdraw,
     WithdrawAll,
@@ -24,13 +24,13 @@ enum Kind {
 }
 
 /// A kind of step, drawn as often as the habit has it.
-fn random_kind(random: &mut Random, habit: Habit) -> Kind {
+fn random_kind(random: &mut Random, habit: Habit) -> PlainStepKind {
     match (habit, random.below(32)) {
-        (Habit::Mixed, 0..=13) | (Habit::Growing, 0..=15) => Kind::Begin,
-        (Habit::Mixed, 14..=16) | (Habit::Growing, 16..=27) => Kind::Withdraw,
-        (Habit::Mixed, 17) => Kind::WithdrawAll,
-        (Habit::Mixed, 18..=24) | (Habit::Growing, 28 | 29) => Kind::Undo,
-        _ => Kind::Redo,
+        (Habit::Mixed, 0..=13) | (Habit::Growing, 0..=15) => PlainStepKind::Begin,
+        (Habit::Mixed, 14..=16) | (Habit::Growing, 16..=27) => PlainStepKind::Withdraw,
+        (Habit::Mixed, 17) => PlainStepKind::WithdrawAll,
+        (Habit::Mixed, 18..=24) | (Habit::Growing, 28 | 29) => PlainStepKind::Undo,
+        _ => PlainStepKind::Redo,
     }
 }
 
@@ -44,10 +44,10 @@ pub fn random_step(
 ) -> Option<PlainStep> {
     let id = u32::try_from(random.below(u64::from(ids))).unwrap_or(0);
     match random_kind(random, habit) {
-        Kind::Begin => Some(PlainStep::Begin(id, random_fault(alloc, random, count)?)),
-        Kind::Withdraw => Some(PlainStep::Withdraw(id)),
-        Kind::WithdrawAll => Some(PlainStep::WithdrawAll),
-        Kind::Undo => Some(PlainStep::Undo),
-        Kind::Redo => Some(PlainStep::Redo),
+        PlainStepKind::Begin => Some(PlainStep::Begin(id, random_fault(alloc, random, count)?)),
+        PlainStepKind::Withdraw => Some(PlainStep::Withdraw(id)),
+        PlainStepKind::WithdrawAll => Some(PlainStep::WithdrawAll),
+        PlainStepKind::Undo => Some(PlainStep::Undo),
+        PlainStepKind::Redo => Some(PlainStep::Redo),
     }
 }
