@@ -29,7 +29,7 @@ const UNKNOWN: u8 = 2;
 /// Tells on standard error, where that is a terminal, what is done: what is read, how far the work is, in one
 /// line that is written over and over, and how the calls of a test ended.
 #[derive(Drop)]
-struct Progress<'a, P> {
+struct Teller<'a, P> {
     rt: &'a P,
     terminals: Terminals,
     /// The command that is run, once that is known.
@@ -52,7 +52,7 @@ pub struct Terminals {
 /// Goes back to the start of the line, and empties it.
 const EMPTY_LINE: &str = "\r\x1b[K";
 
-impl<P: Eprint + Clock> CommandObserver for Progress<'_, P> {
+impl<P: Eprint + Clock> CommandObserver for Teller<'_, P> {
     fn see_command(&mut self, command: Command) {
         self.tell_input(input_of(command));
         self.command = Some(command);
@@ -65,7 +65,7 @@ impl<P: Eprint + Clock> CommandObserver for Progress<'_, P> {
     }
 }
 
-impl<P: Eprint> Observer for Progress<'_, P> {
+impl<P: Eprint> Observer for Teller<'_, P> {
     fn see(&mut self, entries: usize, calls: u64) {
         if self.is_shown() {
             let _ = eprint!(self.rt; "{EMPTY_LINE}run {calls}, {entries} entries left");
@@ -73,7 +73,7 @@ impl<P: Eprint> Observer for Progress<'_, P> {
     }
 }
 
-impl<P: Eprint + Clock> SearchObserver for Progress<'_, P> {
+impl<P: Eprint + Clock> SearchObserver for Teller<'_, P> {
     fn see_tried(&mut self, tried: u64, unknown: u64) {
         if self.is_shown() {
             let rate = rate_of(tried, self.elapsed_millis());
@@ -84,7 +84,7 @@ impl<P: Eprint + Clock> SearchObserver for Progress<'_, P> {
     }
 }
 
-impl<P: Eprint> CallObserver for Progress<'_, P> {
+impl<P: Eprint> CallObserver for Teller<'_, P> {
     fn see_calls(&mut self, calls: CallCounts) {
         if !self.terminals.errors {
             return;
@@ -101,7 +101,7 @@ impl<P: Eprint> CallObserver for Progress<'_, P> {
     }
 }
 
-impl<P: Clock> Progress<'_, P> {
+impl<P: Clock> Teller<'_, P> {
     /// The milliseconds since the work began, and 0 where they are not known.
     fn elapsed_millis(&self) -> u64 {
         match self.start {
@@ -119,7 +119,7 @@ fn rate_of(count: u64, millis: u64) -> u64 {
     count.saturating_mul(1_000) / millis.max(1)
 }
 
-impl<P> Progress<'_, P> {
+impl<P> Teller<'_, P> {
     /// Whether anybody is told how far the work is.
     fn is_shown(&self) -> bool {
         self.terminals.errors
@@ -130,7 +130,7 @@ impl<P> Progress<'_, P> {
     }
 }
 
-impl<P: Eprint> Progress<'_, P> {
+impl<P: Eprint> Teller<'_, P> {
     /// Says what is read, where that is typed.
     fn tell_input(&self, input: &str) {
         if self.terminals.input && self.terminals.errors {
@@ -285,7 +285,7 @@ where
         }
     };
     let is_in_the_way = Cell::new(false);
-    let mut progress = Progress {
+    let mut teller = Teller {
         rt,
         terminals,
         command: None,
@@ -300,11 +300,11 @@ where
             is_in_the_way: &is_in_the_way,
         },
     };
-    let answer = answer(rt, arguments.as_slice(), &mut streams, &mut progress);
-    progress.end();
+    let answer = answer(rt, arguments.as_slice(), &mut streams, &mut teller);
+    teller.end();
     match answer {
         Ok(status) => {
-            progress.advise(status);
+            teller.advise(status);
             status
         }
         Err(refusal) => ended(rt, refusal),
