@@ -8,7 +8,7 @@ use jh_txn::ConsistencyModel;
 
 /// What is asked of the database.
 #[derive(Drop)]
-pub(crate) struct Asked {
+pub(crate) struct Load {
     pub environment: Env,
     pub checker: Checker,
     pub generator: Gen,
@@ -39,7 +39,7 @@ pub(crate) struct Details {
 /// All parts.
 #[derive(Drop)]
 pub(crate) struct Parts {
-    pub asked: Asked,
+    pub asked: Load,
     pub pace: Pace,
     pub last: Option<Gen>,
     pub details: Details,
