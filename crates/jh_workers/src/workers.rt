@@ -167,7 +167,7 @@ fn record_end<B: OfLog, P: Port>(
 
 /// A call that a client thread makes.
 #[derive(Clone, Copy)]
-struct Asked {
+struct ClientCall {
     process: u64,
     node: Node,
     request: Request,
@@ -180,7 +180,7 @@ fn serve<B: OfLog, P: Port, R: Wait>(
     shared: &Shared<'_, B, P>,
     monitor: &Monitor,
     worker: &mut Worker<B, P::Share>,
-    asked: Asked,
+    asked: ClientCall,
 ) -> Result<Ended, RunError>
     ensures called { OnOk result (P.Share.total worker.new.share ≡ P.Share.total worker.old.share + 1) }
     ensures recorded { IfOk result
@@ -188,7 +188,7 @@ fn serve<B: OfLog, P: Port, R: Wait>(
         × PublishesBoth worker.old.log_seat.seat.knows.seen (rule.invocation asked.process asked.request)
         (rule.completion number asked.process asked.request reply) worker.new.log_seat.seat.knows.seen) }
 {
-    let Asked {
+    let ClientCall {
         process,
         node,
         request,
@@ -264,7 +264,7 @@ fn work_as_client<B: OfLog, P: Port, R: Wait>(
         match monitor.next_move(rt, thread, &mut numbers) {
             NextMove::Stop | NextMove::Wait => return Ok(()),
             NextMove::Call(process, request) => {
-                let asked = Asked {
+                let asked = ClientCall {
                     process,
                     node: node_of(shared.plan, thread),
                     request,
