@@ -22,7 +22,7 @@ use Rattle.jh_env.specs.Faults.{Cut, Slow, Loss, Fix, Pause, Kill, Bump}
 use Rattle.jh_laws.specs.StepLines.{links_of}
 use Rattle.jh_laws.proofs.OrderLemmas.{none_in_order}
 use Rattle.jh_settings_texts.specs.SettingsWritten.{CanBeWritten, LeadsToOthers, entry_in_order, plan_in_order}
-use Rattle.jh_search.specs.declared.kinds.Kind.{Kind}
+use Rattle.jh_search.specs.declared.kinds.FaultKind.{FaultKind}
 use Rattle.jh_search.specs.declared.kinds.Palette.{Palette}
 use Rattle.jh_search.specs.declared.options.Options.{Options}
 use Rattle.jh_search.specs.Candidates.{candidate_plan, entries_with, entries_with_random}
@@ -38,7 +38,7 @@ one_fault_more p options seed n =
     rw (← range_more 0 n, same) (fold_push (entries_with_random p options seed) p.schedule (range_with_len 0 n) n)
 
 -- a kind that is drawn has something to name
-named_if_drawn : (palette : Palette) (count : ℕ) (kind : Kind) → is_drawn palette count kind ≡ true → HasNamed count kind
+named_if_drawn : (palette : Palette) (count : ℕ) (kind : FaultKind) → is_drawn palette count kind ≡ true → HasNamed count kind
 named_if_drawn palette count kind drawn links = go (is_on_links kind) links (and_parts (has_kind palette kind) (not (is_on_links kind) || nat_lt 1 count) drawn).1 where
   go : (b : Bool) → b ≡ true → (not b || nat_lt 1 count) ≡ true → 1 < count
   go true is some = ltb-true 1 count some

@@ -13,7 +13,7 @@ use Rattle.jh_simnode.specs.Limits.{max_entries}
 use Rattle.jh_simnode.specs.Plans.{PlanValue}
 use Rattle.jh_settings_texts.specs.SettingsWritten.{plan_in_order}
 use Rattle.jh_search.specs.declared.draws.Draw.{Draw}
-use Rattle.jh_search.specs.declared.kinds.Kind.{Kind}
+use Rattle.jh_search.specs.declared.kinds.FaultKind.{FaultKind}
 use Rattle.jh_search.specs.declared.options.Options.{Options}
 use Rattle.jh_search.specs.Draws.{draw_of, number}
 use Rattle.jh_search.specs.Kinds.{kinds_drawn}
@@ -73,7 +73,7 @@ stays d = (d.stay % 4) == 0
 -- ---- the schedule
 
 -- with the begin of a fault of this kind, and its withdrawal
-abbrev pub entries_with_fault : PlanValue → ℕ → Draw → List Entry → Kind → List Entry
+abbrev pub entries_with_fault : PlanValue → ℕ → Draw → List Entry → FaultKind → List Entry
 entries_with_fault p id d entries kind =
     (let begun = entries_with entries
     (record {
@@ -85,11 +85,11 @@ entries_with_fault p id d entries kind =
     else entries_with begun (record { at = calls_before_end p d; step = Withdraw id }))
 
 -- of the kind that is drawn, where there is one
-abbrev pub entries_with_drawn : PlanValue → ℕ → Draw → List Entry → Option Kind → List Entry
+abbrev pub entries_with_drawn : PlanValue → ℕ → Draw → List Entry → Option FaultKind → List Entry
 entries_with_drawn p id d entries None = entries
 entries_with_drawn p id d entries (Some kind) = entries_with_fault p id d entries kind
 
-abbrev pub drawn_kind : List Kind → Draw → Option Kind
+abbrev pub drawn_kind : List FaultKind → Draw → Option FaultKind
 drawn_kind kinds d = slice_get kinds (d.kind % length kinds)
 
 -- with the fault of this index, by a candidate's seed

@@ -4,7 +4,7 @@ use Rattle.std.specs.List.{All, list_any}
 use Rattle.jh_env.specs.Faults.{FaultValue, is_self_link}
 use Rattle.jh_grudge.specs.Lists.{AreDistinct}
 use Rattle.jh_laws.specs.StepLines.{links_of}
-use Rattle.jh_search.specs.declared.kinds.Kind.{Kind}
+use Rattle.jh_search.specs.declared.kinds.FaultKind.{FaultKind}
 use Rattle.jh_search.specs.Kinds.{is_on_links}
 
 -- these are different nodes of so many
@@ -13,11 +13,11 @@ pub record AreNodesOf (count : ℕ) (nodes : List ℕ) : Type 0 where
   pub distinct : AreDistinct nodes
 
 -- so many nodes have something for a fault of this kind to name
-abbrev pub HasNamed : ℕ → Kind → Type 0
+abbrev pub HasNamed : ℕ → FaultKind → Type 0
 HasNamed count kind = is_on_links kind ≡ true → 1 < count
 
 -- and for a fault of each of these kinds
-abbrev pub HaveNamed : ℕ → List Kind → Type 0
+abbrev pub HaveNamed : ℕ → List FaultKind → Type 0
 HaveNamed count kinds = All (HasNamed count) kinds
 
 -- no link of the fault leads from a node to itself

@@ -1,12 +1,13 @@
 -- The kinds of faults that random schedules are made of (this project's own; what a fault of each
 -- kind does stands in jh_tables).
 use Rattle.std.specs.Prelude.{ℕ, ◌&&◌, ◌||◌, Bool, true, false, not, nat_lt, List, [], ◌∷◌, filter}
-use Rattle.jh_search.specs.declared.kinds.Kind.{Kind}
-use Rattle.jh_search.specs.declared.kinds.Kind.TheVariants.{Cut, Slow, Loss, Fix, Pause, Kill, Bump}
+use Rattle.jh_search.specs.declared.kinds.FaultKind.{FaultKind}
+use Rattle.jh_search.specs.declared.kinds.FaultKind.TheVariants.{Cut, Slow, Loss, Fix, Pause}
+use Rattle.jh_search.specs.declared.kinds.FaultKind.TheVariants.{Kill, Bump}
 use Rattle.jh_search.specs.declared.kinds.Palette.{Palette}
 
 -- all kinds, in the order in which one is chosen
-abbrev pub all_kinds : List Kind
+abbrev pub all_kinds : List FaultKind
 all_kinds = Cut ∷ Slow ∷ Loss ∷ Fix ∷ Pause ∷ Kill ∷ Bump ∷ []
 
 -- the palette that has them all
@@ -24,7 +25,7 @@ whole_palette =
     }
 
 -- the palette has this kind
-abbrev pub has_kind : Palette → Kind → Bool
+abbrev pub has_kind : Palette → FaultKind → Bool
 has_kind palette Cut = palette.cut
 has_kind palette Slow = palette.slow
 has_kind palette Loss = palette.loss
@@ -34,7 +35,7 @@ has_kind palette Kill = palette.kill
 has_kind palette Bump = palette.bump
 
 -- faults of this kind name links
-abbrev pub is_on_links : Kind → Bool
+abbrev pub is_on_links : FaultKind → Bool
 is_on_links Cut = true
 is_on_links Slow = true
 is_on_links Loss = true
@@ -45,8 +46,8 @@ is_on_links Bump = false
 
 -- Faults of this kind are drawn for so many nodes: the palette has it, and they have something to
 -- name, for one node has no link.
-abbrev pub is_drawn : Palette → ℕ → Kind → Bool
+abbrev pub is_drawn : Palette → ℕ → FaultKind → Bool
 is_drawn palette count kind = has_kind palette kind && (not (is_on_links kind) || nat_lt 1 count)
 
-abbrev pub kinds_drawn : Palette → ℕ → List Kind
+abbrev pub kinds_drawn : Palette → ℕ → List FaultKind
 kinds_drawn palette count = filter (is_drawn palette count) all_kinds

@@ -8,8 +8,8 @@ use Rattle.jh_env.specs.Faults.{Cut, Slow, Loss, Fix, Pause, Kill, Bump}
 use Rattle.jh_grudge.specs.Grudges.{majority}
 use Rattle.jh_step_texts.specs.NamedFaults.{ring_links, seeded_order}
 use Rattle.jh_search.specs.declared.draws.Draw.{Draw}
-use Rattle.jh_search.specs.declared.kinds.Kind.{Kind}
-use Rattle.jh_search.specs.declared.kinds.Kind.TheVariants as kind
+use Rattle.jh_search.specs.declared.kinds.FaultKind.{FaultKind}
+use Rattle.jh_search.specs.declared.kinds.FaultKind.TheVariants as kind
 
 -- the places of all nodes, shuffled
 abbrev pub order_of : ℕ → Draw → List ℕ
@@ -80,7 +80,7 @@ offset_of choice =
 
 -- ---- the fault
 
-abbrev pub fault_drawn : Kind → ℕ → Draw → FaultValue
+abbrev pub fault_drawn : FaultKind → ℕ → Draw → FaultValue
 fault_drawn kind.Cut count d = Cut (kept_links (drawn_links count d))
 fault_drawn kind.Slow count d = Slow (drawn_delay (d.amount % 4)) (kept_links (drawn_links count d))
 fault_drawn kind.Loss count d = Loss (level_of (d.amount % 4)) (kept_links (drawn_links count d))

@@ -11,7 +11,7 @@ ghost use Rattle.jh_search.specs.Draws.{numbers_after};
 
 use crate::draws::{Draw, next, next_draw, numbers_of};
 use crate::entries::{entries_in_order, greatest_id, put_entry};
-use crate::kinds::{Kind, kinds_of};
+use crate::kinds::{FaultKind, kinds_of};
 use crate::options::Options;
 use crate::random_faults::fault_drawn;
 use jh_nemesis::Step;
@@ -63,7 +63,7 @@ fn stays(draw: Draw) -> bool
 }
 
 /// The kind that is drawn, where there is one.
-fn drawn_kind(kinds: &[Kind], draw: Draw) -> Option<Kind>
+fn drawn_kind(kinds: &[FaultKind], draw: Draw) -> Option<FaultKind>
     ensures { result ≡ rule.drawn_kind kinds.now draw }
 {
     if kinds.is_empty() {
@@ -79,7 +79,7 @@ fn put_fault(
     plan: &Plan,
     id: u32,
     draw: Draw,
-    kind: Kind,
+    kind: FaultKind,
     entries: &mut Vec<Entry>,
 ) -> Result<(), AllocError>
     requires kept { AreEntriesFor plan.now entries.old.items }
@@ -108,7 +108,7 @@ fn put_fault(
 fn put_drawn(
     alloc: Global,
     plan: &Plan,
-    kinds: &[Kind],
+    kinds: &[FaultKind],
     id: u32,
     draw: Draw,
     entries: &mut Vec<Entry>,

@@ -9,7 +9,7 @@ use std::alloc::{AllocError, Global};
 
 /// A kind of fault.
 #[derive(Clone, Copy, Debug, PartialEq, Eq)]
-pub enum Kind {
+pub enum FaultKind {
     Cut,
     Slow,
     Loss,
@@ -20,14 +20,14 @@ pub enum Kind {
 }
 
 /// All kinds, in the order in which one is chosen.
-const ALL: [Kind; 7] = [
-    Kind::Cut,
-    Kind::Slow,
-    Kind::Loss,
-    Kind::Fix,
-    Kind::Pause,
-    Kind::Kill,
-    Kind::Bump,
+const ALL: [FaultKind; 7] = [
+    FaultKind::Cut,
+    FaultKind::Slow,
+    FaultKind::Loss,
+    FaultKind::Fix,
+    FaultKind::Pause,
+    FaultKind::Kill,
+    FaultKind::Bump,
 ];
 
 /// Which kinds of faults a random schedule may have.
@@ -59,35 +59,35 @@ impl Palette {
     }
 
     /// Whether it has a kind.
-    pub fn has(self, kind: Kind) -> bool
+    pub fn has(self, kind: FaultKind) -> bool
         ensures { result ≡ rule.has_kind self kind }
     {
         match kind {
-            Kind::Cut => self.cut,
-            Kind::Slow => self.slow,
-            Kind::Loss => self.loss,
-            Kind::Fix => self.fix,
-            Kind::Pause => self.pause,
-            Kind::Kill => self.kill,
-            Kind::Bump => self.bump,
+            FaultKind::Cut => self.cut,
+            FaultKind::Slow => self.slow,
+            FaultKind::Loss => self.loss,
+            FaultKind::Fix => self.fix,
+            FaultKind::Pause => self.pause,
+            FaultKind::Kill => self.kill,
+            FaultKind::Bump => self.bump,
         }
     }
 }
 
-impl Kind {
+impl FaultKind {
     /// Whether its faults name links.
     fn is_on_links(self) -> bool
         ensures { result ≡ rule.is_on_links self }
     {
         match self {
-            Kind::Cut | Kind::Slow | Kind::Loss | Kind::Fix => true,
-            Kind::Pause | Kind::Kill | Kind::Bump => false,
+            FaultKind::Cut | FaultKind::Slow | FaultKind::Loss | FaultKind::Fix => true,
+            FaultKind::Pause | FaultKind::Kill | FaultKind::Bump => false,
         }
     }
 }
 
 /// Whether a fault of this kind may be drawn, for so many nodes.
-fn is_drawn(palette: Palette, count: usize, kind: Kind) -> bool
+fn is_drawn(palette: Palette, count: usize, kind: FaultKind) -> bool
     ensures { result ≡ rule.is_drawn palette count kind }
 {
     palette.has(kind) && (!kind.is_on_links() || count > 1)
@@ -98,7 +98,7 @@ pub(crate) fn kinds_of(
     alloc: Global,
     palette: Palette,
     count: usize,
-) -> Result<Vec<Kind>, AllocError>
+) -> Result<Vec<FaultKind>, AllocError>
     ensures { IfOk result (λ kinds. kinds.items ≡ kinds_drawn palette count) }
 {
     let mut kinds = Vec::new(alloc);

@@ -12,7 +12,7 @@ mod threads;
 mod verdicts;
 
 pub use candidates::candidate;
-pub use kinds::{Kind, Palette};
+pub use kinds::{FaultKind, Palette};
 pub use options::Options;
 pub use serial::{Searched, search_serial};
 pub use threads::{SearchError, SearchObserver, search, search_observed};

@@ -15,7 +15,7 @@ ghost use Rattle.jh_search.specs.RandomFaults as rule;
 ghost use Rattle.jh_search.specs.FaultsInside.{AreNodesOf, HasNamed, HasNoSelfLink};
 
 use crate::draws::Draw;
-use crate::kinds::Kind;
+use crate::kinds::FaultKind;
 use jh_env::{Fault, FaultError, Node, Nodes};
 use jh_grudge::majorities_ring;
 use jh_step_texts::ring_order;
@@ -293,7 +293,7 @@ fn bump(alloc: Global, nodes: &Nodes, draw: Draw, choice: u64) -> Result<Fault, 
 pub(crate) fn fault_drawn(
     alloc: Global,
     nodes: &Nodes,
-    kind: Kind,
+    kind: FaultKind,
     draw: Draw,
 ) -> Result<Fault, AllocError>
     requires { HasNamed (length nodes.now) kind }
@@ -303,12 +303,12 @@ pub(crate) fn fault_drawn(
 {
     let amount = draw.amount % 4;
     match kind {
-        Kind::Cut => cut(alloc, nodes, draw),
-        Kind::Slow => slow(alloc, nodes, draw, drawn_delay(amount)),
-        Kind::Loss => loss(alloc, nodes, draw, level_of(amount)),
-        Kind::Fix => fix(alloc, nodes, draw, drawn_delay(amount)),
-        Kind::Pause => pause(alloc, nodes, draw),
-        Kind::Kill => kill(alloc, nodes, draw),
-        Kind::Bump => bump(alloc, nodes, draw, amount),
+        FaultKind::Cut => cut(alloc, nodes, draw),
+        FaultKind::Slow => slow(alloc, nodes, draw, drawn_delay(amount)),
+        FaultKind::Loss => loss(alloc, nodes, draw, level_of(amount)),
+        FaultKind::Fix => fix(alloc, nodes, draw, drawn_delay(amount)),
+        FaultKind::Pause => pause(alloc, nodes, draw),
+        FaultKind::Kill => kill(alloc, nodes, draw),
+        FaultKind::Bump => bump(alloc, nodes, draw, amount),
     }
 }

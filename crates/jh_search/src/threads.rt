@@ -170,7 +170,7 @@ fn block<R: Threads + Wait + Sync>(
 /// Where a search stands: how many candidates were tried, none of which fails, and how many of
 /// these are unknown.
 #[derive(Clone, Copy)]
-struct Progress {
+struct SearchCounts {
     tried: u64,
     unknown: u64,
 }
@@ -179,14 +179,14 @@ struct Progress {
 #[derive(Clone, Copy)]
 enum Next {
     Found(Searched),
-    Goes(Progress),
+    Goes(SearchCounts),
 }
 
 /// What the answers of a block lead to.
 fn after_block(
     plan: &Plan,
     options: &Options,
-    progress: Progress,
+    progress: SearchCounts,
     answers: &[Option<Answer>],
     lost_thread: bool,
 ) -> Result<Next, SearchError>
@@ -265,7 +265,7 @@ pub fn search_observed<R: Threads + Wait + Sync, O: SearchObserver>(
     ensures found { IfOk result (IsSearched plan.now options.now) }
     ensures alone { threads ≡ 1 → IsErrOf result SearchError.Thread → ⊥ }
 {
-    let mut progress = Progress {
+    let mut progress = SearchCounts {
         tried: 0,
         unknown: 0,
     };

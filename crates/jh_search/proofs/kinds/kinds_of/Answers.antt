@@ -2,7 +2,7 @@ use Rattle.std.proofs.Common.{rules, ◌≡◌, ◌+◌, ◌<◌, length, true, 
 use Rattle.std.specs.Prelude.{filter, cond}
 use Rattle.std.proofs.lemmas.List.Elements.{filter_more}
 use Rattle.jh_search.specs.Kinds.{all_kinds, is_drawn}
-use Rattle.jh_search.specs.declared.kinds.Kind.TheVariants.{Cut}
+use Rattle.jh_search.specs.declared.kinds.FaultKind.TheVariants.{Cut}
 use Rattle.jh_search.proofs.kinds.kinds_of.Goals as goal
 use Rattle.jh_search.proofs.kinds.kinds_of.Goals.{then-is_drawn+in_ok-push, else-is_drawn}
 
