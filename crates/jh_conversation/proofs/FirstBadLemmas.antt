@@ -22,7 +22,7 @@ use Rattle.jh_test_parts.specs.Test.{thread_of_process}
 use Rattle.jh_conversation.specs.Machine.{Machine, caller_process, caller_of}
 use Rattle.jh_test_parts.specs.Test.{TestValue}
 use Rattle.jh_conversation.specs.Turn.{turn}
-use Rattle.jh_test_parts.specs.declared.calls.Asked.{Asked}
+use Rattle.jh_test_parts.specs.declared.calls.ValuedCall.{ValuedCall}
 use Rattle.jh_conversation.specs.declared.callers.OpenStep.{OpenStep}
 use Rattle.jh_test_parts.specs.declared.complaints.Complaint.{Complaint}
 use Rattle.jh_test_parts.specs.declared.complaints.Complaint.TheVariants as complaint
@@ -89,7 +89,7 @@ tells_answer m op time none (Some w) =
       | false ↦ refused m complaint.OtherStep none
     ]
 
-tells_end : (t : TestValue) (m : Machine) (thread : ℕ) (c : Asked) (op : Operation) (time : Option ℕ) → m.bad ≡ None
+tells_end : (t : TestValue) (m : Machine) (thread : ℕ) (c : ValuedCall) (op : Operation) (time : Option ℕ) → m.bad ≡ None
     → Tells (told_of (complaint_of_end t c op) m.read) m.read (take_end t thread c op time m)
 tells_end t m thread c op time none = by_two (is_invoke op.kind || not (is_keyword (request_name c.request) op.f)) (not (fits_call t c op.kind op.value))
   where
@@ -100,7 +100,7 @@ tells_end t m thread c op time none = by_two (is_invoke op.kind || not (is_keywo
     by_two false true = refused m complaint.BadValue none
     by_two false false = timed m time none
 
-tells_completion : (t : TestValue) (m : Machine) (process : ℕ) (op : Operation) (time : Option ℕ) → m.bad ≡ None → (c : Option Asked)
+tells_completion : (t : TestValue) (m : Machine) (process : ℕ) (op : Operation) (time : Option ℕ) → m.bad ≡ None → (c : Option ValuedCall)
     → Tells (told_of (complaint_of_completion t m process c op) m.read) m.read (take_completion t process op time m c)
 tells_completion t m process op time none None = refused m complaint.NoCallOpen none
 tells_completion t m process op time none (Some c) =

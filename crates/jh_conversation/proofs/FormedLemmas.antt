@@ -21,7 +21,7 @@ use Rattle.jh_conversation.specs.Sound.{IsBetween}
 use Rattle.jh_test_parts.specs.Test.{TestValue}
 use Rattle.jh_conversation.specs.Turn.{call_made, may_call_in}
 use Rattle.jh_test_parts.specs.Test.{node_of_thread}
-use Rattle.jh_test_parts.specs.declared.calls.Asked.{Asked}
+use Rattle.jh_test_parts.specs.declared.calls.ValuedCall.{ValuedCall}
 use Rattle.jh_conversation.specs.declared.callers.Caller.{Caller}
 use Rattle.jh_test_parts.specs.declared.records.Recorded.TheVariants.{Invoked, Ended}
 use Rattle.jh_test_parts.specs.declared.records.Recorded.{Recorded}
@@ -33,7 +33,7 @@ abbrev caller : List Caller → ℕ → Caller
 caller callers thread = get_or callers thread no_caller
 
 -- what the process of a caller does
-abbrev shown : Option Asked → Status
+abbrev shown : Option ValuedCall → Status
 shown None = Idle
 shown (Some call) = Busy call
 
@@ -127,12 +127,12 @@ callers_next s n callers crashed most past next t w st h within news formed up m
         news (u + n * life) ∙ other _ _ st _ (λ f. ne (sym (same_thread n t u _ _ within hu f)))
         ∙ h.later u life hu (subst (λ (x : Caller). x.crashes < life) (there u ne) less)
 
-pub in_callers : (callers : List Caller) (t : ℕ) (call : Asked) → (caller callers t).call ≡ Some call → t < length callers
+pub in_callers : (callers : List Caller) (t : ℕ) (call : ValuedCall) → (caller callers t).call ≡ Some call → t < length callers
 in_callers [] t call e = absurd (cc e)
 in_callers (x ∷ callers) zero call e = omega arith
 in_callers (x ∷ callers) (suc t) call e = let k = in_callers callers t call e in omega arith
 
-free_is : (c : Option Asked) → has_no_call c ≡ true → c ≡ None
+free_is : (c : Option ValuedCall) → has_no_call c ≡ true → c ≡ None
 free_is None e = refl
 free_is (Some call) e = absurd (false≢true e)
 
@@ -198,7 +198,7 @@ holds_in_turn s = record {
   ends_final = λ m is e h. (h.0, λ b. absurd b);
 }
 
-none-some : (c : Option Asked) (x : Asked) → c ≡ None → c ≡ Some x → ⊥
+none-some : (c : Option ValuedCall) (x : ValuedCall) → c ≡ None → c ≡ Some x → ⊥
 none-some c x e f = cc
 
 pub holds_by_line : (s : TestValue) → IsKeptByLine s (Holds s)
@@ -219,7 +219,7 @@ holds_by_line s = record {
       );
 }
   where
-    ends : (st : Status) (call : Asked) (kind : Kind) (value : Edn) → st ≡ Busy call → IsEndOfOpen s (Busy call) kind call.request value → IsEndOfOpen s st kind call.request value
+    ends : (st : Status) (call : ValuedCall) (kind : Kind) (value : Edn) → st ≡ Busy call → IsEndOfOpen s (Busy call) kind call.request value → IsEndOfOpen s st kind call.request value
     ends st call kind value e h = subst (λ (x : Status). IsEndOfOpen s x kind call.request value) (sym e) h
 
     ended : (kind : Kind) (life : ℕ) → life ≡ life + more_crashes kind → after_end kind ≡ Idle

@@ -33,7 +33,7 @@ use Rattle.jh_conversation.specs.Turn.{has_recovered, heal, invoke, may_call, mo
 use Rattle.jh_conversation.specs.Turn.{passes, rest, round, rounds, step, told, turn, visit, visits}
 use Rattle.jh_conversation.specs.Turn.{when, work}
 use Rattle.jh_conversation.specs.declared.turns.Due.{Due}
-use Rattle.jh_test_parts.specs.declared.calls.Asked.{Asked}
+use Rattle.jh_test_parts.specs.declared.calls.ValuedCall.{ValuedCall}
 use Rattle.jh_conversation.specs.declared.callers.OpenStep.{OpenStep}
 use Rattle.jh_test_parts.specs.declared.complaints.Complaint.{Complaint}
 use Rattle.jh_test_parts.specs.declared.complaints.Complaint.TheVariants as complaint
@@ -81,14 +81,14 @@ pub record IsKeptByLine (t : TestValue) (P : Machine → Type 0) : Type 0 where
   pub stops : (m : Machine) → P m → P (stop m)
   pub refuses : (m : Machine) (why : Complaint) → P m → P (refuse why m)
   pub answers : (m : Machine) (open_step : OpenStep) (op : Operation) → m.step ≡ Some open_step → P m → P (answer_step open_step op m)
-  pub finishes : (m : Machine) (thread : ℕ) (open_call : Asked) (op : Operation) → (caller_of m thread).call ≡ Some open_call → is_invoke op.kind ≡ false → fits_call t open_call op.kind op.value ≡ true → P m → P (finish t thread open_call.request op m)
+  pub finishes : (m : Machine) (thread : ℕ) (open_call : ValuedCall) (op : Operation) → (caller_of m thread).call ≡ Some open_call → is_invoke op.kind ≡ false → fits_call t open_call op.kind op.value ≡ true → P m → P (finish t thread open_call.request op m)
 
 -- P holds where there is a machine
 abbrev pub IfMoved : (Machine → Type 0) → Option Machine → Type 0
 IfMoved P None = Unit {0}
 IfMoved P (Some m) = P m
 
-free : (c : Option Asked) → has_no_call c ≡ true → c ≡ None
+free : (c : Option ValuedCall) → has_no_call c ≡ true → c ≡ None
 free None is = refl
 free (Some c) is = absurd (false≢true is)
 
@@ -184,7 +184,7 @@ module _ (t : TestValue) (P : Machine → Type 0) (l : IsKeptByLine t P) where
   or_parts_false true b e = e
   or_parts_false false b e = refl
 
-  kept_end : (m : Machine) (thread : ℕ) (open_call : Asked) (op : Operation) (time : Option ℕ) → (caller_of m thread).call ≡ Some open_call → P m → P (take_end t thread open_call op time m)
+  kept_end : (m : Machine) (thread : ℕ) (open_call : ValuedCall) (op : Operation) (time : Option ℕ) → (caller_of m thread).call ≡ Some open_call → P m → P (take_end t thread open_call op time m)
   kept_end m thread open_call op time e h =
       cond_both (is_invoke op.kind || not (is_keyword (request_name open_call.request) op.f)) (refuse complaint.OtherCall m)
       (if not (fits_call t open_call op.kind op.value) then refuse complaint.BadValue m else finish t thread open_call.request op (at_time time m)) P
@@ -193,7 +193,7 @@ module _ (t : TestValue) (P : Machine → Type 0) (l : IsKeptByLine t P) where
       (λ _. l.refuses m _ h)
       (λ fits. l.finishes (at_time time m) thread open_call op (same_call m time thread ∙ e) (or_parts_false _ _ no) (not-false _ fits) (kept_time m time h)))
 
-  kept_completion : (m : Machine) (process : ℕ) (op : Operation) (time : Option ℕ) (c : Option Asked) → (caller_of m (thread_of_process t process)).call ≡ c → P m → P (take_completion t process op time m c)
+  kept_completion : (m : Machine) (process : ℕ) (op : Operation) (time : Option ℕ) (c : Option ValuedCall) → (caller_of m (thread_of_process t process)).call ≡ c → P m → P (take_completion t process op time m c)
   kept_completion m process op time None e h = l.refuses m _ h
   kept_completion m process op time (Some c) e h =
       cond_both (caller_process t m (thread_of_process t process) == process) (take_end t (thread_of_process t process) c op time m) (refuse complaint.NoCallOpen m) P

@@ -12,7 +12,7 @@ use Rattle.jh_test_parts.specs.Test.{thread_of_process}
 use Rattle.jh_conversation.specs.Machine.{Machine, caller_of}
 use Rattle.jh_test_parts.specs.Test.{TestValue}
 use Rattle.jh_conversation.specs.Turn.{turn}
-use Rattle.jh_test_parts.specs.declared.calls.Asked.{Asked}
+use Rattle.jh_test_parts.specs.declared.calls.ValuedCall.{ValuedCall}
 use Rattle.jh_conversation.specs.declared.callers.OpenStep.{OpenStep}
 use Rattle.jh_test_parts.specs.declared.records.Recorded.TheVariants.{Answered, Ended}
 use Rattle.jh_test_parts.specs.declared.records.Recorded.{Recorded}
@@ -54,7 +54,7 @@ all_heard t m (Reply op time) = go op.process
     answer None = tt
     answer (Some w) = elim (answers_step w op) as (λ b. AllByRecursion IsHeard (if b then Answered (clock_at time m.clock) w.entry w.code (kept_pairs op) ∷ [] else [])) [ true ↦ (tt, tt) | false ↦ tt ]
 
-    completion : (process : ℕ) (c : Option Asked) → AllByRecursion IsHeard (ended_by t m process c op (clock_at time m.clock))
+    completion : (process : ℕ) (c : Option ValuedCall) → AllByRecursion IsHeard (ended_by t m process c op (clock_at time m.clock))
     completion process None = tt
     completion process (Some c) = elim (is_end_of_call t m process c op) as (λ b. AllByRecursion IsHeard (if b then Ended (clock_at time m.clock) process op.kind c.request op.value (kept_pairs op) ∷ [] else [])) [ true ↦ (tt, tt) | false ↦ tt ]
 

@@ -12,13 +12,13 @@ use Rattle.jh_test_parts.specs.Test.{thread_of_process}
 use Rattle.jh_conversation.specs.LinesInside.{after_completion, ended_call, ended_request}
 use Rattle.jh_conversation.specs.Machine.{Machine, caller_process, has_no_call}
 use Rattle.jh_test_parts.specs.Test.{TestValue}
-use Rattle.jh_test_parts.specs.declared.calls.Asked.{Asked}
+use Rattle.jh_test_parts.specs.declared.calls.ValuedCall.{ValuedCall}
 use Rattle.jh_test_parts.specs.declared.complaints.Complaint.{Complaint}
 use Rattle.jh_test_parts.specs.declared.complaints.Complaint.TheVariants as complaint
 
 -- The completion of a call.
 
-end_is : (t : TestValue) (m : Machine) (thread : ℕ) (op : Operation) (time : Option ℕ) (call : Asked) → after_completion t thread op time m (ended_call t call op) ≡ take_end t thread call op time m
+end_is : (t : TestValue) (m : Machine) (thread : ℕ) (op : Operation) (time : Option ℕ) (call : ValuedCall) → after_completion t thread op time m (ended_call t call op) ≡ take_end t thread call op time m
 end_is t m thread op time call = by_two (is_invoke op.kind || not (is_keyword (request_name call.request) op.f)) (not (fits_call t call op.kind op.value))
   where
     by_two : (other odd : Bool) → after_completion t thread op time m (if other then Err complaint.OtherCall else if odd then Err complaint.BadValue else Ok call.request)
@@ -27,7 +27,7 @@ end_is t m thread op time call = by_two (is_invoke op.kind || not (is_keyword (r
     by_two false true = refl
     by_two false false = refl
 
-pub completion_is : (t : TestValue) (m : Machine) (process : ℕ) (op : Operation) (time : Option ℕ) (c : Option Asked)
+pub completion_is : (t : TestValue) (m : Machine) (process : ℕ) (op : Operation) (time : Option ℕ) (c : Option ValuedCall)
     → after_completion t (thread_of_process t process) op time m (ended_request t m process op c) ≡ take_completion t process op time m c
 completion_is t m process op time None = refl
 completion_is t m process op time (Some call) =
@@ -38,7 +38,7 @@ completion_is t m process op time (Some call) =
     ]
 
 -- what ends a call ends one that is open
-pub ended_open : (t : TestValue) (m : Machine) (process : ℕ) (op : Operation) (c : Option Asked) → IfOk (ended_request t m process op c) (λ _. has_no_call c ≡ false)
+pub ended_open : (t : TestValue) (m : Machine) (process : ℕ) (op : Operation) (c : Option ValuedCall) → IfOk (ended_request t m process op c) (λ _. has_no_call c ≡ false)
 ended_open t m process op None = tt
 ended_open t m process op (Some call) = of_call (ended_request t m process op (Some call))
   where

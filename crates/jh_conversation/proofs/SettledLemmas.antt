@@ -23,7 +23,7 @@ use Rattle.jh_conversation.specs.Turn.{keeps_rate, may_call, may_call_in, move, 
 use Rattle.jh_conversation.specs.Turn.{no_more_calls_in, passes, round, rounds, step, turn, when}
 use Rattle.jh_conversation.specs.Turn.{work}
 use Rattle.jh_conversation.specs.declared.turns.Due.{Due}
-use Rattle.jh_test_parts.specs.declared.calls.Asked.{Asked}
+use Rattle.jh_test_parts.specs.declared.calls.ValuedCall.{ValuedCall}
 use Rattle.jh_conversation.specs.declared.callers.Caller.{Caller}
 use Rattle.jh_conversation.specs.declared.callers.OpenStep.{OpenStep}
 use Rattle.jh_conversation.specs.declared.phase.Phase.{Phase}
@@ -44,7 +44,7 @@ few_free : (callers : List Caller) → free_callers callers ≤ length callers
 few_free [] = omega arith
 few_free (x ∷ callers) = let h = few_free callers in elim (has_no_call x.call) as (λ b. (if b then suc (free_callers callers) else free_callers callers) ≤ suc (length callers)) [ true ↦ omega arith | false ↦ omega arith ]
 
-caller_taken : (callers : List Caller) (t : ℕ) (call : Asked) (life : ℕ) → t < length callers → (get_or callers t no_caller).call ≡ None
+caller_taken : (callers : List Caller) (t : ℕ) (call : ValuedCall) (life : ℕ) → t < length callers → (get_or callers t no_caller).call ≡ None
     → suc (free_callers (set callers t (record { crashes = life; call = Some call }))) ≡ free_callers callers
 caller_taken [] t call life h e = absurd (omega arith)
 caller_taken (x ∷ callers) zero call life h e = sym (ap (λ c. if has_no_call c then suc (free_callers callers) else free_callers callers) e)

@@ -42,7 +42,7 @@ use Rattle.jh_test_parts.specs.Test.{IsFitTest, TestValue}
 use Rattle.jh_conversation.specs.Turn.{answer_to, call_made, calls_ended, counts_after}
 use Rattle.jh_conversation.specs.Turn.{due_in_phase, group_of, has_come_to, if_due, invoke}
 use Rattle.jh_conversation.specs.Turn.{may_call, told}
-use Rattle.jh_test_parts.specs.declared.calls.Asked.{Asked}
+use Rattle.jh_test_parts.specs.declared.calls.ValuedCall.{ValuedCall}
 use Rattle.jh_conversation.specs.declared.callers.Caller.{Caller}
 use Rattle.jh_test_parts.specs.declared.parts.Entry.{Entry}
 use Rattle.jh_test_parts.specs.declared.parts.KeyShares.{KeyShares}
@@ -134,7 +134,7 @@ tied_fresh clients d crashes h = record {
 
 -- open calls are counted
 
-open_more : (callers : List Caller) (t life : ℕ) (c : Asked) → t < length callers → is_idle callers t ≡ true
+open_more : (callers : List Caller) (t life : ℕ) (c : ValuedCall) → t < length callers → is_idle callers t ≡ true
     → open_calls (set callers t (record { crashes = life; call = Some c })) ≡ suc (open_calls callers)
 open_more [] t life c h e = absurd (omega arith)
 open_more (x ∷ callers) zero life c h e = ap suc (sym (ap (λ b. if b then open_calls callers else suc (open_calls callers)) e))

@@ -27,7 +27,7 @@ use Rattle.jh_test_parts.specs.Test.{TestValue}
 use Rattle.jh_test_parts.specs.Told.{cells_told}
 use Rattle.jh_conversation.specs.Turn.{call_made, turn}
 use Rattle.jh_test_parts.specs.Test.{node_of_thread}
-use Rattle.jh_test_parts.specs.declared.calls.Asked.{Asked}
+use Rattle.jh_test_parts.specs.declared.calls.ValuedCall.{ValuedCall}
 use Rattle.jh_conversation.specs.declared.callers.OpenStep.{OpenStep}
 use Rattle.jh_test_parts.specs.declared.records.Recorded.TheVariants.{Invoked, Ended, Begun}
 use Rattle.jh_test_parts.specs.declared.records.Recorded.TheVariants.{Answered}
@@ -74,12 +74,12 @@ heard_answer m op time none (Some w) =
     answered None = (refl, none)
     answered (Some time) = (refl, none)
 
-heard_finish : (t : TestValue) (m : Machine) (process : ℕ) (op : Operation) (time : Option ℕ) (c : Asked) → m.said ≡ [] → caller_process t m (thread_of_process t process) ≡ process
+heard_finish : (t : TestValue) (m : Machine) (process : ℕ) (op : Operation) (time : Option ℕ) (c : ValuedCall) → m.said ≡ [] → caller_process t m (thread_of_process t process) ≡ process
     → Hears m (Ended (clock_at time m.clock) process op.kind c.request op.value (kept_pairs op) ∷ []) (finish t (thread_of_process t process) c.request op (at_time time m))
 heard_finish t m process op None c none e = (ap (λ p. Ended m.clock p op.kind c.request op.value (kept_pairs op) ∷ m.history) e, none)
 heard_finish t m process op (Some time) c none e = (ap (λ p. Ended (clock_after m.clock time) p op.kind c.request op.value (kept_pairs op) ∷ m.history) e, none)
 
-heard_end : (t : TestValue) (m : Machine) (process : ℕ) (op : Operation) (time : Option ℕ) (c : Asked) → m.said ≡ [] → caller_process t m (thread_of_process t process) ≡ process
+heard_end : (t : TestValue) (m : Machine) (process : ℕ) (op : Operation) (time : Option ℕ) (c : ValuedCall) → m.said ≡ [] → caller_process t m (thread_of_process t process) ≡ process
     → Hears m (if not (is_invoke op.kind) && (is_keyword (request_name c.request) op.f && fits_call t c op.kind op.value) then Ended (clock_at time m.clock) process op.kind c.request op.value (kept_pairs op) ∷ [] else [])
     (take_end t (thread_of_process t process) c op time m)
 heard_end t m process op time c none e = by_three (is_invoke op.kind) (is_keyword (request_name c.request) op.f) (fits_call t c op.kind op.value)
@@ -92,7 +92,7 @@ heard_end t m process op time c none e = by_three (is_invoke op.kind) (is_keywor
     by_three false true false = (refl, none)
     by_three false true true = heard_finish t m process op time c none e
 
-heard_completion : (t : TestValue) (m : Machine) (process : ℕ) (op : Operation) (time : Option ℕ) → m.said ≡ [] → (c : Option Asked)
+heard_completion : (t : TestValue) (m : Machine) (process : ℕ) (op : Operation) (time : Option ℕ) → m.said ≡ [] → (c : Option ValuedCall)
     → Hears m (ended_by t m process c op (clock_at time m.clock)) (take_completion t process op time m c)
 heard_completion t m process op time none None = (refl, none)
 heard_completion t m process op time none (Some c) =

@@ -25,7 +25,7 @@ use Rattle.jh_test_parts.specs.Test.{thread_of_process}
 use Rattle.jh_conversation.specs.Machine.{Machine, are_free, caller_process, caller_of}
 use Rattle.jh_test_parts.specs.Test.{TestValue}
 use Rattle.jh_conversation.specs.Turn.{keeps_rate, may_call, millisecond, move, round, turn}
-use Rattle.jh_test_parts.specs.declared.calls.Asked.{Asked}
+use Rattle.jh_test_parts.specs.declared.calls.ValuedCall.{ValuedCall}
 use Rattle.jh_conversation.specs.declared.callers.OpenStep.{OpenStep}
 use Rattle.jh_test_parts.specs.declared.complaints.Complaint.{Complaint}
 use Rattle.jh_test_parts.specs.declared.complaints.Complaint.TheVariants as complaint
@@ -69,7 +69,7 @@ clock_at None now = now
 clock_at (Some time) now = clock_after now time
 
 -- the completion of the call that its process has open
-abbrev pub is_end_of_call : TestValue → Machine → ℕ → Asked → Operation → Bool
+abbrev pub is_end_of_call : TestValue → Machine → ℕ → ValuedCall → Operation → Bool
 is_end_of_call t m process call op =
     (caller_process t m (thread_of_process t process) == process)
     && (not (is_invoke op.kind)
@@ -82,7 +82,7 @@ answered_by (Some step) op now =
     if answers_step step op then Answered now step.entry step.code (kept_pairs op) ∷ [] else []
 
 -- the record of a completion, if it is one
-abbrev pub ended_by : TestValue → Machine → ℕ → Option Asked → Operation → ℕ → List Recorded
+abbrev pub ended_by : TestValue → Machine → ℕ → Option ValuedCall → Operation → ℕ → List Recorded
 ended_by t m process None op now = []
 ended_by t m process (Some call) op now =
     if is_end_of_call t m process call op
@@ -152,7 +152,7 @@ TimesAreInOrder =
 -- what a process does: nothing, this call, or nothing any more
 pub data Status : Type 0 where
   Idle : Status
-  Busy : Asked → Status
+  Busy : ValuedCall → Status
   Gone : Status
 
 abbrev pub after_end : Kind → Status
@@ -300,13 +300,13 @@ complaint_of_answer None op = Some complaint.NoStepOpen
 complaint_of_answer (Some step) op = if answers_step step op then None else Some complaint.OtherStep
 
 -- why the completion of a call that its process has open is none
-abbrev pub complaint_of_end : TestValue → Asked → Operation → Option Complaint
+abbrev pub complaint_of_end : TestValue → ValuedCall → Operation → Option Complaint
 complaint_of_end t call op =
     if is_invoke op.kind || not (is_keyword (request_name call.request) op.f) then Some complaint.OtherCall
     else if not (fits_call t call op.kind op.value) then Some complaint.BadValue
     else None
 
-abbrev pub complaint_of_completion : TestValue → Machine → ℕ → Option Asked → Operation
+abbrev pub complaint_of_completion : TestValue → Machine → ℕ → Option ValuedCall → Operation
     → Option Complaint
 complaint_of_completion t m process None op = Some complaint.NoCallOpen
 complaint_of_completion t m process (Some call) op =

@@ -27,7 +27,7 @@ use Rattle.jh_test_parts.specs.Values.{fits_call}
 use Rattle.jh_test_parts.specs.Transactions.{first_source}
 use Rattle.jh_test_parts.specs.Test.{TestValue}
 use Rattle.jh_conversation.specs.Turn.{turn}
-use Rattle.jh_test_parts.specs.declared.calls.Asked.{Asked}
+use Rattle.jh_test_parts.specs.declared.calls.ValuedCall.{ValuedCall}
 use Rattle.jh_conversation.specs.declared.callers.OpenStep.{OpenStep}
 use Rattle.jh_test_parts.specs.declared.complaints.Complaint.{Complaint}
 use Rattle.jh_test_parts.specs.declared.complaints.Complaint.TheVariants as complaint
@@ -100,14 +100,14 @@ finish t number request op m =
       });
     })
 
-abbrev pub take_end : TestValue → ℕ → Asked → Operation → Option ℕ → Machine → Machine
+abbrev pub take_end : TestValue → ℕ → ValuedCall → Operation → Option ℕ → Machine → Machine
 take_end t number call op time m =
     if is_invoke op.kind || not (is_keyword (request_name call.request) op.f) then refuse complaint.OtherCall m
     else if not (fits_call t call op.kind op.value) then refuse complaint.BadValue m
     else finish t number call.request op (at_time time m)
 
 -- the call of a process, where the thread has it open under this number
-abbrev pub take_completion : TestValue → ℕ → Operation → Option ℕ → Machine → Option Asked
+abbrev pub take_completion : TestValue → ℕ → Operation → Option ℕ → Machine → Option ValuedCall
     → Machine
 take_completion t process op time m None = refuse complaint.NoCallOpen m
 take_completion t process op time m (Some call) =

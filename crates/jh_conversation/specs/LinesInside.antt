@@ -11,19 +11,19 @@ use Rattle.jh_test_parts.specs.Values.{fits_call}
 use Rattle.jh_test_parts.specs.Test.{thread_of_process}
 use Rattle.jh_conversation.specs.Machine.{Machine, caller_process}
 use Rattle.jh_test_parts.specs.Test.{TestValue}
-use Rattle.jh_test_parts.specs.declared.calls.Asked.{Asked}
+use Rattle.jh_test_parts.specs.declared.calls.ValuedCall.{ValuedCall}
 use Rattle.jh_test_parts.specs.declared.complaints.Complaint.{Complaint}
 use Rattle.jh_test_parts.specs.declared.complaints.Complaint.TheVariants as complaint
 
 -- the request whose call this operation ends, or why it ends none
-abbrev pub ended_call : TestValue → Asked → Operation → Result Request Complaint
+abbrev pub ended_call : TestValue → ValuedCall → Operation → Result Request Complaint
 ended_call t call op =
     if is_invoke op.kind || not (is_keyword (request_name call.request) op.f)
     then Err complaint.OtherCall
     else if not (fits_call t call op.kind op.value) then Err complaint.BadValue
     else Ok call.request
 
-abbrev pub ended_request : TestValue → Machine → ℕ → Operation → Option Asked
+abbrev pub ended_request : TestValue → Machine → ℕ → Operation → Option ValuedCall
     → Result Request Complaint
 ended_request t m process op None = Err complaint.NoCallOpen
 ended_request t m process op (Some call) =

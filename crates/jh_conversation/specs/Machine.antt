@@ -7,7 +7,7 @@ use Rattle.jh_gen.specs.DriverState.{DriverState}
 use Rattle.jh_nemesis.specs.State.{State}
 use Rattle.jh_test_parts.specs.Test.{TestValue}
 use Rattle.jh_test_parts.specs.Transactions.{TransactionSource}
-use Rattle.jh_test_parts.specs.declared.calls.Asked.{Asked}
+use Rattle.jh_test_parts.specs.declared.calls.ValuedCall.{ValuedCall}
 use Rattle.jh_conversation.specs.declared.callers.Caller.{Caller}
 use Rattle.jh_conversation.specs.declared.callers.OpenStep.{OpenStep}
 use Rattle.jh_test_parts.specs.declared.complaints.Complaint.{Complaint}
@@ -57,7 +57,7 @@ caller_of m thread = get_or m.callers thread no_caller
 abbrev pub caller_process : TestValue → Machine → ℕ → ℕ
 caller_process t m thread = thread + t.clients * (caller_of m thread).crashes
 
-abbrev pub has_no_call : Option Asked → Bool
+abbrev pub has_no_call : Option ValuedCall → Bool
 has_no_call None = true
 has_no_call (Some call) = false
 

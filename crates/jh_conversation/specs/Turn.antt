@@ -27,7 +27,7 @@ use Rattle.jh_conversation.specs.Machine.{caller_of}
 use Rattle.jh_test_parts.specs.Test.{TestValue, node_of_thread}
 use Rattle.jh_test_parts.specs.Told.{cells_told}
 use Rattle.jh_test_parts.specs.Transactions.{TransactionSource, next_transaction}
-use Rattle.jh_test_parts.specs.declared.calls.Asked.{Asked}
+use Rattle.jh_test_parts.specs.declared.calls.ValuedCall.{ValuedCall}
 use Rattle.jh_conversation.specs.declared.callers.OpenStep.{OpenStep}
 use Rattle.jh_conversation.specs.declared.turns.Due.{Due}
 use Rattle.jh_test_parts.specs.declared.parts.Entry.{Entry}
@@ -154,7 +154,7 @@ source_after source Txn = (next_transaction source).1
 source_after source request = source
 
 -- the call that a thread makes for a request
-abbrev pub call_made : TestValue → Machine → ℕ → Request → Asked
+abbrev pub call_made : TestValue → Machine → ℕ → Request → ValuedCall
 call_made t m thread request = record {
   request = request;
   value = value_with_key t t.keys thread m.calls_by_group (value_asked m.transactions request);

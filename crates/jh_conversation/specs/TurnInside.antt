@@ -6,7 +6,7 @@ use Rattle.jh_conversation.specs.Machine.{Machine}
 use Rattle.jh_test_parts.specs.Test.{TestValue}
 use Rattle.jh_conversation.specs.Turn.{counts_after, source_after, value_with_key}
 use Rattle.jh_ops.specs.declared.call.Request.{Request}
-use Rattle.jh_test_parts.specs.declared.calls.Asked.{Asked}
+use Rattle.jh_test_parts.specs.declared.calls.ValuedCall.{ValuedCall}
 
 abbrev pub value_behind_key : ℕ → Edn → Edn
 value_behind_key key value = vector_of (int (pos key) ∷ value ∷ [])
@@ -17,7 +17,7 @@ moved m None = m
 moved m (Some next) = next
 
 -- the call of a request that asks with a value
-abbrev pub asked_with : TestValue → Machine → ℕ → Request → Edn → Asked
+abbrev pub asked_with : TestValue → Machine → ℕ → Request → Edn → ValuedCall
 asked_with t m thread request value = record {
   request = request;
   value = value_with_key t t.keys thread m.calls_by_group value;

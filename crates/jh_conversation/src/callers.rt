@@ -1,13 +1,13 @@
 //! The threads of a test, and the step that waits for its answer. `specs/Machine.antt` says what is
 //! known of them.
 
-use jh_test_parts::Asked;
+use jh_test_parts::ValuedCall;
 
 /// A thread: how many of its processes have crashed, and the call that it has open.
 #[derive(Debug, Drop)]
 pub struct Caller {
     pub crashes: u64,
-    pub call: Option<Asked>,
+    pub call: Option<ValuedCall>,
 }
 
 /// A step that waits for its answer: the place of its entry, and the code of the nemesis' answer.

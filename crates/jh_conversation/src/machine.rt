@@ -11,7 +11,7 @@ use crate::callers::{Caller, OpenStep};
 use crate::phase::Phase;
 use jh_gen::Driver;
 use jh_nemesis::Nemesis;
-use jh_test_parts::{Asked, Complaint, Recorded, Test, TransactionSource};
+use jh_test_parts::{Complaint, Recorded, Test, TransactionSource, ValuedCall};
 use rand_pcg::Lcg128Xsl64;
 use std::alloc::{AllocError, Global};
 use std::marker::Model;
@@ -61,7 +61,7 @@ impl Model for Machine {
 }
 
 /// Whether no call is open here.
-pub(crate) fn has_no_call(call: &Option<Asked>) -> bool
+pub(crate) fn has_no_call(call: &Option<ValuedCall>) -> bool
     ensures { result ≡ rule.has_no_call call.now }
 {
     match call {

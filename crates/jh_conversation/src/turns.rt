@@ -18,7 +18,9 @@ use jh_edn::{Value, Values};
 use jh_gen::{Driver, GenAnswer, GenError, Thread};
 use jh_nemesis::{Nemesis, Step};
 use jh_ops::{Call, Request};
-use jh_test_parts::{Asked, CellsTold, Datum, Entry, KeyShares, NamedCells, Recorded, Test, When};
+use jh_test_parts::{
+    CellsTold, Datum, Entry, KeyShares, NamedCells, Recorded, Test, ValuedCall, When,
+};
 use rand_core::utils::NextWord;
 use std::alloc::{AllocError, Global};
 
@@ -250,7 +252,7 @@ impl Machine {
         thread: u32,
         request: Request,
         value: Value,
-    ) -> Result<Asked, AllocError>
+    ) -> Result<ValuedCall, AllocError>
         requires small { HasSmallCounts test.now self.now }
         requires within { thread < test.now.clients }
         ensures { IfOk result
@@ -260,7 +262,7 @@ impl Machine {
             None => value,
             Some(shares) => with_key(alloc, self.key_of(test, shares, thread), value)?,
         };
-        Ok(Asked {
+        Ok(ValuedCall {
             request,
             value: Datum::of(value),
         })

@@ -16,7 +16,7 @@ use Rattle.jh_conversation.specs.Turn.{call_made, counts_after, group_of, key_of
 use Rattle.jh_conversation.proofs.KeptLemmas.{IsKeptByLine, IsKeptInTurn, by_answers, kept_run}
 use Rattle.jh_conversation.proofs.OfferLemmas.{thread_is}
 use Rattle.jh_test_parts.specs.Test.{TestValue, node_of_thread, thread_of_process}
-use Rattle.jh_test_parts.specs.declared.calls.Asked.{Asked}
+use Rattle.jh_test_parts.specs.declared.calls.ValuedCall.{ValuedCall}
 use Rattle.jh_test_parts.specs.declared.parts.KeyShares.{KeyShares}
 use Rattle.jh_test_parts.specs.declared.records.Recorded.{Recorded}
 use Rattle.jh_test_parts.specs.declared.records.Recorded.TheVariants.{Invoked, Ended, Begun, Answered}
@@ -41,7 +41,7 @@ keyed t (Some shares) thread counts past value h =
     ap (λ n. vector_of (int (pos (key_of_call t shares (group_of shares thread) n)) ∷ value ∷ [])) (h (group_of shares thread))
 
 -- one more call of a thread is counted in its group
-counts_next : (t : TestValue) (keys : Option KeyShares) (counts : List ℕ) (past : List Recorded) (time process thread node : ℕ) (call : Asked)
+counts_next : (t : TestValue) (keys : Option KeyShares) (counts : List ℕ) (past : List Recorded) (time process thread node : ℕ) (call : ValuedCall)
     → thread_of_process t process ≡ thread → thread < t.clients → length counts ≡ t.clients → AreCountsOf t keys counts past
     → AreCountsOf t keys (counts_after keys thread counts) (Invoked time process node call ∷ past)
 counts_next t None counts past time process thread node call is within wide h = tt

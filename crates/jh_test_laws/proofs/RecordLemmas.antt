@@ -22,7 +22,7 @@ use Rattle.jh_test_parts.specs.Records.{operation_of_record, recorded_operations
 use Rattle.jh_test_parts.specs.Test.{TestValue, thread_of_process}
 use Rattle.jh_test_parts.specs.Transactions.{TransactionSource}
 use Rattle.jh_test_parts.specs.Values.{answers_with_key, fits_call, is_good_answer, is_good_value, list_or_none}
-use Rattle.jh_test_parts.specs.declared.calls.Asked.{Asked}
+use Rattle.jh_test_parts.specs.declared.calls.ValuedCall.{ValuedCall}
 use Rattle.jh_test_parts.specs.declared.parts.KeyShares.{KeyShares}
 use Rattle.jh_test_parts.specs.declared.records.Recorded.{Recorded}
 use Rattle.jh_test_parts.specs.declared.records.Recorded.TheVariants.{Invoked, Ended, Begun, Answered}
@@ -139,17 +139,17 @@ asked_tuple t None thread past value other e = tt
 asked_tuple t (Some shares) thread past value other e = ((_, _), e)
 
 -- the open call of each process has one
-calls_have_tuples : (t : TestValue) (p : ℕ) (past : List Recorded) → AreAsked t past → (call : Asked) → status p past ≡ Status.Busy call → HasTuple t.keys call.value
+calls_have_tuples : (t : TestValue) (p : ℕ) (past : List Recorded) → AreAsked t past → (call : ValuedCall) → status p past ≡ Status.Busy call → HasTuple t.keys call.value
 calls_have_tuples t p [] h call e = absurd cc
 calls_have_tuples t p (Invoked time process node asked ∷ past) h call e = go (cases_eq process p) (calls_have_tuples t p past h.2 call)
   where
-    same_call : {a b : Asked} → Status.Busy a ≡ Status.Busy b → a ≡ b
+    same_call : {a b : ValuedCall} → Status.Busy a ≡ Status.Busy b → a ≡ b
     same_call {a} {b} e = cc
 
     go : (process ≡ p) ⊎ (process ≡ p → ⊥) → (status p past ≡ Status.Busy call → HasTuple t.keys call.value) → HasTuple t.keys call.value
     go (inl is) earlier =
         let busy : Status.Busy asked ≡ Status.Busy call = sym (ap (λ b. if b then Status.Busy asked else status p past) (eq-eqb process p is)) ∙ e in
-        subst (λ (c : Asked). HasTuple t.keys c.value) (same_call busy) (asked_tuple t t.keys _ past _ asked.value h.1)
+        subst (λ (c : ValuedCall). HasTuple t.keys c.value) (same_call busy) (asked_tuple t t.keys _ past _ asked.value h.1)
     go (inr ne) earlier = earlier (sym (ap (λ b. if b then Status.Busy asked else status p past) (ne_eqb process p ne)) ∙ e)
 calls_have_tuples t p (Ended time process kind request value rest ∷ past) h call e = go (cases_eq process p) (calls_have_tuples t p past h call)
   where
@@ -178,18 +178,18 @@ with_key checker request key asked value (Some (x ∷ y ∷ [])) is e =
 with_key checker request key asked value (Some (x ∷ y ∷ z ∷ zs)) is e = absurd (false≢true e)
 
 -- the value fits the call, where keys are so
-abbrev fits_by : TestValue → Option KeyShares → Kind → Asked → Edn → Bool
+abbrev fits_by : TestValue → Option KeyShares → Kind → ValuedCall → Edn → Bool
 fits_by t keys Kind.Ok call value = is_good_value t keys call value
 fits_by t keys _ call value = is_equal call.value value
 
-fits_is : (t : TestValue) (kind : Kind) (call : Asked) (value : Edn) → fits_call t call kind value ≡ true → fits_by t t.keys kind call value ≡ true
+fits_is : (t : TestValue) (kind : Kind) (call : ValuedCall) (value : Edn) → fits_call t call kind value ≡ true → fits_by t t.keys kind call value ≡ true
 fits_is t Kind.Invoke call value e = e
 fits_is t Kind.Ok call value e = e
 fits_is t Kind.Fail call value e = e
 fits_is t Kind.Info call value e = e
 
 -- how a call of a test ends
-ends_by : (t : TestValue) (keys : Option KeyShares) (kind : Kind) (call : Asked) (op asked : Operation) → op.kind ≡ kind
+ends_by : (t : TestValue) (keys : Option KeyShares) (kind : Kind) (call : ValuedCall) (op asked : Operation) → op.kind ≡ kind
     → op.f ≡ keyword (request_name call.request) → asked.f ≡ keyword (request_name call.request) → asked.value ≡ call.value → HasTuple keys call.value
     → fits_by t keys kind call op.value ≡ true → CompletesBy keys t.checker asked op
 ends_by t None kind call op asked is f g v tuple fits = (f ∙ sym g, subst (CompletesOk t.checker asked.f asked.value op.value) (sym is) (ok kind fits))
@@ -224,7 +224,7 @@ fits_kind A E Kind.Info asked op ended e = e
 
 -- what ends an open call fits behind it
 fits_open : (t : TestValue) (A : Operation → Type 0) (E : Operation → Operation → Type 0) (s : Status) (d : Doing) (kind : Kind) (request : Request) (op : Operation) → Same s d → IsEndOfOpen t s kind request op.value
-    → ((call : Asked) (asked : Operation) → s ≡ Status.Busy call → Same (Status.Busy call) (Doing.Busy asked) → IsEndOfOpen t (Status.Busy call) kind request op.value → E asked op)
+    → ((call : ValuedCall) (asked : Operation) → s ≡ Status.Busy call → Same (Status.Busy call) (Doing.Busy asked) → IsEndOfOpen t (Status.Busy call) kind request op.value → E asked op)
     → FitsDoing A E d kind op
 fits_open t A E Status.Idle d kind request op same h ends = absurd h
 fits_open t A E Status.Gone d kind request op same h ends = absurd h
@@ -233,7 +233,7 @@ fits_open t A E (Status.Busy call) Doing.Gone kind request op same h ends = absu
 fits_open t A E (Status.Busy call) (Doing.Busy asked) kind request op same h ends = fits_kind A E kind asked op h.0 (ends call asked refl same h)
 
 fits_busy : (t : TestValue) (s : Status) (d : Doing) (kind : Kind) (request : Request) (op : Operation) → Same s d → IsEndOfOpen t s kind request op.value
-    → op.kind ≡ kind → op.f ≡ keyword (request_name request) → ((call : Asked) → s ≡ Status.Busy call → HasTuple t.keys call.value)
+    → op.kind ≡ kind → op.f ≡ keyword (request_name request) → ((call : ValuedCall) → s ≡ Status.Busy call → HasTuple t.keys call.value)
     → FitsDoing (InvokesBy t.keys t.checker) (CompletesBy t.keys t.checker) d kind op
 fits_busy t s d kind request op same h is f tuples =
     fits_open t (InvokesBy t.keys t.checker) (CompletesBy t.keys t.checker) s d kind request op same h

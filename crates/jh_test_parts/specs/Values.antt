@@ -9,7 +9,7 @@ use Rattle.jh_ops.specs.declared.call.Request.TheVariants.{Read, Generate, Txn}
 use Rattle.jh_ops.specs.declared.operation.Kind.{Kind}
 use Rattle.jh_txn_histories.specs.Written.{is_answered, is_equal}
 use Rattle.jh_test_parts.specs.Test.{TestValue}
-use Rattle.jh_test_parts.specs.declared.calls.Asked.{Asked}
+use Rattle.jh_test_parts.specs.declared.calls.ValuedCall.{ValuedCall}
 use Rattle.jh_test_parts.specs.declared.parts.KeyShares.{KeyShares}
 use Rattle.jh_checkers.specs.declared.checker.Checker.{Checker}
 use Rattle.jh_checkers.specs.declared.checker.Checker.TheVariants.{Register, Counter, Set, Ids}
@@ -50,13 +50,13 @@ list_or_none None = []
 list_or_none (Some values) = values
 
 -- of independent keys a tuple of the same key and such an answer
-abbrev pub is_good_value : TestValue → Option KeyShares → Asked → Edn → Bool
+abbrev pub is_good_value : TestValue → Option KeyShares → ValuedCall → Edn → Bool
 is_good_value t None call value = is_good_answer t.checker call.request call.value value
 is_good_value t (Some shares) call value =
     answers_with_key t.checker call.request (list_or_none (elements_of call.value))
     (elements_of value)
 
 -- a completion that is not `:ok` has the call's own value
-abbrev pub fits_call : TestValue → Asked → Kind → Edn → Bool
+abbrev pub fits_call : TestValue → ValuedCall → Kind → Edn → Bool
 fits_call t call Kind.Ok value = is_good_value t t.keys call value
 fits_call t call _ value = is_equal call.value value

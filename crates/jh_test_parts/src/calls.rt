@@ -29,7 +29,7 @@ impl Model for Datum {
 
 /// A call: its request, and its value as it is written, with its key where keys are independent.
 #[derive(Debug, Drop)]
-pub struct Asked {
+pub struct ValuedCall {
     pub request: Request,
     pub value: Datum,
 }
@@ -59,12 +59,12 @@ impl Datum {
     }
 }
 
-impl Asked {
+impl ValuedCall {
     /// The same call once more.
     pub fn copy(&self, alloc: Global) -> Result<Self, AllocError>
         ensures { IfOk result (λ copy. copy ≡ self.now) }
     {
-        Ok(Asked {
+        Ok(ValuedCall {
             request: self.request,
             value: self.value.copy(alloc)?,
         })

@@ -14,7 +14,7 @@ mod told;
 mod transactions;
 mod values;
 
-pub use calls::{Asked, Datum};
+pub use calls::{Datum, ValuedCall};
 pub use complaints::Complaint;
 pub use line::{Said, kept_pairs, line_said};
 pub use named::NamedCells;

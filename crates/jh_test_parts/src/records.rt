@@ -1,6 +1,6 @@
 //! What is recorded in a test. `specs/Records.antt` says which operation of the history a record is.
 
-use crate::calls::{Asked, Datum};
+use crate::calls::{Datum, ValuedCall};
 use jh_edn::Pairs;
 use jh_env::{Link, Node, NodeCell};
 use jh_nemesis::Step;
@@ -46,7 +46,7 @@ impl Model for CellsTold {
 #[derive(Debug, Drop)]
 pub enum Recorded {
     /// This process calls this node.
-    Invoked(u64, u64, Node, Asked),
+    Invoked(u64, u64, Node, ValuedCall),
     /// A call of this process ended, with a value and other keys as they came.
     Ended(u64, u64, Kind, Request, Datum, Pairs),
     /// The step of the entry at this place was taken, and these cells have changed.

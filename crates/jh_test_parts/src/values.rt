@@ -4,7 +4,7 @@ ghost use Rattle.std.specs.Prelude.{◌≡◌, IfOk, option_map};
 ghost use Rattle.jh_edn.specs.View.{view, views};
 ghost use Rattle.jh_test_parts.specs.Values as rule;
 
-use crate::calls::Asked;
+use crate::calls::ValuedCall;
 use crate::test::Test;
 use jh_checkers::Checker;
 use jh_edn::Value;
@@ -89,7 +89,7 @@ fn answers_with_key(
 fn is_good_value(
     alloc: Global,
     test: &Test,
-    call: &Asked,
+    call: &ValuedCall,
     value: &Value,
 ) -> Result<bool, AllocError>
     ensures { IfOk result
@@ -109,7 +109,7 @@ fn is_good_value(
 pub fn fits_call(
     alloc: Global,
     test: &Test,
-    call: &Asked,
+    call: &ValuedCall,
     kind: Kind,
     value: &Value,
 ) -> Result<bool, AllocError>
