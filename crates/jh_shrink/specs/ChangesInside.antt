@@ -6,19 +6,19 @@ use Rattle.std.specs.List.{insert, remove}
 use Rattle.std.specs.Vec.{vec_capacity}
 use Rattle.jh_simnode.specs.declared.schedule.Entry.{Entry}
 use Rattle.jh_simnode.specs.Limits.{max_entries}
-use Rattle.jh_shrink.specs.declared.changes.Change.{Change}
-use Rattle.jh_shrink.specs.declared.changes.Change.TheVariants.{Put, Take, Swap}
+use Rattle.jh_shrink.specs.declared.changes.EntryChange.{EntryChange}
+use Rattle.jh_shrink.specs.declared.changes.EntryChange.TheVariants.{Put, Take, Swap}
 use Rattle.jh_shrink.specs.declared.editor.Editor.TheInside.{Inside}
 use Rattle.jh_shrink.specs.Edits.{EditState}
 
 -- the entries after a change
-abbrev pub entries_after_change : Change → List Entry → List Entry
+abbrev pub entries_after_change : EntryChange → List Entry → List Entry
 entries_after_change (Put place entry) entries = insert entries place entry
 entries_after_change (Take place) entries = remove entries place
 entries_after_change (Swap place entry) entries = slice_set entries place entry
 
 -- the change that takes a change back
-abbrev pub IsChangeBack : Change → List Entry → Change → Type 0
+abbrev pub IsChangeBack : EntryChange → List Entry → EntryChange → Type 0
 IsChangeBack (Put place entry) entries back = back ≡ Take place
 IsChangeBack (Take place) entries back =
     (entry : Entry) × (entry ≡ slice_index_or entries place entry) × (back ≡ Put place entry)
@@ -26,27 +26,27 @@ IsChangeBack (Swap place entry) entries back =
     (other : Entry) × (other ≡ slice_index_or entries place other) × (back ≡ Swap place other)
 
 -- the change can be made
-abbrev pub Fits : Change → List Entry → Type 0
+abbrev pub Fits : EntryChange → List Entry → Type 0
 Fits (Put place entry) entries = (place ≤ length entries) × (length entries < max_entries)
 Fits (Take place) entries = place < length entries
 Fits (Swap place entry) entries = place < length entries
 
 -- the entries after each of these changes, one after another
-abbrev pub entries_after_changes : List Entry → List Change → List (List Entry)
+abbrev pub entries_after_changes : List Entry → List EntryChange → List (List Entry)
 entries_after_changes entries [] = []
 entries_after_changes entries (change ∷ changes) =
     entries_after_change change entries
     ∷ entries_after_changes (entries_after_change change entries) changes
 
 -- each of these changes can be made when its turn comes
-abbrev pub CanBeMade : List Entry → List Change → Type 0
+abbrev pub CanBeMade : List Entry → List EntryChange → Type 0
 CanBeMade entries [] = ⊤
 CanBeMade entries (change ∷ changes) =
     Fits change entries × CanBeMade (entries_after_change change entries) changes
 
 -- the state of entries, with the changes that take the edits back and those that make the undone
 -- ones again, the latest last
-abbrev pub edit_state_from : List Entry → List Change → List Change → EditState
+abbrev pub edit_state_from : List Entry → List EntryChange → List EntryChange → EditState
 edit_state_from entries past future = record {
   past = entries_after_changes entries (reverse past);
   now = entries;

@@ -11,7 +11,7 @@ use std::mem;
 
 /// A change of entries.
 #[derive(Debug, Drop)]
-pub(crate) enum Change {
+pub(crate) enum EntryChange {
     /// An entry is put in at a place.
     Put(usize, Entry),
     /// The one at a place is taken out.
@@ -21,7 +21,7 @@ pub(crate) enum Change {
 }
 
 /// Makes a change, for which there is room, and gives the one that takes it back.
-pub(crate) fn make(entries: &mut Vec<Entry>, change: Change) -> Change
+pub(crate) fn make(entries: &mut Vec<Entry>, change: EntryChange) -> EntryChange
     requires fits { Fits change entries.old.items }
     requires room { max_entries ≤ vec_capacity entries.old }
     ensures changed { entries.new.items ≡ entries_after_change change entries.old.items }
@@ -29,13 +29,13 @@ pub(crate) fn make(entries: &mut Vec<Entry>, change: Change) -> Change
     ensures room { max_entries ≤ vec_capacity entries.new }
 {
     match change {
-        Change::Put(place, entry) => {
+        EntryChange::Put(place, entry) => {
             let _ = entries.insert(place, entry);
-            Change::Take(place)
+            EntryChange::Take(place)
         }
-        Change::Take(place) => Change::Put(place, entries.remove(place)),
-        Change::Swap(place, entry) => {
-            Change::Swap(place, mem::replace(&mut entries[place], entry))
+        EntryChange::Take(place) => EntryChange::Put(place, entries.remove(place)),
+        EntryChange::Swap(place, entry) => {
+            EntryChange::Swap(place, mem::replace(&mut entries[place], entry))
         }
     }
 }

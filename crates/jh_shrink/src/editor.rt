@@ -10,7 +10,7 @@ ghost use Rattle.jh_shrink.specs.Edits.{edit_state_after_undo, state_before_edit
 ghost use Rattle.jh_shrink.specs.Edits.{MayEdit, MayInsert, RefusesEdit, RefusesInsert};
 ghost use Rattle.jh_shrink.specs.ChangesInside.{entries_after_change, Fits};
 
-use crate::changes::{Change, make};
+use crate::changes::{EntryChange, make};
 use jh_simnode::{Entry, MAX_ENTRIES, Schedule};
 use std::alloc::{AllocError, Global};
 use std::marker::Model;
@@ -85,8 +85,8 @@ pub struct NothingToRedo;
 #[derive(Debug, Drop)]
 pub struct Editor {
     entries: Vec<Entry>,
-    past: Vec<Change>,
-    future: Vec<Change>,
+    past: Vec<EntryChange>,
+    future: Vec<EntryChange>,
 }
 
 impl Model for Editor {
@@ -174,7 +174,7 @@ impl Editor {
     }
 
     /// Makes a change. All memory is taken first, that of its undo and redo too.
-    fn edit(&mut self, change: Change) -> Result<(), AllocError>
+    fn edit(&mut self, change: EntryChange) -> Result<(), AllocError>
         requires { Fits change self.old.now }
         ensures edited { OnOk result
             (self.new ≡ state_after_edit self.old (entries_after_change change self.old.now)) }
@@ -203,7 +203,7 @@ impl Editor {
             (λ e. (self.new ≡ self.old) × RefusesEdit self.old place e) }
     {
         self.check(place)?;
-        self.edit(Change::Take(place))?;
+        self.edit(EntryChange::Take(place))?;
         Ok(())
     }
 
@@ -219,7 +219,7 @@ impl Editor {
             (λ e. (self.new ≡ self.old) × RefusesInsert self.old place e) }
     {
         self.check_insert(place)?;
-        self.edit(Change::Put(place, entry))?;
+        self.edit(EntryChange::Put(place, entry))?;
         Ok(())
     }
 
@@ -234,7 +234,7 @@ impl Editor {
             (λ e. (self.new ≡ self.old) × RefusesEdit self.old place e) }
     {
         self.check(place)?;
-        self.edit(Change::Swap(place, entry))?;
+        self.edit(EntryChange::Swap(place, entry))?;
         Ok(())
     }
 
