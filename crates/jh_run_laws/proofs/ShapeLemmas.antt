@@ -16,7 +16,7 @@ use Rattle.jh_simnode.specs.declared.replicas.Contents.{Contents}
 use Rattle.jh_simnode.specs.declared.replicas.Contents.TheVariants.{One, Many}
 use Rattle.jh_simnode.specs.declared.replicas.Got.{Got}
 use Rattle.jh_simnode.specs.declared.replicas.Replica.{Replica}
-use Rattle.jh_simnode.specs.declared.replicas.Mark.TheVariants.{Version, Stamp}
+use Rattle.jh_simnode.specs.declared.replicas.Recency.TheVariants.{Version, Stamp}
 use Rattle.jh_simnode.specs.declared.replicas.Reply.TheVariants as reply_of
 use Rattle.jh_simnode.specs.declared.settings.Settings.{Settings}
 use Rattle.jh_simnode.specs.declared.settings.Store.{Store}
@@ -108,7 +108,7 @@ all_places n = below_from n (node_places n) (places_below n)
 
 newer_below : (n : ℕ) (replicas : List Replica) (best p : ℕ) → best < n → p < n → newer_place replicas best p < n
 newer_below n replicas best p b h =
-    elim (nat_lt (version (replica_at replicas best).mark) (version (replica_at replicas p).mark)) as (λ t. (if t then p else best) < n) [ true ↦ h | false ↦ b ]
+    elim (nat_lt (version (replica_at replicas best).recency) (version (replica_at replicas p).recency)) as (λ t. (if t then p else best) < n) [ true ↦ h | false ↦ b ]
 
 fold_below : (n : ℕ) (replicas : List Replica) (best : ℕ) (ps : List ℕ) → best < n → Below n ps → fold (newer_place replicas) best ps < n
 fold_below n replicas best [] b h = b
@@ -156,7 +156,7 @@ local_shaped : (w : Workload) (c : ℕ) (all : List Replica) (node : ℕ) (reque
 local_shaped w c all node request contents fits t =
     elim (effect request contents) as (λ o. IfSome o (λ e. IsShaped w e.after × GotFits w request e.got) → IsServed w c request (local_change all node o)) [
       | None ↦ λ h. (t, tt)
-      | Some e ↦ λ h. (set_shaped w c all node (record { mark = (replica_at all node).mark; contents = e.after }) t h.0, h.1)
+      | Some e ↦ λ h. (set_shaped w c all node (record { recency = (replica_at all node).recency; contents = e.after }) t h.0, h.1)
     ] fits
 
 lww_shaped : (w : Workload) (c : ℕ) (all : List Replica) (at : ℤ) (node : ℕ) (these : List ℕ) (request : Request) (contents : Contents) → IfSome (effect request contents) (λ e. IsShaped w e.after × GotFits w request e.got)
@@ -164,7 +164,7 @@ lww_shaped : (w : Workload) (c : ℕ) (all : List Replica) (at : ℤ) (node : �
 lww_shaped w c all at node these request contents fits t =
     elim (effect request contents) as (λ o. IfSome o (λ e. IsShaped w e.after × GotFits w request e.got) → IsServed w c request (lww_change all (Stamp at node) these o)) [
       | None ↦ λ h. (t, tt)
-      | Some e ↦ λ h. (give_shaped w c (record { mark = Stamp at node; contents = e.after }) all (older_places all (Stamp at node) these) h.0 t, h.1)
+      | Some e ↦ λ h. (give_shaped w c (record { recency = Stamp at node; contents = e.after }) all (older_places all (Stamp at node) these) h.0 t, h.1)
     ] fits
 
 changed_shaped : (w : Workload) (c : ℕ) (all : List Replica) (best : ℕ) (these : List ℕ) (k : ℕ) (request : Request) (contents : Contents) → IfSome (effect request contents) (λ e. IsShaped w e.after × GotFits w request e.got)
@@ -173,7 +173,7 @@ changed_shaped w c all best these k request contents fits t =
     elim (effect request contents) as (λ o. IfSome o (λ e. IsShaped w e.after × GotFits w request e.got) → IsServed w c request (quorum_change all best these k o)) [
       | None ↦ λ h. (t, tt)
       | Some e ↦ λ h. (
-        give_shaped w c (record { mark = Version (version_at all best + 1); contents = e.after }) all these h.0 t,
+        give_shaped w c (record { recency = Version (version_at all best + 1); contents = e.after }) all these h.0 t,
         either (ReplyFits w request) (nat_lt k (quorum (length all))) reply_of.Info (reply_of.Ok e.got) (λ _. tt) (λ _. h.1),
       )
     ] fits

@@ -17,7 +17,7 @@ use Rattle.jh_gen.specs.declared.answers.GenAnswer.TheVariants as answer
 use Rattle.jh_gen.specs.declared.answers.GenError.{GenError}
 use Rattle.jh_gen.specs.declared.answers.GenError.TheVariants.{NoSuchThread, BusyThread, TooManyOps, NothingOpen}
 use Rattle.jh_simnode.specs.declared.events.Event.{Event}
-use Rattle.jh_simnode.specs.declared.turns.Asked.TheVariants as asked
+use Rattle.jh_simnode.specs.declared.turns.Assignment.TheVariants as assignment
 use Rattle.jh_simnode.specs.declared.turns.Run.{Run}
 use Rattle.jh_simnode.specs.Counts.{answered_count, is_call, process_after}
 use Rattle.jh_simnode.specs.Plans.{PlanValue}
@@ -75,15 +75,15 @@ module _ (p : PlanValue) (r : Turns) (journal : List Event) (run : Run) (t rando
       ap (λ b. cond b Ends (move_offered (offer (run_generator p) r.tally (all_threads p.clients) (turn_question p r journal)))) (spent_is false unspent) ∙ ap move_offered (offer_is o h)
 
   pub asks_done : (d' : DriverState) → Answers (run_generator p) r.tally run.driver (thread.Client t) random_number answer.Done d'
-      → Asks p r journal asked.Ends (record run { driver = d'; random_numbers = random_numbers; asks = run.asks + 1; has_ended = true })
+      → Asks p r journal assignment.Ends (record run { driver = d'; random_numbers = random_numbers; asks = run.asks + 1; has_ended = true })
   asks_done d' h = (ap (λ b. cond b Ends (move_offered (offer (run_generator p) r.tally (all_threads p.clients) (turn_question p r journal)))) (spent_is true h.0), ends_on p r journal run d' random_numbers i.keeps (random_numbers_are run.random_numbers random_numbers random_number next))
 
   pub asks_step : (d' : DriverState) (x : Process) (entry : ℕ) → Answers (run_generator p) r.tally run.driver (thread.Client t) random_number (answer.Call x (call.Step entry)) d'
-      → Asks p r journal asked.Ends (record run { driver = d'; random_numbers = random_numbers; asks = run.asks + 1; has_ended = true })
+      → Asks p r journal assignment.Ends (record run { driver = d'; random_numbers = random_numbers; asks = run.asks + 1; has_ended = true })
   asks_step d' x entry h = (goes_by (Some (h.2, call.Step entry)) h.0 h.3, ends_on p r journal run d' random_numbers i.keeps (random_numbers_are run.random_numbers random_numbers random_number next))
 
   pub asks_pending : (d' : DriverState) → Answers (run_generator p) r.tally run.driver (thread.Client t) random_number answer.Pending d'
-      → Asks p r journal asked.Waits (record run { driver = d'; random_numbers = random_numbers; asks = run.asks + 1; waits = run.waits + 1 })
+      → Asks p r journal assignment.Waits (record run { driver = d'; random_numbers = random_numbers; asks = run.asks + 1; waits = run.waits + 1 })
   asks_pending d' h = (
     goes_by None h.0 h.1,
     subst (λ (d : DriverState). Keeps p (turns_after_wait r) journal (record run { driver = d; random_numbers = random_numbers; asks = run.asks + 1; waits = run.waits + 1 })) (sym h.2)
@@ -92,7 +92,7 @@ module _ (p : PlanValue) (r : Turns) (journal : List Event) (run : Run) (t rando
 
   pub asks_call : (d' : DriverState) (x : Process) (request : Request) → t < p.clients
       → Answers (run_generator p) r.tally run.driver (thread.Client t) random_number (answer.Call x (call.Client request)) d'
-      → Asks p r journal (asked.Calls (process_number x) request) (record run { driver = d'; random_numbers = random_numbers; asks = run.asks + 1 })
+      → Asks p r journal (assignment.Calls (process_number x) request) (record run { driver = d'; random_numbers = random_numbers; asks = run.asks + 1 })
   asks_call d' x request below h =
       let d = i.keeps.driver i.going in
       let path : Path = h.2 in

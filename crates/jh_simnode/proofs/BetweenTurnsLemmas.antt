@@ -14,7 +14,7 @@ use Rattle.jh_nemesis.specs.declared.steps.StepAnswer.{StepAnswer}
 use Rattle.jh_simnode.specs.declared.replicas.Reply.{Reply}
 use Rattle.jh_simnode.specs.declared.events.Event.{Event}
 use Rattle.jh_simnode.specs.declared.schedule.Entry.{Entry}
-use Rattle.jh_simnode.specs.declared.turns.Asked.TheVariants as asked
+use Rattle.jh_simnode.specs.declared.turns.Assignment.TheVariants as assignment
 use Rattle.jh_simnode.specs.declared.turns.Run.{Run}
 use Rattle.jh_simnode.specs.Counts.{applied_count, is_step, last_event, process_after, calls_by}
 use Rattle.jh_simnode.specs.Events.{WorldValue, AddsEvent, IsLegal}
@@ -141,14 +141,14 @@ called_on p run w w' t process request node draw number reply driver random_numb
 
 -- after an ask that got nothing, and after the end
 pub waited_stands : (p : PlanValue) (run run' : Run) (w : WorldValue) (s : NothingDue p run w) → s.stands.turns.has_ended ≡ false → s.stands.turns.waits < p.clients
-    → Asks p s.stands.turns w.journal asked.Waits run' → BetweenTurns p run' w
+    → Asks p s.stands.turns w.journal assignment.Waits run' → BetweenTurns p run' w
 waited_stands p run run' w s going patient h =
     let r = s.stands.turns in
     let move = ask_next p r w.journal s.stands.quiet s.settled going (lt-leb p.clients r.waits patient) ∙ h.0 in
     record { turns = turns_after_wait r; led = goes p r (turns_after_wait r) w.journal w.journal Waits move s.stands.led (refl, refl); keeps = h.1; setup = s.stands.setup; quiet = s.stands.quiet }
 
 pub ended_stands : (p : PlanValue) (run run' : Run) (w : WorldValue) (s : NothingDue p run w) → s.stands.turns.has_ended ≡ false → s.stands.turns.waits < p.clients
-    → Asks p s.stands.turns w.journal asked.Ends run' → BetweenTurns p run' w
+    → Asks p s.stands.turns w.journal assignment.Ends run' → BetweenTurns p run' w
 ended_stands p run run' w s going patient h =
     let r = s.stands.turns in
     let move = ask_next p r w.journal s.stands.quiet s.settled going (lt-leb p.clients r.waits patient) ∙ h.0 in

@@ -44,7 +44,7 @@ replica_from count replicas sources p source h within is =
 abbrev takes : Cells → ℕ → ℕ → List Replica → ℕ → ℕ → Bool
 takes env from to replicas source target =
     ((is_node_running (env.node from) && is_node_running (env.node to)) && is_uncut (env.link from to))
-    && is_lower (replica_at replicas target).mark (replica_at replicas source).mark
+    && is_lower (replica_at replicas target).recency (replica_at replicas source).recency
 
 send_is : (env : Cells) (from to count : ℕ) (replicas : List Replica) (sources : List ℕ) (source target : ℕ) → AreSources count sources → from < count → to < count
     → source ≡ get_or sources from source → target ≡ get_or sources to target
@@ -57,7 +57,7 @@ send_is env from to count replicas sources source target h a b s t =
 pub send_takes : (env : Cells) (from to count : ℕ) (replicas : List Replica) (sources : List ℕ) (source target : ℕ) → AreSources count sources → from < count → to < count
     → source ≡ get_or sources from source → target ≡ get_or sources to target
     → ((is_node_running (env.node from) && is_node_running (env.node to)) && is_uncut (env.link from to)) ≡ true
-    → is_lower (replica_at replicas target).mark (replica_at replicas source).mark ≡ true
+    → is_lower (replica_at replicas target).recency (replica_at replicas source).recency ≡ true
     → replicas_from replicas (set sources to source) ≡ replicas_after_sending env from (replicas_from replicas sources) to
 send_takes env from to count replicas sources source target h a b s t uncut lower =
     let e : takes env from to replicas source target ≡ true = rw (uncut, lower) refl in

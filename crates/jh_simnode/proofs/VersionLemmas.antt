@@ -8,7 +8,7 @@ use Rattle.jh_env.specs.Cells.{Life}
 use Rattle.jh_env.specs.Cells.{Running, Paused, Killed}
 use Rattle.jh_env.specs.Cells.{NodeCell}
 use Rattle.jh_simnode.specs.declared.replicas.Replica.{Replica}
-use Rattle.jh_simnode.specs.declared.replicas.Mark.TheVariants.{Version, Stamp}
+use Rattle.jh_simnode.specs.declared.replicas.Recency.TheVariants.{Version, Stamp}
 use Rattle.jh_simnode.specs.declared.settings.Settings.{Settings}
 use Rattle.jh_simnode.specs.declared.settings.Store.{Store}
 use Rattle.jh_simnode.specs.declared.settings.Store.TheVariants.{Quorum, Lww, Local}
@@ -17,7 +17,7 @@ use Rattle.jh_ops.specs.Requests.{is_request_of}
 use Rattle.jh_simnode.specs.Requests.{is_read_request}
 use Rattle.jh_simnode.specs.Replicas.{blank_replica, replica_at, version, first_replica}
 use Rattle.jh_simnode.specs.Effects.{effect}
-use Rattle.jh_simnode.specs.declared.effects.Change.{Change}
+use Rattle.jh_simnode.specs.declared.effects.RequestEffect.{RequestEffect}
 use Rattle.jh_env.specs.Names.{node_places}
 use Rattle.jh_simnode.specs.Reach.{Cells, reached_nodes, responding_nodes}
 use Rattle.jh_simnode.specs.Stores.{ReplyAndReplicas, reply_to, reply_at, reply_in, running_reply, local_change, lww_change, quorum_change, newest_place, version_at, replicas_with_new, replicas_with_new_at, older_places, replicas_after_tick, replicas_after_sending, replicas_after_sending_all, replicas_after_kills, replicas_after_kill}
@@ -33,7 +33,7 @@ either : {A : Type 0} (P : A → Type 0) (b : Bool) (x y : A) → P x → P y �
 either P true x y p q = p
 either P false x y p q = q
 
-version_set : (n : ℕ) (all : List Replica) (p : ℕ) (new : Replica) (q : ℕ) → ((place : ℕ) → version_at all place ≤ n) → version new.mark ≤ n → version_at (set all p new) q ≤ n
+version_set : (n : ℕ) (all : List Replica) (p : ℕ) (new : Replica) (q : ℕ) → ((place : ℕ) → version_at all place ≤ n) → version new.recency ≤ n → version_at (set all p new) q ≤ n
 version_set n all p new q low h = elim (cases_lt p (length all)) as (λ s. version_at (set all p new) q ≤ n) [
   | inl within ↦ elim (cases_eq q p) as (λ s. version_at (set all p new) q ≤ n) [
     | inl same ↦ rw (same, get_or-set_same all p new blank_replica within) h
@@ -42,28 +42,28 @@ version_set n all p new q low h = elim (cases_lt p (length all)) as (λ s. versi
   | inr past ↦ rw (set_past all p new past) (low q)
 ]
 
-pub set_tidy : (c n : ℕ) (all : List Replica) (p : ℕ) (new : Replica) → AreTidy c n all → version new.mark ≤ n → AreTidy c n (set all p new)
+pub set_tidy : (c n : ℕ) (all : List Replica) (p : ℕ) (new : Replica) → AreTidy c n all → version new.recency ≤ n → AreTidy c n (set all p new)
 set_tidy c n all p new t h = record { sized = length-set all p new ∙ t.sized; low = λ q. version_set n all p new q t.low h }
 
 pub later_tidy : (c n : ℕ) (all : List Replica) → AreTidy c n all → AreTidy c (n + 1) all
 later_tidy c n all t = record { sized = t.sized; low = λ q. let h = t.low q in omega arith }
 
-give_tidy : (c n : ℕ) (new : Replica) (all : List Replica) (these : List ℕ) → version new.mark ≤ n → AreTidy c n all → AreTidy c n (replicas_with_new_at new all these)
+give_tidy : (c n : ℕ) (new : Replica) (all : List Replica) (these : List ℕ) → version new.recency ≤ n → AreTidy c n all → AreTidy c n (replicas_with_new_at new all these)
 give_tidy c n new all these h t = fold_keeps (AreTidy c n) (replicas_with_new new) (λ a p k. set_tidy c n a p new k h) all these t
 
-local_tidy : (c n : ℕ) (all : List Replica) (node : ℕ) (e : Option Change) → AreTidy c n all → AreTidy c (n + 1) (local_change all node e).replicas
+local_tidy : (c n : ℕ) (all : List Replica) (node : ℕ) (e : Option RequestEffect) → AreTidy c n all → AreTidy c (n + 1) (local_change all node e).replicas
 local_tidy c n all node None t = later_tidy c n all t
-local_tidy c n all node (Some e) t = later_tidy c n _ (set_tidy c n all node (record { mark = (replica_at all node).mark; contents = e.after }) t (t.low node))
+local_tidy c n all node (Some e) t = later_tidy c n _ (set_tidy c n all node (record { recency = (replica_at all node).recency; contents = e.after }) t (t.low node))
 
-lww_tidy : (c n : ℕ) (all : List Replica) (at : ℤ) (node : ℕ) (these : List ℕ) (e : Option Change) → AreTidy c n all → AreTidy c (n + 1) (lww_change all (Stamp at node) these e).replicas
+lww_tidy : (c n : ℕ) (all : List Replica) (at : ℤ) (node : ℕ) (these : List ℕ) (e : Option RequestEffect) → AreTidy c n all → AreTidy c (n + 1) (lww_change all (Stamp at node) these e).replicas
 lww_tidy c n all at node these None t = later_tidy c n all t
-lww_tidy c n all at node these (Some e) t = later_tidy c n _ (give_tidy c n (record { mark = Stamp at node; contents = e.after }) all (older_places all (Stamp at node) these) (omega arith) t)
+lww_tidy c n all at node these (Some e) t = later_tidy c n _ (give_tidy c n (record { recency = Stamp at node; contents = e.after }) all (older_places all (Stamp at node) these) (omega arith) t)
 
-changed_tidy : (c n : ℕ) (all : List Replica) (best : ℕ) (these : List ℕ) (k : ℕ) (e : Option Change) → AreTidy c n all → AreTidy c (n + 1) (quorum_change all best these k e).replicas
+changed_tidy : (c n : ℕ) (all : List Replica) (best : ℕ) (these : List ℕ) (k : ℕ) (e : Option RequestEffect) → AreTidy c n all → AreTidy c (n + 1) (quorum_change all best these k e).replicas
 changed_tidy c n all best these k None t = later_tidy c n all t
 changed_tidy c n all best these k (Some e) t =
     let h = t.low best in
-    give_tidy c (n + 1) (record { mark = Version (version (replica_at all best).mark + 1); contents = e.after }) all these (omega arith) (later_tidy c n all t)
+    give_tidy c (n + 1) (record { recency = Version (version (replica_at all best).recency + 1); contents = e.after }) all these (omega arith) (later_tidy c n all t)
 
 running_tidy : (store : Store) (env : Cells) (c n : ℕ) (all : List Replica) (clock : ℤ) (node : ℕ) (r : Request) (draw : ℕ) → AreTidy c n all
     → AreTidy c (n + 1) (running_reply store env all clock (record { number = n; node = node; request = r; draw = draw })).replicas

@@ -8,7 +8,7 @@ use Rattle.jh_ops.specs.declared.call.Request.TheVariants.{Read, Write, Cas, Add
 use Rattle.jh_simnode.specs.declared.replicas.Contents.{Contents}
 use Rattle.jh_simnode.specs.declared.replicas.Contents.TheVariants.{One, Many}
 use Rattle.jh_simnode.specs.declared.replicas.Got.{Got}
-use Rattle.jh_simnode.specs.declared.effects.Change.{Change}
+use Rattle.jh_simnode.specs.declared.effects.RequestEffect.{RequestEffect}
 use Rattle.jh_simnode.specs.Replicas.{got_of}
 
 -- a number of 64 bits with a sign
@@ -23,28 +23,28 @@ numbers_with v (x ∷ xs) =
     if int_lt v x then v ∷ x ∷ xs else (if int_eq v x then x ∷ xs else x ∷ numbers_with v xs)
 
 -- these contents are held now, and nothing was got
-abbrev pub written_change : Contents → Option Change
+abbrev pub written_change : Contents → Option RequestEffect
 written_change c = Some (record { got = Got.Nothing; after = c })
 
 -- what a compare-and-set of these two numbers makes of a register
-abbrev pub cas_change : ℤ → ℤ → Option ℤ → Option Change
+abbrev pub cas_change : ℤ → ℤ → Option ℤ → Option RequestEffect
 cas_change a b None = None
 cas_change a b (Some x) = if int_eq x a then written_change (One (Some b)) else None
 
 -- what an addition makes of a counter
-abbrev pub add_change : ℤ → Option ℤ → Option Change
+abbrev pub add_change : ℤ → Option ℤ → Option RequestEffect
 add_change v None = None
 add_change v (Some x) = if is_small (x +ℤ v) then written_change (One (Some (x +ℤ v))) else None
 
 -- a new id is the number that is held; the next is held after it
-abbrev pub generate_change : Option ℤ → Option Change
+abbrev pub generate_change : Option ℤ → Option RequestEffect
 generate_change None = None
 generate_change (Some x) =
     if is_small (x +ℤ pos 1)
     then Some (record { got = Got.One (Some x); after = One (Some (x +ℤ pos 1)) }) else None
 
 -- what a request makes of contents, where it doesn't fail; no store runs transactions
-abbrev pub effect : Request → Contents → Option Change
+abbrev pub effect : Request → Contents → Option RequestEffect
 effect Read c = Some (record { got = got_of c; after = c })
 effect (Write v) c = written_change (One (Some v))
 effect (Cas a b) (One x) = cas_change a b x

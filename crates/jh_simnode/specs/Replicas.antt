@@ -1,4 +1,4 @@
--- What a node keeps of the database: a mark that says how new it is, and the contents (this
+-- What a node keeps of the database: how new it is, its recency, and the contents (this
 -- project's own).
 use Rattle.std.specs.Prelude.{ℕ, ℤ, pos, ◌&&◌, ◌||◌, Bool, true, false, List, [], Option, Some}
 use Rattle.std.specs.Prelude.{None, nat_lt, int_lt, slice_index_or}
@@ -9,8 +9,8 @@ use Rattle.jh_simnode.specs.declared.settings.Settings.{Settings}
 use Rattle.jh_simnode.specs.declared.replicas.Contents.{Contents}
 use Rattle.jh_simnode.specs.declared.replicas.Contents.TheVariants.{One, Many}
 use Rattle.jh_simnode.specs.declared.replicas.Got.{Got}
-use Rattle.jh_simnode.specs.declared.replicas.Mark.{Mark}
-use Rattle.jh_simnode.specs.declared.replicas.Mark.TheVariants.{First, Version, Stamp}
+use Rattle.jh_simnode.specs.declared.replicas.Recency.{Recency}
+use Rattle.jh_simnode.specs.declared.replicas.Recency.TheVariants.{First, Version, Stamp}
 use Rattle.jh_simnode.specs.declared.replicas.Replica.{Replica}
 
 -- what a replica holds at first
@@ -26,21 +26,21 @@ first_contents s = contents_of s.workload s.initial
 
 -- each replica at first
 abbrev pub first_replica : Settings → Replica
-first_replica s = record { mark = First; contents = first_contents s }
+first_replica s = record { recency = First; contents = first_contents s }
 
 -- what a read of the contents gets
 abbrev pub got_of : Contents → Got
 got_of (One x) = Got.One x
 got_of (Many xs) = Got.Many xs
 
--- the version of a mark; at first 0
-abbrev pub version : Mark → ℕ
+-- the version that a recency has; at first 0
+abbrev pub version : Recency → ℕ
 version First = 0
 version (Version v) = v
 version (Stamp at place) = 0
 
 -- the lower of two stamps; no stamp is below each stamp
-abbrev pub is_lower : Mark → Mark → Bool
+abbrev pub is_lower : Recency → Recency → Bool
 is_lower First First = false
 is_lower First (Version v) = false
 is_lower First (Stamp at place) = true
@@ -52,7 +52,7 @@ is_lower (Stamp at place) (Stamp at' place') =
 
 -- what stands for the replica of a place that isn't there
 abbrev pub blank_replica : Replica
-blank_replica = record { mark = First; contents = One None }
+blank_replica = record { recency = First; contents = One None }
 
 -- the replica of the node at a place
 abbrev pub replica_at : List Replica → ℕ → Replica

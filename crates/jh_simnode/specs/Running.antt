@@ -25,8 +25,8 @@ use Rattle.jh_simnode.specs.declared.replicas.Reply.{Reply}
 use Rattle.jh_simnode.specs.declared.replicas.Reply.TheVariants.{Ok, Fail, Info}
 use Rattle.jh_simnode.specs.declared.events.Event.{Event}
 use Rattle.jh_simnode.specs.declared.schedule.Entry.{Entry}
-use Rattle.jh_simnode.specs.declared.turns.Asked.{Asked}
-use Rattle.jh_simnode.specs.declared.turns.Asked.TheVariants as asked
+use Rattle.jh_simnode.specs.declared.turns.Assignment.{Assignment}
+use Rattle.jh_simnode.specs.declared.turns.Assignment.TheVariants as assignment
 use Rattle.jh_simnode.specs.declared.turns.Run.{Run}
 use Rattle.jh_simnode.specs.Counts.{answered_count, applied_count, calls_by, process_after}
 use Rattle.jh_simnode.specs.Counts.{last_event}
@@ -119,13 +119,13 @@ pub record AwaitsReply (p : PlanValue) (r : Turns) (journal : List Event) (path 
   pub ended : run.has_ended ≡ r.has_ended
 
 -- what comes of asking
-abbrev pub Asks : PlanValue → Turns → List Event → Asked → Run → Type 0
-Asks p r journal (asked.Calls process request) run =
+abbrev pub Asks : PlanValue → Turns → List Event → Assignment → Run → Type 0
+Asks p r journal (assignment.Calls process request) run =
     (path : Path) × (ask_move p r journal ≡ Calls path request)
     × (process ≡ process_after p.clients (thread_of p r) journal) × AwaitsReply p r journal path run
-Asks p r journal asked.Waits run =
+Asks p r journal assignment.Waits run =
     (ask_move p r journal ≡ Waits) × Keeps p (turns_after_wait r) journal run
-Asks p r journal asked.Ends run =
+Asks p r journal assignment.Ends run =
     (ask_move p r journal ≡ Ends) × Keeps p (turns_after_end r) journal run
 
 -- a thread has a call to make

@@ -12,8 +12,8 @@ use Rattle.jh_ops.specs.declared.call.Request.{Request}
 use Rattle.jh_simnode.specs.declared.settings.Settings.{Settings}
 use Rattle.jh_simnode.specs.declared.settings.Store.{Store}
 use Rattle.jh_simnode.specs.declared.settings.Store.TheVariants.{Quorum, Lww, Local}
-use Rattle.jh_simnode.specs.declared.replicas.Mark.{Mark}
-use Rattle.jh_simnode.specs.declared.replicas.Mark.TheVariants.{Version, Stamp}
+use Rattle.jh_simnode.specs.declared.replicas.Recency.{Recency}
+use Rattle.jh_simnode.specs.declared.replicas.Recency.TheVariants.{Version, Stamp}
 use Rattle.jh_simnode.specs.declared.replicas.Replica.{Replica}
 use Rattle.jh_simnode.specs.declared.replicas.Reply.{Reply}
 use Rattle.jh_simnode.specs.declared.replicas.Reply.TheVariants.{Ok, Fail, Info}
@@ -21,7 +21,7 @@ use Rattle.jh_ops.specs.Requests.{is_request_of}
 use Rattle.jh_simnode.specs.Requests.{only_asks, is_read_request}
 use Rattle.jh_simnode.specs.Replicas.{version, is_lower, replica_at, got_of, first_replica}
 use Rattle.jh_simnode.specs.Effects.{effect}
-use Rattle.jh_simnode.specs.declared.effects.Change.{Change}
+use Rattle.jh_simnode.specs.declared.effects.RequestEffect.{RequestEffect}
 use Rattle.jh_simnode.specs.Reach.{Cells, is_node_running, is_node_killed}
 use Rattle.jh_simnode.specs.Reach.{reached_nodes, responding_nodes}
 
@@ -41,7 +41,8 @@ quorum count = count / 2 + 1
 -- the place of the greatest version among these places, of equals the first, after the best so far
 abbrev pub newer_place : List Replica → ℕ → ℕ → ℕ
 newer_place replicas best place =
-    if nat_lt (version (replica_at replicas best).mark) (version (replica_at replicas place).mark)
+    if nat_lt (version (replica_at replicas best).recency)
+    (version (replica_at replicas place).recency)
     then place else best
 
 -- of these places the one of the greatest version
@@ -51,7 +52,7 @@ newest_place replicas (p ∷ ps) = fold (newer_place replicas) p ps
 
 -- the version of the node at a place
 abbrev pub version_at : List Replica → ℕ → ℕ
-version_at replicas place = version (replica_at replicas place).mark
+version_at replicas place = version (replica_at replicas place).recency
 
 -- each of these nodes has the new replica
 abbrev pub replicas_with_new : Replica → List Replica → ℕ → List Replica
@@ -61,38 +62,39 @@ abbrev pub replicas_with_new_at : Replica → List Replica → List ℕ → List
 replicas_with_new_at new replicas these = fold (replicas_with_new new) replicas these
 
 -- those of these nodes whose own stamp is lower
-abbrev pub older_places : List Replica → Mark → List ℕ → List ℕ
-older_places replicas stamp these = filter (λ p. is_lower (replica_at replicas p).mark stamp) these
+abbrev pub older_places : List Replica → Recency → List ℕ → List ℕ
+older_places replicas stamp these =
+    filter (λ p. is_lower (replica_at replicas p).recency stamp) these
 
 -- what a change of a node's own replica comes to
-abbrev pub local_change : List Replica → ℕ → Option Change → ReplyAndReplicas
+abbrev pub local_change : List Replica → ℕ → Option RequestEffect → ReplyAndReplicas
 local_change replicas node None = reply_alone replicas Fail
 local_change replicas node (Some e) = record {
   reply = Ok e.got;
   replicas =
       slice_set replicas node
-      (record { mark = (replica_at replicas node).mark; contents = e.after });
+      (record { recency = (replica_at replicas node).recency; contents = e.after });
 }
 
 -- a change with this stamp, which goes to those of the nodes reached whose own stamp is lower
-abbrev pub lww_change : List Replica → Mark → List ℕ → Option Change → ReplyAndReplicas
+abbrev pub lww_change : List Replica → Recency → List ℕ → Option RequestEffect → ReplyAndReplicas
 lww_change replicas stamp reached None = reply_alone replicas Fail
 lww_change replicas stamp reached (Some e) =
     record {
       reply = Ok e.got;
       replicas =
-          replicas_with_new_at (record { mark = stamp; contents = e.after }) replicas
+          replicas_with_new_at (record { recency = stamp; contents = e.after }) replicas
           (older_places replicas stamp reached);
     }
 
 -- a change at a majority, of which so many nodes respond
-abbrev pub quorum_change : List Replica → ℕ → List ℕ → ℕ → Option Change → ReplyAndReplicas
+abbrev pub quorum_change : List Replica → ℕ → List ℕ → ℕ → Option RequestEffect → ReplyAndReplicas
 quorum_change replicas best reached answering None = reply_alone replicas Fail
 quorum_change replicas best reached answering (Some e) = record {
   reply = if nat_lt answering (quorum (length replicas)) then Info else Ok e.got;
   replicas =
       replicas_with_new_at
-      (record { mark = Version (version_at replicas best + 1); contents = e.after }) replicas
+      (record { recency = Version (version_at replicas best + 1); contents = e.after }) replicas
       reached;
 }
 
@@ -178,7 +180,7 @@ abbrev pub replicas_after_sending : Cells → ℕ → List Replica → ℕ → L
 replicas_after_sending env from replicas to =
     if ((is_node_running (env.node from) && is_node_running (env.node to))
     && is_uncut (env.link from to))
-    && is_lower (replica_at replicas to).mark (replica_at replicas from).mark
+    && is_lower (replica_at replicas to).recency (replica_at replicas from).recency
     then slice_set replicas to (replica_at replicas from) else replicas
 
 -- one node sends to each in turn

@@ -12,7 +12,7 @@ use std::alloc::{AllocError, Global};
 
 /// What a request got, and the contents after it.
 #[derive(Drop)]
-pub(crate) struct Change {
+pub(crate) struct RequestEffect {
     pub(crate) got: Got,
     pub(crate) after: Contents,
 }
@@ -46,17 +46,17 @@ fn put_in(alloc: Global, numbers: &Numbers, value: i64) -> Result<Numbers, Alloc
 }
 
 /// A change that got nothing.
-fn wrote(after: Contents) -> Option<Change>
+fn wrote(after: Contents) -> Option<RequestEffect>
     ensures { result ≡ written_change after }
 {
-    Some(Change {
+    Some(RequestEffect {
         got: Got::Nothing,
         after,
     })
 }
 
 /// What a compare-and-set makes of a register.
-fn cas(from: i64, to: i64, value: Option<i64>) -> Option<Change>
+fn cas(from: i64, to: i64, value: Option<i64>) -> Option<RequestEffect>
     ensures { result ≡ cas_change from to value }
 {
     match value {
@@ -72,7 +72,7 @@ fn cas(from: i64, to: i64, value: Option<i64>) -> Option<Change>
 }
 
 /// What an addition makes of a counter.
-fn add(amount: i64, value: Option<i64>) -> Option<Change>
+fn add(amount: i64, value: Option<i64>) -> Option<RequestEffect>
     ensures { result ≡ add_change amount value }
 {
     match value {
@@ -85,12 +85,12 @@ fn add(amount: i64, value: Option<i64>) -> Option<Change>
 }
 
 /// What the next number makes of the numbers that are left.
-fn generate(value: Option<i64>) -> Option<Change>
+fn generate(value: Option<i64>) -> Option<RequestEffect>
     ensures { result ≡ generate_change value }
 {
     match value {
         Some(current) => match current.checked_add(1) {
-            Some(next) => Some(Change {
+            Some(next) => Some(RequestEffect {
                 got: Got::One(Some(current)),
                 after: Contents::One(Some(next)),
             }),
@@ -105,11 +105,11 @@ pub(crate) fn effect(
     alloc: Global,
     request: Request,
     contents: &Contents,
-) -> Result<Option<Change>, AllocError>
+) -> Result<Option<RequestEffect>, AllocError>
     ensures { IfOk result (λ given. given ≡ effect request contents.now) }
 {
     match (request, contents) {
-        (Request::Read, _) => Ok(Some(Change {
+        (Request::Read, _) => Ok(Some(RequestEffect {
             got: contents.got(alloc)?,
             after: contents.copy(alloc)?,
         })),

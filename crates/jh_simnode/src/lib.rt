@@ -27,7 +27,7 @@ pub use history::{
 pub use laws::{limits, world_laws};
 pub use plan::{MAX_ROWS, Plan, PlanData, PlanError};
 pub use replay::nemesis_after;
-pub use replicas::{Contents, Got, Mark, Numbers, Replica, Reply};
+pub use replicas::{Contents, Got, Numbers, Recency, Replica, Reply};
 pub use schedule::{Entry, MAX_ENTRIES, Schedule, TooLong};
 pub use serial::{RunError, one_run, run_serial, world_of};
 pub use settings::{Settings, Store};

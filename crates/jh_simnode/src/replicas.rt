@@ -53,7 +53,7 @@ pub enum Reply {
 
 /// How new a replica is.
 #[derive(Clone, Copy, Debug, PartialEq, Eq)]
-pub enum Mark {
+pub enum Recency {
     /// As at first.
     First,
     /// The number of changes, in a store of quorums.
@@ -66,7 +66,7 @@ pub enum Mark {
 /// A node's replica of the store.
 #[derive(Debug, Drop)]
 pub struct Replica {
-    pub mark: Mark,
+    pub recency: Recency,
     pub contents: Contents,
 }
 
@@ -171,24 +171,24 @@ impl Reply {
     }
 }
 
-impl Mark {
+impl Recency {
     /// The version; at first 0.
     pub(crate) fn version(self) -> u64
         ensures { result ≡ version self }
     {
         match self {
-            Mark::Version(version) => version,
+            Recency::Version(version) => version,
             _ => 0,
         }
     }
 
     /// Whether it is the lower of two stamps; no stamp is below each.
-    pub(crate) fn is_lower(self, other: Mark) -> bool
+    pub(crate) fn is_lower(self, other: Recency) -> bool
         ensures { result ≡ is_lower self other }
     {
         match (self, other) {
-            (Mark::First, Mark::Stamp(_, _)) => true,
-            (Mark::Stamp(at, place), Mark::Stamp(other_at, other_place)) => {
+            (Recency::First, Recency::Stamp(_, _)) => true,
+            (Recency::Stamp(at, place), Recency::Stamp(other_at, other_place)) => {
                 at < other_at || at == other_at && place < other_place
             }
             _ => false,
@@ -202,7 +202,7 @@ impl Replica {
         ensures { result ≡ first_replica settings.now }
     {
         Replica {
-            mark: Mark::First,
+            recency: Recency::First,
             contents: Contents::first(alloc, settings),
         }
     }
@@ -212,7 +212,7 @@ impl Replica {
         ensures { IfOk result (λ copy. copy ≡ self.now) }
     {
         Ok(Replica {
-            mark: self.mark,
+            recency: self.recency,
             contents: self.contents.copy(alloc)?,
         })
     }

@@ -19,7 +19,7 @@ use crate::effects::effect;
 use crate::reach::{
     SomeNodes, is_node_killed, is_node_running, is_open, reached_nodes, responding_nodes,
 };
-use crate::replicas::{Mark, Replica, Reply};
+use crate::replicas::{Recency, Replica, Reply};
 use crate::requests::{is_read_request, only_asks};
 use crate::settings::{Settings, Store};
 use arrayvec::ArrayVec;
@@ -98,10 +98,10 @@ fn is_older(replicas: &[Replica], node: Node, other: Node) -> bool
     requires node { node < length replicas.now }
     requires other { other < length replicas.now }
     ensures { result
-        ≡ is_lower (replica_at replicas.now node).mark (replica_at replicas.now other).mark }
+        ≡ is_lower (replica_at replicas.now node).recency (replica_at replicas.now other).recency }
 {
-    let mark = replicas[other.place() as usize].mark;
-    replicas[node.place() as usize].mark.is_lower(mark)
+    let recency = replicas[other.place() as usize].recency;
+    replicas[node.place() as usize].recency.is_lower(recency)
 }
 
 /// One node sends another what it has: the other takes it where its own stamp is lower.
@@ -227,7 +227,7 @@ fn give_all(
 }
 
 /// Those of these nodes whose own stamp is lower.
-fn older(replicas: &[Replica], stamp: Mark, these: &[Node]) -> SomeNodes
+fn older(replicas: &[Replica], stamp: Recency, these: &[Node]) -> SomeNodes
     requires known { All (λ p. p < length replicas.now) these.now }
     requires few { length these.now ≤ 64 }
     ensures nodes { result.items ≡ older_places replicas.now stamp these.now }
@@ -235,7 +235,7 @@ fn older(replicas: &[Replica], stamp: Mark, these: &[Node]) -> SomeNodes
 {
     let mut those = SomeNodes::new();
     for node in these {
-        if replicas[node.place() as usize].mark.is_lower(stamp) {
+        if replicas[node.place() as usize].recency.is_lower(stamp) {
             those.push(*node);
         }
     }
@@ -249,8 +249,8 @@ fn newer(replicas: &[Replica], best: Node, node: Node) -> Node
     ensures value { result ≡ newer_place replicas.now best node }
     ensures known { result < length replicas.now }
 {
-    let version = replicas[node.place() as usize].mark.version();
-    if replicas[best.place() as usize].mark.version() < version {
+    let version = replicas[node.place() as usize].recency.version();
+    if replicas[best.place() as usize].recency.version() < version {
         node
     } else {
         best
@@ -304,7 +304,7 @@ fn serve_local(
     match effect(alloc, request, &replicas[place].contents)? {
         Some(change) => {
             let replica = Replica {
-                mark: replicas[place].mark,
+                recency: replicas[place].recency,
                 contents: change.after,
             };
             let mut taken = Vec::new(alloc);
@@ -349,10 +349,10 @@ fn serve_lww(
     match effect(alloc, request, &replicas[place].contents)? {
         Some(change) => {
             let new = Replica {
-                mark: Mark::Stamp(at, node.place()),
+                recency: Recency::Stamp(at, node.place()),
                 contents: change.after,
             };
-            let these = older(replicas, new.mark, &reached_nodes(env, draw, node));
+            let these = older(replicas, new.recency, &reached_nodes(env, draw, node));
             let taken = give_all(alloc, replicas, &new, &these)?;
             Ok(ReplyAndTaken {
                 reply: Reply::Ok(change.got),
@@ -405,7 +405,7 @@ fn quorum_write(
     match effect(alloc, request, &replicas[best].contents)? {
         Some(change) => {
             let new = Replica {
-                mark: Mark::Version(replicas[best].mark.version() + 1),
+                recency: Recency::Version(replicas[best].recency.version() + 1),
                 contents: change.after,
             };
             let taken = give_all(alloc, replicas, &new, reached)?;

@@ -40,7 +40,7 @@ pub(crate) struct Run {
 
 /// What a thread is asked to do.
 #[derive(Clone, Copy)]
-enum Asked {
+enum Assignment {
     /// To make a request, as an operation of this process.
     Calls(u64, Request),
     Waits,
@@ -165,7 +165,7 @@ impl Run {
     }
 
     /// Asks for the call of the thread whose turn it is.
-    fn ask(&mut self, plan: &Plan, thread: u32) -> Asked
+    fn ask(&mut self, plan: &Plan, thread: u32) -> Assignment
         requires { running.HasRoomToAsk self.old thread }
         ensures { (r : Turns) (journal : List Event)
             → running.IsAsking plan.now r journal self.old thread
@@ -175,19 +175,19 @@ impl Run {
         self.asks += 1;
         match self.driver.ask(Thread::Client(thread), random_number) {
             Ok(GenAnswer::Call(process, Call::Client(request))) => {
-                Asked::Calls(number_of(process), request)
+                Assignment::Calls(number_of(process), request)
             }
             Ok(GenAnswer::Call(_, Call::Step(_))) => {
                 self.has_ended = true;
-                Asked::Ends
+                Assignment::Ends
             }
             Ok(GenAnswer::Pending) => {
                 self.waits += 1;
-                Asked::Waits
+                Assignment::Waits
             }
             Ok(GenAnswer::Done) => {
                 self.has_ended = true;
-                Asked::Ends
+                Assignment::Ends
             }
             Err(_) => unreachable!(),
         }
@@ -251,12 +251,12 @@ impl Run {
         let _events = world.journal().len();
         let thread = self.next_thread(plan);
         match self.ask(plan, thread) {
-            Asked::Calls(process, request) => {
+            Assignment::Calls(process, request) => {
                 self.call(plan, world, thread, process, request)?;
                 self.tick_if_due(plan, world, thread)
             }
-            Asked::Waits => Ok(()),
-            Asked::Ends => Ok(()),
+            Assignment::Waits => Ok(()),
+            Assignment::Ends => Ok(()),
         }
     }
 }

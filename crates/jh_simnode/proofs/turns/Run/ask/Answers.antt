@@ -2,7 +2,7 @@ use Rattle.std.proofs.Common.{◌+◌, ◌<◌, ap, ◌∙◌, sym, subst, arith
 use Rattle.jh_gen.specs.DriverState.{Answers}
 use Rattle.jh_gen.specs.declared.answers.Thread.TheVariants as thread
 use Rattle.jh_gen.specs.declared.answers.GenAnswer.TheVariants as answer
-use Rattle.jh_simnode.specs.declared.turns.Asked.TheVariants as asked
+use Rattle.jh_simnode.specs.declared.turns.Assignment.TheVariants as assignment
 use Rattle.jh_simnode.specs.Running.{Asks}
 use Rattle.jh_simnode.specs.Runs.{run_generator}
 use Rattle.jh_simnode.proofs.AskLemmas.{asks_call, asks_step, asks_pending, asks_done}
@@ -16,7 +16,7 @@ returns-in-Ok-Call-default-Client c r journal i =
     let below : c.args.thread < p.clients = (let known = c.requires.free.0 in let same = d.clients in omega (arith, known, same)) in
     let given = c.in-Ok-Call-default-Client.ensures.answered (run_generator p) r.tally d.stands in
     let call = c.in-Ok-Call-default-Client.field-0-is ∙ ap (answer.Call c.in-Ok-Call-default-Client.process) c.in-Ok-Call-default-Client.field-0-1-is in
-    subst (λ n. Asks p r journal (asked.Calls n c.in-Ok-Call-default-Client.request) (record run { driver = c.ask.new.self; random_numbers = c.next_word-random_number.new.self; asks = run.asks + 1 })) (sym c.number_of.ensures)
+    subst (λ n. Asks p r journal (assignment.Calls n c.in-Ok-Call-default-Client.request) (record run { driver = c.ask.new.self; random_numbers = c.next_word-random_number.new.self; asks = run.asks + 1 })) (sym c.number_of.ensures)
     (asks_call p r journal run c.args.thread c.next_word-random_number.result c.next_word-random_number.new.self i c.next_word-random_number.ensures c.ask.new.self c.in-Ok-Call-default-Client.process c.in-Ok-Call-default-Client.request below
     (subst (λ a. Answers (run_generator p) r.tally run.driver (thread.Client c.args.thread) c.next_word-random_number.result a c.ask.new.self) call given))
 

@@ -1,6 +1,6 @@
 use Rattle.std.proofs.Common.{◌≡◌, ◌+◌, ◌<◌, ◌%◌, false, ap, sym, ◌∙◌, subst, arith}
 use Rattle.jh_simnode.specs.Running.{Asks, IsAsking}
-use Rattle.jh_simnode.specs.declared.turns.Asked.TheVariants as asked
+use Rattle.jh_simnode.specs.declared.turns.Assignment.TheVariants as assignment
 use Rattle.jh_simnode.proofs.AskLemmas.{may_ask}
 use Rattle.jh_simnode.proofs.BetweenTurnsLemmas.{waited_stands, ended_stands, falls_waiting, falls_ending}
 use Rattle.jh_simnode.proofs.turns.Run.take_turn.Goals as goal
@@ -37,7 +37,7 @@ call-requires c =
     let going : r.has_ended ≡ false = sym k.ended ∙ c.requires.going in
     let turn = c.next_thread-thread.ensures.turn ∙ ap (λ n. n % p.clients) k.asks in
     let asking : IsAsking p r w.journal c.args.self.now c.next_thread-thread.result = record { keeps = k; going = going; turn = turn; within = c.journal-events.ensures.few } in
-    let given : Asks p r w.journal (asked.Calls c.in-Calls.process c.in-Calls.request) c.ask.new.self =
+    let given : Asks p r w.journal (assignment.Calls c.in-Calls.process c.in-Calls.request) c.ask.new.self =
     subst (λ a. Asks p r w.journal a c.ask.new.self) c.in-Calls.is (c.ask.ensures r w.journal asking) in
     record {
       turns = r;
@@ -70,7 +70,7 @@ returns-in-Waits c =
     let patient : r.waits < p.clients = (let few = c.requires.patient in let same = k.waits in omega (arith, few, same)) in
     let asking : IsAsking p r w.journal c.args.self.now c.next_thread-thread.result =
     record { keeps = k; going = going; turn = c.next_thread-thread.ensures.turn ∙ ap (λ n. n % p.clients) k.asks; within = c.journal-events.ensures.few } in
-    let given : Asks p r w.journal asked.Waits c.ask.new.self = subst (λ a. Asks p r w.journal a c.ask.new.self) c.in-Waits.is (c.ask.ensures r w.journal asking) in
+    let given : Asks p r w.journal assignment.Waits c.ask.new.self = subst (λ a. Asks p r w.journal a c.ask.new.self) c.in-Waits.is (c.ask.ensures r w.journal asking) in
     let after = given.1 in
     record {
       stands = waited_stands p c.args.self.now c.ask.new.self w s going patient given;
@@ -90,7 +90,7 @@ returns-in-Ends c =
     let patient : r.waits < p.clients = (let few = c.requires.patient in let same = k.waits in omega (arith, few, same)) in
     let asking : IsAsking p r w.journal c.args.self.now c.next_thread-thread.result =
     record { keeps = k; going = going; turn = c.next_thread-thread.ensures.turn ∙ ap (λ n. n % p.clients) k.asks; within = c.journal-events.ensures.few } in
-    let given : Asks p r w.journal asked.Ends c.ask.new.self = subst (λ a. Asks p r w.journal a c.ask.new.self) c.in-Ends.is (c.ask.ensures r w.journal asking) in
+    let given : Asks p r w.journal assignment.Ends c.ask.new.self = subst (λ a. Asks p r w.journal a c.ask.new.self) c.in-Ends.is (c.ask.ensures r w.journal asking) in
     let after = given.1 in
     record {
       stands = ended_stands p c.args.self.now c.ask.new.self w s going patient given;
