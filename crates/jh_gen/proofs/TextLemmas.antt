@@ -10,7 +10,7 @@ use Rattle.jh_gen.specs.declared.generator.Gen.{Gen}
 use Rattle.jh_gen.specs.GeneratorText as rule
 use Rattle.jh_gen.specs.GeneratorText.{parsed_generator, operands_of, ◌>>=◌}
 use Rattle.jh_gen.specs.ShapeInside.{AreMembersSoFar, AreSharesSoFar, joined_members, joined_shares, parsed_members, operand_of, operands_in, parsed_reserve, shape_size}
-use Rattle.jh_gen.specs.declared.text.Shape.{Shape}
+use Rattle.jh_gen.specs.declared.text.GeneratorShape.{GeneratorShape}
 use Rattle.jh_gen.proofs.BuildLemmas.{drop_here}
 
 pub no_part-some : (xs : List Value) → 1 ≤ length xs → None ≡ rule.generator_of_none (operands_in (views xs))
@@ -64,7 +64,7 @@ no_elements (list ys) e = absurd cc
 no_elements (vector ys) e = absurd cc
 no_elements _ e = refl
 
-pub smaller_within : (o : Option Shape) (n m : ℕ) → IfSome o (λ s. shape_size s ≤ n) → n < m → IfSome o (λ s. shape_size s < m)
+pub smaller_within : (o : Option GeneratorShape) (n m : ℕ) → IfSome o (λ s. shape_size s ≤ n) → n < m → IfSome o (λ s. shape_size s < m)
 smaller_within None n m h lt = h
 smaller_within (Some s) n m h lt = omega (arith, h, lt)
 

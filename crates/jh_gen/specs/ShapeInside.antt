@@ -9,7 +9,7 @@ use Rattle.jh_gen.specs.GeneratorText.{Operand, members, reserve_operands, opera
 use Rattle.jh_gen.specs.GeneratorText.{parsed_generator}
 use Rattle.jh_gen.specs.declared.text.GenTextError.{GenTextError}
 use Rattle.jh_gen.specs.declared.text.GenTextError.TheVariants.{BadGenerator, OutOfMemory}
-use Rattle.jh_gen.specs.declared.text.Shape.{Shape}
+use Rattle.jh_gen.specs.declared.text.GeneratorShape.{GeneratorShape}
 
 -- the part that a value is
 abbrev pub operand_of : Edn → Operand
@@ -26,40 +26,42 @@ abbrev pub parsed_reserve : List Edn → Option (ShareList × Generator)
 parsed_reserve xs = reserve_operands (operands_in xs)
 
 -- the generator of a form whose inner values are still to be read
-abbrev pub parsed_shape : Shape → Option Generator
-parsed_shape Shape.Nil = Some nothing
-parsed_shape (Shape.Once call) = Some (once call)
-parsed_shape (Shape.Rising r first) = Some (rising r first)
-parsed_shape (Shape.Forever call) = Some (forever call)
-parsed_shape (Shape.Seq parts) = option_map seq (parsed_members (views parts.now))
-parsed_shape (Shape.Limit number inner) =
+abbrev pub parsed_shape : GeneratorShape → Option Generator
+parsed_shape GeneratorShape.Nil = Some nothing
+parsed_shape (GeneratorShape.Once call) = Some (once call)
+parsed_shape (GeneratorShape.Rising r first) = Some (rising r first)
+parsed_shape (GeneratorShape.Forever call) = Some (forever call)
+parsed_shape (GeneratorShape.Seq parts) = option_map seq (parsed_members (views parts.now))
+parsed_shape (GeneratorShape.Limit number inner) =
     option_map (limit number) (parsed_generator (view inner.now))
-parsed_shape (Shape.Mix parts) = option_map mix (parsed_members (views parts.now))
-parsed_shape (Shape.Phases parts) = option_map phases (parsed_members (views parts.now))
-parsed_shape (Shape.Reserve parts) =
+parsed_shape (GeneratorShape.Mix parts) = option_map mix (parsed_members (views parts.now))
+parsed_shape (GeneratorShape.Phases parts) = option_map phases (parsed_members (views parts.now))
+parsed_shape (GeneratorShape.Reserve parts) =
     option_map (λ r. reserve r.0 r.1) (parsed_reserve (views parts.now))
-parsed_shape (Shape.EachThread inner) = option_map each_thread (parsed_generator (view inner.now))
-parsed_shape (Shape.Clients inner) = option_map clients (parsed_generator (view inner.now))
-parsed_shape (Shape.NemesisOnly inner) = option_map nemesis_only (parsed_generator (view inner.now))
+parsed_shape (GeneratorShape.EachThread inner) =
+    option_map each_thread (parsed_generator (view inner.now))
+parsed_shape (GeneratorShape.Clients inner) = option_map clients (parsed_generator (view inner.now))
+parsed_shape (GeneratorShape.NemesisOnly inner) =
+    option_map nemesis_only (parsed_generator (view inner.now))
 
-abbrev pub generator_of_shape : Option Shape → Option Generator
+abbrev pub generator_of_shape : Option GeneratorShape → Option Generator
 generator_of_shape None = None
 generator_of_shape (Some shape) = parsed_shape shape
 
 -- how large its inner values are, by which a reading ends
-abbrev pub shape_size : Shape → ℕ
-shape_size Shape.Nil = 0
-shape_size (Shape.Once call) = 0
-shape_size (Shape.Rising r first) = 0
-shape_size (Shape.Forever call) = 0
-shape_size (Shape.Seq parts) = size_list (views parts.now)
-shape_size (Shape.Limit number inner) = size_of (view inner.now)
-shape_size (Shape.Mix parts) = size_list (views parts.now)
-shape_size (Shape.Phases parts) = size_list (views parts.now)
-shape_size (Shape.Reserve parts) = size_list (views parts.now)
-shape_size (Shape.EachThread inner) = size_of (view inner.now)
-shape_size (Shape.Clients inner) = size_of (view inner.now)
-shape_size (Shape.NemesisOnly inner) = size_of (view inner.now)
+abbrev pub shape_size : GeneratorShape → ℕ
+shape_size GeneratorShape.Nil = 0
+shape_size (GeneratorShape.Once call) = 0
+shape_size (GeneratorShape.Rising r first) = 0
+shape_size (GeneratorShape.Forever call) = 0
+shape_size (GeneratorShape.Seq parts) = size_list (views parts.now)
+shape_size (GeneratorShape.Limit number inner) = size_of (view inner.now)
+shape_size (GeneratorShape.Mix parts) = size_list (views parts.now)
+shape_size (GeneratorShape.Phases parts) = size_list (views parts.now)
+shape_size (GeneratorShape.Reserve parts) = size_list (views parts.now)
+shape_size (GeneratorShape.EachThread inner) = size_of (view inner.now)
+shape_size (GeneratorShape.Clients inner) = size_of (view inner.now)
+shape_size (GeneratorShape.NemesisOnly inner) = size_of (view inner.now)
 
 -- Why a reading ends early: there is nothing to be parsed, unless memory was refused.
 abbrev pub EndsReading : {A : Type 0} → Option A → GenTextError → Type 0

@@ -15,7 +15,7 @@ ghost use Rattle.jh_gen.specs.DriverState.{driver_after_end, next_process, threa
 use crate::answers::{DriverError, Ended, GenAnswer, GenError, Thread};
 use crate::build::{build, fits};
 use crate::generator::Gen;
-use crate::node::{Asked, Node};
+use crate::node::{Node, Query};
 use jh_ops::Process;
 use std::alloc::{AllocError, Global};
 use std::marker::Model;
@@ -175,7 +175,7 @@ impl Driver {
         if self.root.is_done() {
             return Ok(GenAnswer::Done);
         }
-        let asked = Asked {
+        let asked = Query {
             asker: number,
             random_number,
             busy: self.busy.as_slice(),

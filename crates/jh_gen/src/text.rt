@@ -47,7 +47,7 @@ impl<T: Drop> From<AllocFailed<T>> for GenTextError {
 
 /// A generator's form, whose inner values are still to be read.
 #[derive(Clone, Copy, Debug)]
-pub(crate) enum Shape<'a> {
+pub(crate) enum GeneratorShape<'a> {
     Nil,
     Once(Call),
     Rising(Rise, i64),
@@ -157,49 +157,49 @@ fn number_in(value: &Value) -> Option<u32>
 }
 
 /// The form of `nil`, which has no parts behind its name.
-fn shape_of_none(parts: &[Value]) -> Option<Shape<'_>>
+fn shape_of_none(parts: &[Value]) -> Option<GeneratorShape<'_>>
     ensures parsed { generator_of_shape result
         ≡ rule.generator_of_none (operands_in (views parts.now)) }
     ensures smaller { IfSome result (λ shape. shape_size shape ≤ size_list (views parts.now)) }
 {
     match parts {
-        [] => Some(Shape::Nil),
+        [] => Some(GeneratorShape::Nil),
         _ => None,
     }
 }
 
 /// The form of a limit with these parts, a number and what is limited.
-fn limited(parts: &[Value]) -> Option<Shape<'_>>
+fn limited(parts: &[Value]) -> Option<GeneratorShape<'_>>
     ensures parsed { generator_of_shape result
         ≡ rule.limit_operands (operands_in (views parts.now)) }
     ensures smaller { IfSome result (λ shape. shape_size shape ≤ size_list (views parts.now)) }
 {
     match parts {
-        [number, inner] => Some(Shape::Limit(number_in(number)?, inner)),
+        [number, inner] => Some(GeneratorShape::Limit(number_in(number)?, inner)),
         _ => None,
     }
 }
 
 /// The form of this name with these parts.
-fn shape_by<'a>(name: &str, parts: &'a [Value]) -> Option<Shape<'a>>
+fn shape_by<'a>(name: &str, parts: &'a [Value]) -> Option<GeneratorShape<'a>>
     ensures parsed { generator_of_shape result
         ≡ generator_named name.now (operands_in (views parts.now)) }
     ensures smaller { IfSome result (λ shape. shape_size shape ≤ size_list (views parts.now)) }
 {
     match name {
         "nil" => shape_of_none(parts),
-        "once" => Some(Shape::Once(one_call(parts)?)),
-        "rising" => Some(Shape::Rising(Rise::Adds, one_integer(parts)?)),
-        "rising-write" => Some(Shape::Rising(Rise::Writes, one_integer(parts)?)),
-        "forever" => Some(Shape::Forever(one_call(parts)?)),
-        "seq" => Some(Shape::Seq(parts)),
+        "once" => Some(GeneratorShape::Once(one_call(parts)?)),
+        "rising" => Some(GeneratorShape::Rising(Rise::Adds, one_integer(parts)?)),
+        "rising-write" => Some(GeneratorShape::Rising(Rise::Writes, one_integer(parts)?)),
+        "forever" => Some(GeneratorShape::Forever(one_call(parts)?)),
+        "seq" => Some(GeneratorShape::Seq(parts)),
         "limit" => limited(parts),
-        "mix" => Some(Shape::Mix(parts)),
-        "phases" => Some(Shape::Phases(parts)),
-        "reserve" => Some(Shape::Reserve(parts)),
-        "each-thread" => Some(Shape::EachThread(only(parts)?)),
-        "clients" => Some(Shape::Clients(only(parts)?)),
-        "nemesis" => Some(Shape::NemesisOnly(only(parts)?)),
+        "mix" => Some(GeneratorShape::Mix(parts)),
+        "phases" => Some(GeneratorShape::Phases(parts)),
+        "reserve" => Some(GeneratorShape::Reserve(parts)),
+        "each-thread" => Some(GeneratorShape::EachThread(only(parts)?)),
+        "clients" => Some(GeneratorShape::Clients(only(parts)?)),
+        "nemesis" => Some(GeneratorShape::NemesisOnly(only(parts)?)),
         _ => None,
     }
 }
@@ -215,7 +215,7 @@ fn keyword_name(value: &Value) -> Option<&str>
 }
 
 /// The form of these parts, the first its name.
-fn shape_in(parts: &[Value]) -> Option<Shape<'_>>
+fn shape_in(parts: &[Value]) -> Option<GeneratorShape<'_>>
     ensures parsed { generator_of_shape result
         ≡ generator_of_operands (operands_in (views parts.now)) }
     ensures smaller { IfSome result (λ shape. shape_size shape ≤ size_list (views parts.now)) }
@@ -227,7 +227,7 @@ fn shape_in(parts: &[Value]) -> Option<Shape<'_>>
 }
 
 /// The form of a value, if it has one.
-fn shape_of(value: &Value) -> Option<Shape<'_>>
+fn shape_of(value: &Value) -> Option<GeneratorShape<'_>>
     ensures parsed { generator_of_shape result ≡ parsed_generator (view value.now) }
     ensures smaller { IfSome result (λ shape. shape_size shape < size_of (view value.now)) }
 {
@@ -243,18 +243,18 @@ fn is_generator(value: &Value) -> bool
         return false;
     };
     match shape {
-        Shape::Nil => true,
-        Shape::Once(_) => true,
-        Shape::Rising(_, _) => true,
-        Shape::Forever(_) => true,
-        Shape::Seq(parts) => are_generators(parts),
-        Shape::Limit(_, inner) => is_generator(inner),
-        Shape::Mix(parts) => are_generators(parts),
-        Shape::Phases(parts) => are_generators(parts),
-        Shape::Reserve(parts) => are_reserved(parts),
-        Shape::EachThread(inner) => is_generator(inner),
-        Shape::Clients(inner) => is_generator(inner),
-        Shape::NemesisOnly(inner) => is_generator(inner),
+        GeneratorShape::Nil => true,
+        GeneratorShape::Once(_) => true,
+        GeneratorShape::Rising(_, _) => true,
+        GeneratorShape::Forever(_) => true,
+        GeneratorShape::Seq(parts) => are_generators(parts),
+        GeneratorShape::Limit(_, inner) => is_generator(inner),
+        GeneratorShape::Mix(parts) => are_generators(parts),
+        GeneratorShape::Phases(parts) => are_generators(parts),
+        GeneratorShape::Reserve(parts) => are_reserved(parts),
+        GeneratorShape::EachThread(inner) => is_generator(inner),
+        GeneratorShape::Clients(inner) => is_generator(inner),
+        GeneratorShape::NemesisOnly(inner) => is_generator(inner),
     }
 }
 
@@ -300,18 +300,18 @@ fn gen_in(alloc: Global, value: &Value) -> Result<Gen, GenTextError>
         return Err(GenTextError::BadGenerator);
     };
     match shape {
-        Shape::Nil => Ok(Gen::Nil),
-        Shape::Once(call) => Ok(Gen::Once(call)),
-        Shape::Rising(rise, first) => Ok(Gen::Rising(rise, first)),
-        Shape::Forever(call) => Ok(Gen::Forever(call)),
-        Shape::Seq(parts) => Ok(Gen::Seq(members_in(alloc, parts)?)),
-        Shape::Limit(most, inner) => Ok(Gen::Limit(most, inner_in(alloc, inner)?)),
-        Shape::Mix(parts) => Ok(Gen::Mix(members_in(alloc, parts)?)),
-        Shape::Phases(parts) => Ok(Gen::Phases(members_in(alloc, parts)?)),
-        Shape::Reserve(parts) => reserve_in(alloc, parts),
-        Shape::EachThread(inner) => Ok(Gen::EachThread(inner_in(alloc, inner)?)),
-        Shape::Clients(inner) => Ok(Gen::Clients(inner_in(alloc, inner)?)),
-        Shape::NemesisOnly(inner) => Ok(Gen::NemesisOnly(inner_in(alloc, inner)?)),
+        GeneratorShape::Nil => Ok(Gen::Nil),
+        GeneratorShape::Once(call) => Ok(Gen::Once(call)),
+        GeneratorShape::Rising(rise, first) => Ok(Gen::Rising(rise, first)),
+        GeneratorShape::Forever(call) => Ok(Gen::Forever(call)),
+        GeneratorShape::Seq(parts) => Ok(Gen::Seq(members_in(alloc, parts)?)),
+        GeneratorShape::Limit(most, inner) => Ok(Gen::Limit(most, inner_in(alloc, inner)?)),
+        GeneratorShape::Mix(parts) => Ok(Gen::Mix(members_in(alloc, parts)?)),
+        GeneratorShape::Phases(parts) => Ok(Gen::Phases(members_in(alloc, parts)?)),
+        GeneratorShape::Reserve(parts) => reserve_in(alloc, parts),
+        GeneratorShape::EachThread(inner) => Ok(Gen::EachThread(inner_in(alloc, inner)?)),
+        GeneratorShape::Clients(inner) => Ok(Gen::Clients(inner_in(alloc, inner)?)),
+        GeneratorShape::NemesisOnly(inner) => Ok(Gen::NemesisOnly(inner_in(alloc, inner)?)),
     }
 }
 
