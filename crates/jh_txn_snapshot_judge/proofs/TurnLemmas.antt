@@ -25,7 +25,7 @@ use Rattle.jh_txn_seen.specs.Marks.{IsMarked}
 use Rattle.jh_txn_seen.proofs.KnownLemmas.{appends_below}
 use Rattle.jh_txn_snapshot_judge.specs.Judged.{HasUntoldPair}
 use Rattle.jh_txn_snapshot_judge.specs.TurnsInside.{AddsTurns, AreLastInTurn, AreUntoldMarks, HasTurn, IsAnyTurnStep, IsTurn, IsTurnAt, IsTurnBehind, IsTurnStep, KeepsTurns, TakesTurns, has_append_of, is_append_of, is_untold_writer, turn_of}
-use Rattle.jh_txn_snapshot_judge.specs.declared.turns.Turn.{Turn}
+use Rattle.jh_txn_snapshot_judge.specs.declared.turns.Succession.{Succession}
 use Rattle.jh_txn_snapshot_judge.proofs.StampLemmas.{stamped_as, stamped_one, stamped_then}
 use Rattle.jh_txn_snapshots.specs.Untold.{IsUntold}
 use Rattle.jh_txn_writers.specs.Numbers.{AreNumbersOf}
@@ -98,11 +98,11 @@ module _ (untold : List Bool) where
   one_marked k e marked key = ap (λ m. (eqb k key && m) || false) marked ∙ and_true (eqb k key)
 
 -- what a list of turns has past its end
-abbrev pub no_turn : Turn
+abbrev pub no_turn : Succession
 no_turn = record { first = 0; second = 0 }
 
 module _ (untold : List Bool) (place : ℕ) where
-  pub takes_one : (k e : ℕ) (last : List (Option ℕ)) (old new : List Turn) → k < length last → IsMarked untold e → AddsTurns (IsTurnBehind (slice_index_or last k None) place) old new → TakesTurns untold place (Append k e ∷ []) last (set last k (Some place)) old new
+  pub takes_one : (k e : ℕ) (last : List (Option ℕ)) (old new : List Succession) → k < length last → IsMarked untold e → AddsTurns (IsTurnBehind (slice_index_or last k None) place) old new → TakesTurns untold place (Append k e ∷ []) last (set last k (Some place)) old new
   takes_one k e last old new low marked added = record {
     count = length-set last k (Some place);
     noted = stamped_as (λ key. eqb k key) (λ key. has_append_of untold key (Append k e ∷ [])) place last (set last k (Some place)) (λ key. sym (one_marked untold k e marked key)) (stamped_one last k place low);
@@ -120,7 +120,7 @@ module _ (untold : List Bool) (place : ℕ) where
     );
   }
 
-  takes_then : (ops more : List MicroOp) (last mid now : List (Option ℕ)) (old between new : List Turn) → TakesTurns untold place ops last mid old between → TakesTurns untold place more mid now between new → TakesTurns untold place (ops ++ more) last now old new
+  takes_then : (ops more : List MicroOp) (last mid now : List (Option ℕ)) (old between new : List Succession) → TakesTurns untold place ops last mid old between → TakesTurns untold place more mid now between new → TakesTurns untold place (ops ++ more) last now old new
   takes_then ops more last mid now old between new a b = record {
     count = b.count ∙ a.count;
     noted = stamped_then (is_append_of untold) place ops more last mid now a.noted b.noted;
@@ -151,17 +151,17 @@ module _ (untold : List Bool) (place : ℕ) where
       ],
     );
   } where
-    Goal : Turn → Type 0
+    Goal : Succession → Type 0
     Goal turn = Contains old turn ⊎ IsTurnAt untold place (ops ++ more) last turn
 
-  pub takes_more : (ops : List MicroOp) (i : ℕ) (op : MicroOp) (last mid now : List (Option ℕ)) (old between new : List Turn) → i < length ops → op ≡ get_or ops i op → TakesTurns untold place (take i ops) last mid old between → TakesTurns untold place (op ∷ []) mid now between new → TakesTurns untold place (take (i + 1) ops) last now old new
+  pub takes_more : (ops : List MicroOp) (i : ℕ) (op : MicroOp) (last mid now : List (Option ℕ)) (old between new : List Succession) → i < length ops → op ≡ get_or ops i op → TakesTurns untold place (take i ops) last mid old between → TakesTurns untold place (op ∷ []) mid now between new → TakesTurns untold place (take (i + 1) ops) last now old new
   takes_more ops i op last mid now old between new low is a b = subst (λ os. TakesTurns untold place os last now old new) (sym (take_more ops i op low ∙ ap (λ o. take i ops ++ o ∷ []) (sym is))) (takes_then (take i ops) (op ∷ []) last mid now old between new a b)
 
 -- the step of the turn at an index
-abbrev pub TurnAt : ℕ → List Turn → ℕ → ℕ → Why → ℕ → Type 0
+abbrev pub TurnAt : ℕ → List Succession → ℕ → ℕ → Why → ℕ → Type 0
 TurnAt count turns index place why target = (index < length turns) × IsTurnStep count (get_or turns index no_turn) place why target
 
-pub turn_steps : (count : ℕ) (turns : List Turn) (i : ℕ) (old new : List (Vec Step Global)) → length turns ≤ i → AddsSteps (StepsBelow (TurnAt count turns) i) old new → AddsSteps (IsAnyTurnStep count turns) old new
+pub turn_steps : (count : ℕ) (turns : List Succession) (i : ℕ) (old new : List (Vec Step Global)) → length turns ≤ i → AddsSteps (StepsBelow (TurnAt count turns) i) old new → AddsSteps (IsAnyTurnStep count turns) old new
 turn_steps count turns i old new all = adds_if (StepsBelow (TurnAt count turns) i) (IsAnyTurnStep count turns) old new
     (λ p w t h. (get_or turns h.0 no_turn, (h.0, h.2.0, get_or_default turns h.0 (get_or turns h.0 no_turn) no_turn h.2.0), h.2.1))
     (λ p w t h.
@@ -170,11 +170,11 @@ turn_steps count turns i old new all = adds_if (StepsBelow (TurnAt count turns) 
 
 module _ (txns : List Txn) (untold : List Bool) where
   -- the turns are those of the first nodes, and the table has who is last in each
-  pub record AreTurnsOf (nodes : List ℕ) (last : List (Option ℕ)) (turns : List Turn) : Type 0 where
+  pub record AreTurnsOf (nodes : List ℕ) (last : List (Option ℕ)) (turns : List Succession) : Type 0 where
     pub ends : AreLastInTurn txns untold nodes last
-    pub these : (turn : Turn) → Contains turns turn ↔ IsTurn txns untold nodes turn
+    pub these : (turn : Succession) → Contains turns turn ↔ IsTurn txns untold nodes turn
 
-  module _ (nodes : List ℕ) (i : ℕ) (low : i < length nodes) (last now : List (Option ℕ)) (old new : List Turn) (a : AreTurnsOf (take i nodes) last old) (takes : TakesTurns untold (get_or nodes i 0) (ops_at txns (get_or nodes i 0)) last now old new) where
+  module _ (nodes : List ℕ) (i : ℕ) (low : i < length nodes) (last now : List (Option ℕ)) (old new : List Succession) (a : AreTurnsOf (take i nodes) last old) (takes : TakesTurns untold (get_or nodes i 0) (ops_at txns (get_or nodes i 0)) last now old new) where
     abbrev Node : ℕ
     Node = get_or nodes i 0
 
@@ -210,7 +210,7 @@ module _ (txns : List Txn) (untold : List Bool) where
       )
     ]
 
-    these_more : (turn : Turn) → Contains new turn ↔ IsTurn txns untold (take (i + 1) nodes) turn
+    these_more : (turn : Succession) → Contains new turn ↔ IsTurn txns untold (take (i + 1) nodes) turn
     these_more turn = (
       λ has. elim ((takes.turns turn).0 has) as (λ _. IsTurn txns untold (take (i + 1) nodes) turn) [
         | inl before ↦
@@ -234,7 +234,7 @@ module _ (txns : List Txn) (untold : List Bool) where
     turns_more = record { ends = ends_more; these = these_more }
 
   -- the writers of a turn
-  module _ (nodes : List ℕ) (turn : Turn) (is : IsTurn txns untold nodes turn) where
+  module _ (nodes : List ℕ) (turn : Succession) (is : IsTurn txns untold nodes turn) where
     before : ComesBefore (turn_of txns untold nodes is.1) turn.first turn.second
     before = neighbours_before (turn_of txns untold nodes is.1) turn.first turn.second is.2
 
@@ -247,15 +247,15 @@ module _ (txns : List Txn) (untold : List Bool) where
   pub writer_below : (key place : ℕ) → is_untold_writer txns untold key place ≡ true → place < length txns
   writer_below key place h = let r = append_in untold key (ops_at txns place) h in appends_below txns key r.0 place r.1
 
-  pub first_below : (nodes : List ℕ) (turn : Turn) → IsTurn txns untold nodes turn → turn.first < length txns
+  pub first_below : (nodes : List ℕ) (turn : Succession) → IsTurn txns untold nodes turn → turn.first < length txns
   first_below nodes turn is = writer_below is.1 turn.first (first_writer nodes turn is)
 
-  pub second_below : (nodes : List ℕ) (turn : Turn) → IsTurn txns untold nodes turn → turn.second < length txns
+  pub second_below : (nodes : List ℕ) (turn : Succession) → IsTurn txns untold nodes turn → turn.second < length txns
   second_below nodes turn is = writer_below is.1 turn.second (second_writer nodes turn is)
 
   -- all turns of an order, and what they ask of a graph
-  module _ (nodes : List ℕ) (turns : List Turn) (found : (turn : Turn) → Contains turns turn ↔ IsTurn txns untold nodes turn) where
-    pub turn_below : (turn : Turn) → Contains turns turn → (turn.first < length txns) × (turn.second < length txns)
+  module _ (nodes : List ℕ) (turns : List Succession) (found : (turn : Succession) → Contains turns turn ↔ IsTurn txns untold nodes turn) where
+    pub turn_below : (turn : Succession) → Contains turns turn → (turn.first < length txns) × (turn.second < length txns)
     turn_below turn has = let is = (found turn).0 has in (first_below nodes turn is, second_below nodes turn is)
 
     pub step_below : (place : ℕ) (why : Why) (target : ℕ) → IsAnyTurnStep (length txns) turns place why target → place < length txns + length txns
@@ -272,7 +272,7 @@ module _ (txns : List Txn) (untold : List Bool) where
 
     pub some_turn : 0 < length turns → HasTurn txns untold nodes
     some_turn some =
-        let turn : Turn = get_or turns 0 no_turn in
+        let turn : Succession = get_or turns 0 no_turn in
         (turn, (found turn).0 (0, some, get_or_default turns 0 turn no_turn some))
 
   -- neighbours in a turn are two

@@ -29,7 +29,7 @@ use Rattle.jh_txn_seen.specs.declared.done_reads.DoneRead.{DoneRead}
 use Rattle.jh_txn_seen.proofs.KnownLemmas.{are_longest, marked_of, must_below, must_of}
 use Rattle.jh_txn_snapshot_judge.specs.Nodes.{point_at, transaction_at}
 use Rattle.jh_txn_snapshot_judge.specs.TurnsInside.{AreUntoldMarks, IsTurn, KeepsTurns, is_untold_writer, turn_of}
-use Rattle.jh_txn_snapshot_judge.specs.declared.turns.Turn.{Turn}
+use Rattle.jh_txn_snapshot_judge.specs.declared.turns.Succession.{Succession}
 use Rattle.jh_txn_snapshot_judge.proofs.CycleLemmas.{arriving_of, leaving_of}
 use Rattle.jh_txn_snapshot_judge.proofs.NodeLemmas.{at_node, before_map, map_before, map_has}
 use Rattle.jh_txn_snapshot_judge.proofs.TurnLemmas.{first_writer, second_writer, turn_differs, untold_of, writer_if}
@@ -96,7 +96,7 @@ module _ (txns : List Txn) (elements : ℕ) (writers : List (Option Writer)) (re
       there = λ key place h. (all_points.there place).1 (must_writer key place (includes_filter (is_untold_writer txns untold key) order place h).1);
       next = λ key one other front back is.
           let neighbours : AreNeighbours (turn_of txns untold order key) one other = (front, back, is) in
-          let turn : Turn = record { first = one; second = other } in
+          let turn : Succession = record { first = one; second = other } in
           let is_turn : IsTurn txns untold order turn = (turn_differs txns untold order key one other first.distinct neighbours, key, neighbours) in
           earlier (Commit one) (Start other) (must_writer key one (first_writer txns untold order turn is_turn)) (must_writer key other (second_writer txns untold order turn is_turn)) (turns turn is_turn);
     }) where

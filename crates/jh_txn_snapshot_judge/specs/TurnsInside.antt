@@ -11,7 +11,7 @@ use Rattle.jh_txn.specs.declared.txn.Txn.{Txn}
 use Rattle.jh_txn.specs.Dependencies.{MustBeThere}
 use Rattle.jh_txn.specs.Transactions.{ComesBefore, ops_at}
 use Rattle.jh_txn_seen.specs.Marks.{IsMarked}
-use Rattle.jh_txn_snapshot_judge.specs.declared.turns.Turn.{Turn}
+use Rattle.jh_txn_snapshot_judge.specs.declared.turns.Succession.{Succession}
 use Rattle.jh_txn_snapshots.specs.Untold.{IsUntold}
 use Rattle.jh_txn_writers.specs.Writers.{AreNeighbours, EndsWith}
 
@@ -44,7 +44,7 @@ abbrev pub turn_of : List Txn → List Bool → List ℕ → ℕ → List ℕ
 turn_of txns untold nodes key = filter (is_untold_writer txns untold key) nodes
 
 -- two writers of which the second one has its turn just behind the first one
-abbrev pub IsTurn : List Txn → List Bool → List ℕ → Turn → Type 0
+abbrev pub IsTurn : List Txn → List Bool → List ℕ → Succession → Type 0
 IsTurn txns untold nodes turn =
     (turn.first ≢ turn.second)
     × (key : ℕ) × AreNeighbours (turn_of txns untold nodes key) turn.first turn.second
@@ -56,18 +56,18 @@ AreLastInTurn txns untold nodes last =
     ↔ EndsWith (turn_of txns untold nodes key) place
 
 -- the turns are old ones, or these
-abbrev pub AddsTurns : (Turn → Type 0) → List Turn → List Turn → Type 0
+abbrev pub AddsTurns : (Succession → Type 0) → List Succession → List Succession → Type 0
 AddsTurns turns old new =
-    (turn : Turn) → Contains new turn ↔ (Contains old turn ⊎ turns turn)
+    (turn : Succession) → Contains new turn ↔ (Contains old turn ⊎ turns turn)
 
 -- the second one is at a place, behind another one, if there is one
-abbrev pub IsTurnBehind : Option ℕ → ℕ → Turn → Type 0
+abbrev pub IsTurnBehind : Option ℕ → ℕ → Succession → Type 0
 IsTurnBehind first place turn =
     (turn.second ≡ place) × (turn.first ≢ place) × (first ≡ Some turn.first)
 
 -- it is behind the last one of a key to which some micro-operations append a marked element
 abbrev pub IsTurnAt
-    : List Bool → ℕ → List MicroOp → List (Option ℕ) → Turn → Type 0
+    : List Bool → ℕ → List MicroOp → List (Option ℕ) → Succession → Type 0
 IsTurnAt untold place ops last turn =
     (key : ℕ) × (has_append_of untold key ops ≡ true)
     × IsTurnBehind (slice_index_or last key None) place turn
@@ -75,28 +75,28 @@ IsTurnAt untold place ops last turn =
 -- The transaction at a place, with these micro-operations, has its turn in each key to which it
 -- appends a marked element: `last` and `old` become `now` and `new`.
 pub record TakesTurns (untold : List Bool) (place : ℕ) (ops : List MicroOp)
-    (last now : List (Option ℕ)) (old new : List Turn) : Type 0 where
+    (last now : List (Option ℕ)) (old new : List Succession) : Type 0 where
   pub count : length now ≡ length last
   pub noted : (key : ℕ) → slice_index_or now key None
       ≡ (if has_append_of untold key ops then Some place else slice_index_or last key None)
   pub turns : AddsTurns (IsTurnAt untold place ops last) old new
 
 -- from the commit of the first writer of a turn to the start of the second one
-abbrev pub IsTurnStep : ℕ → Turn → ℕ → Why → ℕ → Type 0
+abbrev pub IsTurnStep : ℕ → Succession → ℕ → Why → ℕ → Type 0
 IsTurnStep count turn place why target =
     (place ≡ count + turn.first) × (why ≡ RealTime) × (target ≡ turn.second)
 
 -- one of those steps
-abbrev pub IsAnyTurnStep : ℕ → List Turn → ℕ → Why → ℕ → Type 0
+abbrev pub IsAnyTurnStep : ℕ → List Succession → ℕ → Why → ℕ → Type 0
 IsAnyTurnStep count turns place why target =
-    (turn : Turn) × Contains turns turn × IsTurnStep count turn place why target
+    (turn : Succession) × Contains turns turn × IsTurnStep count turn place why target
 
 -- nodes keep the turns of an order: each writer commits before the next one starts
 abbrev pub KeepsTurns : List Txn → List Bool → List ℕ → List ℕ → Type 0
 KeepsTurns txns untold order nodes =
-    (turn : Turn) → IsTurn txns untold order turn
+    (turn : Succession) → IsTurn txns untold order turn
     → ComesBefore nodes (length txns + turn.first) turn.second
 
 -- there is a turn of two writers
 abbrev pub HasTurn : List Txn → List Bool → List ℕ → Type 0
-HasTurn txns untold nodes = (turn : Turn) × IsTurn txns untold nodes turn
+HasTurn txns untold nodes = (turn : Succession) × IsTurn txns untold nodes turn

@@ -10,7 +10,7 @@ ghost use Rattle.jh_txn_graph.specs.Graphs.{AreHubsUpwards, IsClosed, KeepsPaths
 ghost use Rattle.jh_txn_snapshot_judge.specs.TurnsInside.{AddsTurns, HasTurn, IsAnyTurnStep, IsTurn};
 ghost use Rattle.jh_txn_snapshot_judge.specs.TurnsInside.{IsTurnBehind, IsTurnStep, KeepsTurns};
 ghost use Rattle.jh_txn_snapshot_judge.specs.TurnsInside.{TakesTurns};
-ghost use Rattle.jh_txn_snapshot_judge.specs.declared.turns.Turn.{Turn};
+ghost use Rattle.jh_txn_snapshot_judge.specs.declared.turns.Succession.{Succession};
 
 use crate::places::ops_of;
 use jh_txn::{MicroOp, Step, Txn, Why};
@@ -20,7 +20,7 @@ use std::alloc::{AllocError, Global};
 
 /// Two untold writers of a key, of which the second one has its turn just behind the first one.
 #[derive(Clone, Copy, Debug)]
-struct Turn {
+struct Succession {
     first: usize,
     second: usize,
 }
@@ -64,9 +64,9 @@ fn turns_of(
     untold: &[bool],
     keys: usize,
     order: &[usize],
-) -> Result<Vec<Turn>, AllocError>
+) -> Result<Vec<Succession>, AllocError>
     requires { AreKeysBelow keys txns.now }
-    ensures { IfOk result (λ turns. (turn : Turn)
+    ensures { IfOk result (λ turns. (turn : Succession)
         → Contains turns.items turn ↔ IsTurn txns.now untold.now order.now turn) }
 {
     let mut turns = Vec::new(alloc);
@@ -77,7 +77,7 @@ fn turns_of(
 
 /// Adds the turns of all keys. The table is for the last writer of each key.
 fn take_all_turns(
-    turns: &mut Vec<Turn>,
+    turns: &mut Vec<Succession>,
     last: &mut [Option<usize>],
     txns: &[Txn],
     untold: &[bool],
@@ -86,7 +86,7 @@ fn take_all_turns(
     requires keys { AreKeysBelow (length last.old) txns.now }
     requires none { (key : ℕ) → slice_index_or last.old key None ≡ None }
     requires empty { turns.old.items ≡ [] }
-    ensures { OnOk result ((turn : Turn)
+    ensures { OnOk result ((turn : Succession)
         → Contains turns.new.items turn ↔ IsTurn txns.now untold.now order.now turn) }
 {
     for node in order {
@@ -97,7 +97,7 @@ fn take_all_turns(
 
 /// Adds the turns of the transaction at a place, which has these micro-operations.
 fn take_turns(
-    turns: &mut Vec<Turn>,
+    turns: &mut Vec<Succession>,
     last: &mut [Option<usize>],
     untold: &[bool],
     place: usize,
@@ -115,7 +115,7 @@ fn take_turns(
 
 /// Adds its turn in the key of a micro-operation, if that appends the element of an untold writer.
 fn take_turn_of(
-    turns: &mut Vec<Turn>,
+    turns: &mut Vec<Succession>,
     last: &mut [Option<usize>],
     untold: &[bool],
     place: usize,
@@ -139,7 +139,7 @@ fn take_turn_of(
 
 /// Adds its turn in a key, behind the last one there.
 fn take_turn(
-    turns: &mut Vec<Turn>,
+    turns: &mut Vec<Succession>,
     last: &mut [Option<usize>],
     key: usize,
     place: usize,
@@ -155,7 +155,11 @@ fn take_turn(
 }
 
 /// Adds a turn behind another writer, if there is one.
-fn add_turn(turns: &mut Vec<Turn>, first: Option<usize>, second: usize) -> Result<(), AllocError>
+fn add_turn(
+    turns: &mut Vec<Succession>,
+    first: Option<usize>,
+    second: usize,
+) -> Result<(), AllocError>
     ensures { OnOk result (AddsTurns (IsTurnBehind first second) turns.old.items turns.new.items) }
 {
     match first {
@@ -164,7 +168,7 @@ fn add_turn(turns: &mut Vec<Turn>, first: Option<usize>, second: usize) -> Resul
             if first == second {
                 Ok(())
             } else {
-                turns.push(Turn { first, second })?;
+                turns.push(Succession { first, second })?;
                 Ok(())
             }
         }
@@ -172,8 +176,12 @@ fn add_turn(turns: &mut Vec<Turn>, first: Option<usize>, second: usize) -> Resul
 }
 
 /// Adds the step of each turn, from the commit of the first writer to the start of the second one.
-fn add_turn_steps(graph: &mut [Vec<Step>], count: usize, turns: &[Turn]) -> Result<(), AllocError>
-    requires { (turn : Turn) → Contains turns.now turn
+fn add_turn_steps(
+    graph: &mut [Vec<Step>],
+    count: usize,
+    turns: &[Succession],
+) -> Result<(), AllocError>
+    requires { (turn : Succession) → Contains turns.now turn
         → (count + turn.first < length graph.old) × (turn.second < length graph.old) }
     ensures { OnOk result (AddsSteps (IsAnyTurnStep count turns.now) graph.old graph.new) }
 {
@@ -184,7 +192,7 @@ fn add_turn_steps(graph: &mut [Vec<Step>], count: usize, turns: &[Turn]) -> Resu
 }
 
 /// Adds the step of a turn.
-fn add_turn_step(graph: &mut [Vec<Step>], count: usize, turn: Turn) -> Result<(), AllocError>
+fn add_turn_step(graph: &mut [Vec<Step>], count: usize, turn: Succession) -> Result<(), AllocError>
     requires first { count + turn.first < length graph.old }
     requires second { turn.second < length graph.old }
     ensures { OnOk result (AddsSteps (IsTurnStep count turn) graph.old graph.new) }

@@ -3,7 +3,7 @@ use Rattle.std.specs.Prelude.{◌↔◌}
 use Rattle.std.specs.List.{Contains}
 use Rattle.std.proofs.lemmas.List.{take_all}
 use Rattle.jh_txn_snapshot_judge.specs.TurnsInside.{IsTurn, TakesTurns}
-use Rattle.jh_txn_snapshot_judge.specs.declared.turns.Turn.{Turn}
+use Rattle.jh_txn_snapshot_judge.specs.declared.turns.Succession.{Succession}
 use Rattle.jh_txn_snapshot_judge.proofs.TurnLemmas.{turns_more}
 use Rattle.jh_txn_snapshot_judge.proofs.turns.take_all_turns.Goals as goal
 
@@ -24,4 +24,4 @@ pub returns : goal.returns
 returns c =
     let order = c.args.order.now in
     let all : length order ≤ c.loop-node.node-index = omega arith in
-    subst (λ nodes. (turn : Turn) → Contains c.loop-node.turns.items turn ↔ IsTurn c.args.txns.now c.args.untold.now nodes turn) (take_all c.loop-node.node-index order all) c.loop-node.invariant.these
+    subst (λ nodes. (turn : Succession) → Contains c.loop-node.turns.items turn ↔ IsTurn c.args.txns.now c.args.untold.now nodes turn) (take_all c.loop-node.node-index order all) c.loop-node.invariant.these
