@@ -35,7 +35,7 @@ pub(crate) struct Choice {
 
 /// Which nodes of a graph are no hubs, and which steps between them are no dependencies.
 #[derive(Clone, Copy)]
-pub(crate) struct Shape {
+pub(crate) struct GraphShape {
     /// The nodes below this number are no hubs.
     pub count: usize,
     /// A step from a node to the one with a number higher by this is no dependency, and in cycles of each
@@ -63,7 +63,7 @@ pub(crate) fn choice_at(place: usize) -> Choice {
 
 /// Whether a step that leads to a node is in cycles of a kind. What leads to a hub is: what leads out of it
 /// decides.
-pub(crate) fn allows(choice: Choice, shape: Shape, step: &Step, node: usize) -> bool {
+pub(crate) fn allows(choice: Choice, shape: GraphShape, step: &Step, node: usize) -> bool {
     if node >= shape.count || is_joint(shape, step, node) {
         return true;
     }
@@ -77,7 +77,7 @@ pub(crate) fn allows(choice: Choice, shape: Shape, step: &Step, node: usize) -> 
 }
 
 /// Whether a step that leads to a node is no dependency.
-fn is_joint(shape: Shape, step: &Step, node: usize) -> bool {
+fn is_joint(shape: GraphShape, step: &Step, node: usize) -> bool {
     shape.joint > 0 && node >= shape.joint && node - shape.joint == step.place
 }
 

@@ -4,7 +4,7 @@ ghost use Rattle.std.specs.Prelude.{◌≡◌, ℕ, Some, slice_get, IfOk};
 ghost use Rattle.jh_txn.specs.declared.dependency.Step.{Step};
 ghost use Rattle.jh_txn_cycles.specs.Part.{HasOnly, IsPartOf};
 
-use crate::choice::{Choice, Shape, allows};
+use crate::choice::{Choice, GraphShape, allows};
 use jh_txn::Step;
 use std::alloc::{AllocError, Global};
 
@@ -12,7 +12,7 @@ use std::alloc::{AllocError, Global};
 pub(crate) fn part_of(
     alloc: Global,
     graph: &[Vec<Step>],
-    shape: Shape,
+    shape: GraphShape,
     choice: Choice,
 ) -> Result<Vec<Vec<Step>>, AllocError>
     ensures { IfOk result (λ part. IsPartOf graph.now part.items) }
@@ -28,7 +28,7 @@ pub(crate) fn part_of(
 fn steps_of(
     alloc: Global,
     row: &[Step],
-    shape: Shape,
+    shape: GraphShape,
     choice: Choice,
     node: usize,
 ) -> Result<Vec<Step>, AllocError>

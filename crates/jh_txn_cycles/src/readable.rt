@@ -4,7 +4,7 @@ ghost use Rattle.std.specs.Prelude.{◌≡◌, ◌⊎◌, ◌≤◌, length, IfO
 ghost use Rattle.jh_txn_graph.specs.Graphs.{AreHubsUpwards, IsClosed, IsCycleOfPaths};
 ghost use Rattle.jh_txn_graph.specs.Graphs.{IsOrderOrCycle};
 
-use crate::choice::{AntiDependencies, Choice, KINDS, Shape, choice_at};
+use crate::choice::{AntiDependencies, Choice, GraphShape, KINDS, choice_at};
 use crate::part::part_of;
 use crate::search::cycle_through;
 use jh_txn::Step;
@@ -40,7 +40,7 @@ pub fn order_or_short_cycle(
     match order_or_cycle(alloc, graph, count)? {
         OrderOrCycle::Order(order) => Ok(OrderOrCycle::Order(order)),
         OrderOrCycle::Cycle(known) => {
-            let shape = Shape { count, joint };
+            let shape = GraphShape { count, joint };
             let shown = short_cycle(alloc, graph, shape, known)?;
             Ok(OrderOrCycle::Cycle(shown))
         }
@@ -51,7 +51,7 @@ pub fn order_or_short_cycle(
 fn short_cycle(
     alloc: Global,
     graph: &[Vec<Step>],
-    shape: Shape,
+    shape: GraphShape,
     known: Vec<Step>,
 ) -> Result<Vec<Step>, AllocError>
     requires closed { IsClosed graph.now }
@@ -72,7 +72,7 @@ fn short_cycle(
 fn cycle_of_kind(
     alloc: Global,
     graph: &[Vec<Step>],
-    shape: Shape,
+    shape: GraphShape,
     choice: Choice,
     known: &[Step],
 ) -> Result<Option<Vec<Step>>, AllocError>
@@ -96,7 +96,7 @@ fn cycle_of_kind(
 fn shortest_through(
     alloc: Global,
     graph: &[Vec<Step>],
-    shape: Shape,
+    shape: GraphShape,
     choice: Choice,
     steps: &[Step],
 ) -> Result<Option<Vec<Step>>, AllocError>

@@ -4,7 +4,7 @@
 ghost use Rattle.std.specs.Prelude.{IfOk, IfSome};
 ghost use Rattle.jh_txn_graph.specs.Graphs.{IsCycleOfPaths};
 
-use crate::choice::{AntiDependencies, Choice, Shape, allows, is_anti};
+use crate::choice::{AntiDependencies, Choice, GraphShape, allows, is_anti};
 use jh_txn::Step;
 use jh_txn_graph::cycle_in;
 use std::alloc::{AllocError, Global};
@@ -51,7 +51,7 @@ struct Search {
 pub(crate) fn cycle_through(
     alloc: Global,
     graph: &[Vec<Step>],
-    shape: Shape,
+    shape: GraphShape,
     choice: Choice,
     node: usize,
     fuel: &mut usize,
@@ -80,7 +80,7 @@ pub(crate) fn cycle_through(
 /// Goes from a state to those in front of it: the step from where the search began, where that is met.
 fn visit(
     graph: &[Vec<Step>],
-    shape: Shape,
+    shape: GraphShape,
     choice: Choice,
     start: usize,
     state: State,
@@ -135,7 +135,7 @@ fn number_of(state: State) -> usize {
 
 /// What is known in front of a step that leads to a state. None: such a step may not be there. A step to a
 /// hub tells nothing, since it is one with the step from there.
-fn layer_before(shape: Shape, choice: Choice, state: State, step: &Step) -> Option<Layer> {
+fn layer_before(shape: GraphShape, choice: Choice, state: State, step: &Step) -> Option<Layer> {
     if state.node >= shape.count {
         Some(state.layer)
     } else if is_anti(step) {
