@@ -1,5 +1,15 @@
 //! A log of rows, its seats and their calls. `specs/Seats.antt` says what each call makes of what a
 //! seat knows, `specs/States.antt` what is true of the log and all its seats at every moment.
+//!
+//! The words of a log of R rows, which are counted from 0:
+//!
+//! | Words | Hold |
+//! |---|---|
+//! | 0 | the number of the next free row |
+//! | 1 to 5R | the data of the rows, five words each |
+//! | 5R+1 to 6R | the status of each row: 0 open, 1 void, n+1 published with n words |
+//!
+//! Of the rows of a claim only the first one gets a status; it stays 0 in the others.
 
 ghost use Rattle.std.specs.Prelude.{◌≡◌, ◌+◌, ◌*◌, ◌<◌, ◌≤◌, ◌==◌, IfOk, IfErr, MatchBool};
 ghost use Rattle.std.specs.Prelude.{MatchResult, [], take, replicate, Some};
