@@ -122,8 +122,11 @@ fn ends_all<A, T: Task<A>>(answer: &Option<A>) -> bool
     }
 }
 
-/// Does the tasks that nobody did, up to a last answer. Where other threads worked there are none,
-/// for none of them ends before; that this is so is then no matter of their order.
+/// Does each task that has no answer yet, in order, up to a last answer. One thread alone does all
+/// tasks here, without a lock. Where several threads worked, nothing is left to do, for each of them
+/// goes on until no task is left to take. But what is known behind the lock cannot say so: it does
+/// not tell which tasks a thread has taken and not answered yet. So the caller goes through all
+/// tasks once more by itself, and each is then done, whatever the order in which the threads worked.
 fn do_rest<A: Drop, T: Task<A>>(task: &T, answers: &mut Vec<Option<A>>)
     requires { AreTaskAnswers T.count T.is_right answers.old.items }
     ensures right { AreTaskAnswers T.count T.is_right answers.new.items }
