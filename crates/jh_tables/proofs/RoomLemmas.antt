@@ -7,7 +7,7 @@ use Rattle.std.proofs.lemmas.Nat.{mul-le}
 use Rattle.std.proofs.lemmas.List.Elements.{All-head, All-tail, All-weaker, All-from_get_or}
 use Rattle.std.proofs.lemmas.List.Sums.{sum_by-le}
 use Rattle.jh_tables.specs.declared.counted.NodeTally.{NodeTally}
-use Rattle.jh_tables.specs.declared.turning.Turn.{Turn}
+use Rattle.jh_tables.specs.declared.turning.Change.{Change}
 use Rattle.jh_tables.specs.Faults.{FaultValue, IsFault, names_link}
 use Rattle.jh_tables.specs.Faults.FaultValue.{Cut, Slow, Loss, Fix, Pause, Kill, Bump}
 use Rattle.jh_tables.specs.Overlay.{cuts, delay_by, pauses, kills, bump_by}
@@ -57,41 +57,41 @@ one_at_most false = omega arith
 
 module _ (before : List FaultValue) (fault : FaultValue) (after : List FaultValue) where
   -- a number can be turned, where one fault counts for so little in it
-  sum_room : (turn : Turn) (g : FaultValue → ℕ) (each most number : ℕ) → All (λ f. g f ≤ each) (faults_from turn before fault after) → g fault ≤ each
-      → length (before ++ after) < 256 → 256 * each ≤ most → number ≡ sum_by g (faults_from turn before fault after) → CanTurn turn most number (g fault)
-  sum_room Turn.Put g each most number all one few room is =
+  sum_room : (change : Change) (g : FaultValue → ℕ) (each most number : ℕ) → All (λ f. g f ≤ each) (faults_from change before fault after) → g fault ≤ each
+      → length (before ++ after) < 256 → 256 * each ≤ most → number ≡ sum_by g (faults_from change before fault after) → CanTurn change most number (g fault)
+  sum_room Change.Add g each most number all one few room is =
       let bound = sum_by-le g each (before ++ after) all in
       let less : length (before ++ after) * each ≤ 255 * each = mul-le (length (before ++ after)) each 255 each (omega (arith, few)) (omega arith) in
       omega (arith, bound, less, one, room, is)
-  sum_room Turn.Take g each most number all one few room is = omega (arith, is, sum_by-middle g before after fault)
+  sum_room Change.Remove g each most number all one few room is = omega (arith, is, sum_by-middle g before after fault)
 
-  count_room : (turn : Turn) (p : FaultValue → Bool) (number : ℕ) → length (before ++ after) < 256
-      → number ≡ count_by p (faults_from turn before fault after) → CanTurn turn 65535 number (one_if (p fault))
-  count_room turn p number few is =
-      sum_room turn (λ f. if p f then 1 else 0) 1 65535 number (λ k d h. one_at_most (p (get_or (faults_from turn before fault after) k d))) (one_at_most (p fault)) few (omega arith) is
+  count_room : (change : Change) (p : FaultValue → Bool) (number : ℕ) → length (before ++ after) < 256
+      → number ≡ count_by p (faults_from change before fault after) → CanTurn change 65535 number (one_if (p fault))
+  count_room change p number few is =
+      sum_room change (λ f. if p f then 1 else 0) 1 65535 number (λ k d h. one_at_most (p (get_or (faults_from change before fault after) k d))) (one_at_most (p fault)) few (omega arith) is
 
-  few_faults : (turn : Turn) → length (before ++ after) < 256 → length (faults_from turn before fault after) ≤ 256
-  few_faults Turn.Put few = omega (arith, few)
-  few_faults Turn.Take few = omega (arith, few, length-append before after, length-append before (fault ∷ after))
+  few_faults : (change : Change) → length (before ++ after) < 256 → length (faults_from change before fault after) ≤ 256
+  few_faults Change.Add few = omega (arith, few)
+  few_faults Change.Remove few = omega (arith, few, length-append before after, length-append before (fault ∷ after))
 
   -- tallies of few faults can be turned
-  pub tallies_room : (turn : Turn) (t : Tallies) → length (before ++ after) < 256 → IsFault fault
-      → AreTallies (length t.nodes) t (faults_from turn before fault after) → CanTurnTallies turn fault t
-  tallies_room turn t few right is =
-      let all : All IsFault (faults_from turn before fault after) = λ k d h. (is.right k d h).0 in
+  pub tallies_room : (change : Change) (t : Tallies) → length (before ++ after) < 256 → IsFault fault
+      → AreTallies (length t.nodes) t (faults_from change before fault after) → CanTurnTallies change fault t
+  tallies_room change t few right is =
+      let all : All IsFault (faults_from change before fault after) = λ k d h. (is.right k d h).0 in
       record {
         links = λ a b ha hb. let tally = is.links a b ha hb in record {
-          cuts = count_room turn (cuts a b) _ few tally.cuts;
-          slowed = sum_room turn (delay_by a b) 60000 (2 ^ 64 - 1) _
-              (All-weaker IsFault (λ f. delay_by a b f ≤ 60000) (delay_at_most a b) (faults_from turn before fault after) all)
+          cuts = count_room change (cuts a b) _ few tally.cuts;
+          slowed = sum_room change (delay_by a b) 60000 (2 ^ 64 - 1) _
+              (All-weaker IsFault (λ f. delay_by a b f ≤ 60000) (delay_at_most a b) (faults_from change before fault after) all)
               (delay_at_most a b fault right) few (omega arith) tally.slowed;
-          losses = λ i h. count_room turn (loses a b (i + 1)) _ few (tally.losses i h);
+          losses = λ i h. count_room change (loses a b (i + 1)) _ few (tally.losses i h);
         };
-        pauses = λ a ha. count_room turn (pauses a) _ few (is.nodes a ha).pauses;
-        kills = λ a ha. count_room turn (kills a) _ few (is.nodes a ha).kills;
+        pauses = λ a ha. count_room change (pauses a) _ few (is.nodes a ha).pauses;
+        kills = λ a ha. count_room change (kills a) _ few (is.nodes a ha).kills;
         clocks = All-from_get_or (λ (n : NodeTally). IsWithin (2 ^ 61) n.bumped) t.nodes running_tally (λ a ha.
             let zero : IsWithin 0 (pos 0) = (omega (arith, ints), omega (arith, ints)) in
-            let total = total_at_most a (faults_from turn before fault after) (pos 0) 0 all zero in
-            let many = few_faults turn few in
+            let total = total_at_most a (faults_from change before fault after) (pos 0) 0 all zero in
+            let many = few_faults change few in
             rw (is.nodes a ha).bumped (omega (arith, ints, total.0, many), omega (arith, ints, total.1, many)));
       }

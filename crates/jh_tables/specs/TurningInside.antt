@@ -8,12 +8,12 @@ use Rattle.std.specs.Int.{bit_at}
 use Rattle.jh_tables.specs.declared.counted.LinkTally.{LinkTally}
 use Rattle.jh_tables.specs.declared.counted.NodeTally.{NodeTally}
 use Rattle.jh_tables.specs.declared.counted.FixEntry.{FixEntry}
-use Rattle.jh_tables.specs.declared.counted.Cell.{Cell}
+use Rattle.jh_tables.specs.declared.counted.TableWrite.{TableWrite}
 use Rattle.jh_tables.specs.declared.counted.LinkCount.{LinkCount}
 use Rattle.jh_tables.specs.declared.counted.NodeCount.{NodeCount}
 use Rattle.jh_tables.specs.declared.faults.LinkFault.{LinkFault}
 use Rattle.jh_tables.specs.declared.faults.NodeFault.{NodeFault}
-use Rattle.jh_tables.specs.declared.turning.Turn.{Turn}
+use Rattle.jh_tables.specs.declared.turning.Change.{Change}
 use Rattle.jh_tables.specs.Faults.{FaultValue, FixValue, names_link, names_node}
 use Rattle.jh_tables.specs.Faults.FaultValue.{Bump}
 use Rattle.jh_tables.specs.Overlay.{cuts, delay_by, loss_by, pauses, kills, bump_by}
@@ -26,10 +26,10 @@ IsLevelThere (LinkCount.Slowed ms) = ⊤
 IsLevelThere (LinkCount.Losses level count) = level < 20
 
 -- there is something to write over
-abbrev pub IsThere : Tallies → ℕ → Cell → Type 0
-IsThere t place (Cell.Link count) = (place < length t.links) × IsLevelThere count
-IsThere t place (Cell.Node count) = place < length t.nodes
-IsThere t place (Cell.Fix entry) = place < length t.fixes
+abbrev pub IsThere : Tallies → ℕ → TableWrite → Type 0
+IsThere t place (TableWrite.Link count) = (place < length t.links) × IsLevelThere count
+IsThere t place (TableWrite.Node count) = place < length t.nodes
+IsThere t place (TableWrite.Fix entry) = place < length t.fixes
 
 -- one more, up to 2^64 - 1
 abbrev pub next_work : ℕ → ℕ
@@ -48,131 +48,133 @@ node_written (NodeCount.Kills count) t = record t { kills = count }
 node_written (NodeCount.Bumped ms) t = record t { bumped = ms }
 
 -- the tallies after a count, a sum or an entry is written
-abbrev pub written_tallies : Tallies → ℕ → Cell → Tallies
-written_tallies t place (Cell.Link count) = record t {
+abbrev pub written_tallies : Tallies → ℕ → TableWrite → Tallies
+written_tallies t place (TableWrite.Link count) = record t {
   links = slice_set t.links place (link_written count (slice_index_or t.links place calm_tally));
   work = next_work t.work;
 }
-written_tallies t place (Cell.Node count) = record t {
+written_tallies t place (TableWrite.Node count) = record t {
   nodes = slice_set t.nodes place (node_written count (slice_index_or t.nodes place running_tally));
   work = next_work t.work;
 }
-written_tallies t place (Cell.Fix entry) =
+written_tallies t place (TableWrite.Fix entry) =
     record t { fixes = slice_set t.fixes place entry; work = next_work t.work }
 
 -- a number after a fault is put or taken that counts for so much in it
-abbrev pub turned_number : Turn → ℕ → ℕ → ℕ
-turned_number Turn.Put n amount = n + amount
-turned_number Turn.Take n amount = n - amount
+abbrev pub turned_number : Change → ℕ → ℕ → ℕ
+turned_number Change.Add n amount = n + amount
+turned_number Change.Remove n amount = n - amount
 
 -- the number stays in its range
-abbrev pub CanTurn : Turn → ℕ → ℕ → ℕ → Type 0
-CanTurn Turn.Put most n amount = n + amount ≤ most
-CanTurn Turn.Take most n amount = amount ≤ n
+abbrev pub CanTurn : Change → ℕ → ℕ → ℕ → Type 0
+CanTurn Change.Add most n amount = n + amount ≤ most
+CanTurn Change.Remove most n amount = amount ≤ n
 
 -- the same of an integer
-abbrev pub int_turned : Turn → ℤ → ℤ → ℤ
-int_turned Turn.Put z amount = z +ℤ amount
-int_turned Turn.Take z amount = z -ℤ amount
+abbrev pub int_turned : Change → ℤ → ℤ → ℤ
+int_turned Change.Add z amount = z +ℤ amount
+int_turned Change.Remove z amount = z -ℤ amount
 
 -- what a fault that does something, or does not, counts for
 abbrev pub one_if : Bool → ℕ
 one_if does = if does then 1 else 0
 
 -- the counts of levels, after that of a level is turned; there is none for level 0
-abbrev pub losses_turned : Turn → List ℕ → ℕ → List ℕ
-losses_turned turn losses zero = losses
-losses_turned turn losses (suc i) =
-    slice_set losses i (turned_number turn (slice_index_or losses i 0) 1)
+abbrev pub losses_turned : Change → List ℕ → ℕ → List ℕ
+losses_turned change losses zero = losses
+losses_turned change losses (suc i) =
+    slice_set losses i (turned_number change (slice_index_or losses i 0) 1)
 
 -- the tally of the link from a to b, after the fault is put or taken
-abbrev pub link_turned : Turn → FaultValue → ℕ → ℕ → LinkTally → LinkTally
-link_turned turn fault a b t = record t {
-  cuts = turned_number turn t.cuts (one_if (cuts a b fault));
-  slowed = turned_number turn t.slowed (delay_by a b fault);
-  losses = losses_turned turn t.losses (loss_by a b fault);
+abbrev pub link_turned : Change → FaultValue → ℕ → ℕ → LinkTally → LinkTally
+link_turned change fault a b t = record t {
+  cuts = turned_number change t.cuts (one_if (cuts a b fault));
+  slowed = turned_number change t.slowed (delay_by a b fault);
+  losses = losses_turned change t.losses (loss_by a b fault);
 }
 
 -- the tally of the node, after the fault is put or taken
-abbrev pub node_turned : Turn → FaultValue → ℕ → NodeTally → NodeTally
-node_turned turn fault a t = record t {
-  pauses = turned_number turn t.pauses (one_if (pauses a fault));
-  kills = turned_number turn t.kills (one_if (kills a fault));
-  bumped = int_turned turn t.bumped (bump_by a fault);
+abbrev pub node_turned : Change → FaultValue → ℕ → NodeTally → NodeTally
+node_turned change fault a t = record t {
+  pauses = turned_number change t.pauses (one_if (pauses a fault));
+  kills = turned_number change t.kills (one_if (kills a fault));
+  bumped = int_turned change t.bumped (bump_by a fault);
 }
 
 -- the tally of a link that the fault names
-abbrev pub named_link_turned : Turn → LinkFault → LinkTally → LinkTally
-named_link_turned turn LinkFault.Cut t = record t { cuts = turned_number turn t.cuts 1 }
-named_link_turned turn (LinkFault.Slow ms) t = record t { slowed = turned_number turn t.slowed ms }
-named_link_turned turn (LinkFault.Loss level) t =
-    record t { losses = losses_turned turn t.losses level }
-named_link_turned turn (LinkFault.Fix ms) t = t
+abbrev pub named_link_turned : Change → LinkFault → LinkTally → LinkTally
+named_link_turned change LinkFault.Cut t = record t { cuts = turned_number change t.cuts 1 }
+named_link_turned change (LinkFault.Slow ms) t = record t {
+  slowed = turned_number change t.slowed ms;
+}
+named_link_turned change (LinkFault.Loss level) t =
+    record t { losses = losses_turned change t.losses level }
+named_link_turned change (LinkFault.Fix ms) t = t
 
 -- the tally of a node that the fault names
-abbrev pub named_node_turned : Turn → NodeFault → NodeTally → NodeTally
-named_node_turned turn NodeFault.Pause t = record t { pauses = turned_number turn t.pauses 1 }
-named_node_turned turn NodeFault.Kill t = record t { kills = turned_number turn t.kills 1 }
+abbrev pub named_node_turned : Change → NodeFault → NodeTally → NodeTally
+named_node_turned change NodeFault.Pause t = record t { pauses = turned_number change t.pauses 1 }
+named_node_turned change NodeFault.Kill t = record t { kills = turned_number change t.kills 1 }
 
 -- the tally of a link that the fault names can be turned
-abbrev pub CanTurnLink : Turn → LinkFault → LinkTally → Type 0
-CanTurnLink turn LinkFault.Cut t = CanTurn turn 65535 t.cuts 1
-CanTurnLink turn (LinkFault.Slow ms) t = CanTurn turn (2 ^ 64 - 1) t.slowed ms
-CanTurnLink turn (LinkFault.Loss level) t =
-    (0 < level) × (level ≤ 20) × CanTurn turn 65535 (slice_index_or t.losses (level - 1) 0) 1
-CanTurnLink turn (LinkFault.Fix ms) t = ⊤
+abbrev pub CanTurnLink : Change → LinkFault → LinkTally → Type 0
+CanTurnLink change LinkFault.Cut t = CanTurn change 65535 t.cuts 1
+CanTurnLink change (LinkFault.Slow ms) t = CanTurn change (2 ^ 64 - 1) t.slowed ms
+CanTurnLink change (LinkFault.Loss level) t =
+    (0 < level) × (level ≤ 20) × CanTurn change 65535 (slice_index_or t.losses (level - 1) 0) 1
+CanTurnLink change (LinkFault.Fix ms) t = ⊤
 
 -- the tally of a node that the fault names can be turned
-abbrev pub CanTurnNode : Turn → NodeFault → NodeTally → Type 0
-CanTurnNode turn NodeFault.Pause t = CanTurn turn 65535 t.pauses 1
-CanTurnNode turn NodeFault.Kill t = CanTurn turn 65535 t.kills 1
+abbrev pub CanTurnNode : Change → NodeFault → NodeTally → Type 0
+CanTurnNode change NodeFault.Pause t = CanTurn change 65535 t.pauses 1
+CanTurnNode change NodeFault.Kill t = CanTurn change 65535 t.kills 1
 
 -- each of these links' tallies can be turned
-abbrev pub CanTurnLinks : Turn → LinkFault → List (ℕ × ℕ) → ℕ → List LinkTally → Type 0
-CanTurnLinks turn fault links n tallies =
+abbrev pub CanTurnLinks : Change → LinkFault → List (ℕ × ℕ) → ℕ → List LinkTally → Type 0
+CanTurnLinks change fault links n tallies =
     (a b : ℕ) → a < n → b < n → names_link links a b ≡ true
-    → CanTurnLink turn fault (link_tally n tallies a b)
+    → CanTurnLink change fault (link_tally n tallies a b)
 
 -- each of these nodes' tallies can be turned
-abbrev pub CanTurnNodes : Turn → NodeFault → List ℕ → List NodeTally → Type 0
-CanTurnNodes turn fault nodes tallies =
+abbrev pub CanTurnNodes : Change → NodeFault → List ℕ → List NodeTally → Type 0
+CanTurnNodes change fault nodes tallies =
     (a : ℕ) → a < length tallies → names_node nodes a ≡ true
-    → CanTurnNode turn fault (node_tally tallies a)
+    → CanTurnNode change fault (node_tally tallies a)
 
 -- in the table of n nodes the tally of each of these links is turned, and every other stays
 abbrev pub AreLinksTurned
-    : Turn → LinkFault → List (ℕ × ℕ) → ℕ → List LinkTally → List LinkTally → Type 0
-AreLinksTurned turn fault links n old new =
+    : Change → LinkFault → List (ℕ × ℕ) → ℕ → List LinkTally → List LinkTally → Type 0
+AreLinksTurned change fault links n old new =
     (a b : ℕ) → a < n → b < n
     → link_tally n new a b
-    ≡ (if names_link links a b then named_link_turned turn fault (link_tally n old a b)
+    ≡ (if names_link links a b then named_link_turned change fault (link_tally n old a b)
     else link_tally n old a b)
 
 -- the tally of each of these nodes is turned, and every other stays
-abbrev pub AreNodesTurned : Turn → NodeFault → List ℕ → List NodeTally → List NodeTally → Type 0
-AreNodesTurned turn fault nodes old new =
+abbrev pub AreNodesTurned : Change → NodeFault → List ℕ → List NodeTally → List NodeTally → Type 0
+AreNodesTurned change fault nodes old new =
     (a : ℕ) → a < length old
     → node_tally new a
-    ≡ (if names_node nodes a then named_node_turned turn fault (node_tally old a)
+    ≡ (if names_node nodes a then named_node_turned change fault (node_tally old a)
     else node_tally old a)
 
 -- the clock of each node is turned by what the bumps move it
-abbrev pub AreClocksTurned : Turn → List (ℕ × ℤ) → List NodeTally → List NodeTally → Type 0
-AreClocksTurned turn bumps old new =
+abbrev pub AreClocksTurned : Change → List (ℕ × ℤ) → List NodeTally → List NodeTally → Type 0
+AreClocksTurned change bumps old new =
     (a : ℕ) → a < length old
     → node_tally new a
     ≡ (let t = node_tally old a in
-    record t { bumped = int_turned turn t.bumped (bump_by a (Bump bumps)) })
+    record t { bumped = int_turned change t.bumped (bump_by a (Bump bumps)) })
 
 -- the fault is put or taken in all tallies; entries of fixes are another matter
-pub record AreTurned (turn : Turn) (fault : FaultValue) (old new : Tallies) : Type 0 where
+pub record AreTurned (change : Change) (fault : FaultValue) (old new : Tallies) : Type 0 where
   pub many_links : length new.links ≡ length old.links
   pub many_nodes : length new.nodes ≡ length old.nodes
   pub links : (a b : ℕ) → a < length old.nodes → b < length old.nodes
       → link_tally (length old.nodes) new.links a b
-      ≡ link_turned turn fault a b (link_tally (length old.nodes) old.links a b)
+      ≡ link_turned change fault a b (link_tally (length old.nodes) old.links a b)
   pub nodes : (a : ℕ) → a < length old.nodes
-      → node_tally new.nodes a ≡ node_turned turn fault a (node_tally old.nodes a)
+      → node_tally new.nodes a ≡ node_turned change fault a (node_tally old.nodes a)
 
 -- the entry is in use with this stamp
 abbrev pub has_stamp : ℕ → Option FixEntry → Bool
@@ -188,13 +190,13 @@ IsPlaceOfStamp stamp entries place =
 abbrev pub IsEntryPut : FixEntry → Tallies → Tallies → Type 0
 IsEntryPut fix old new =
     (place : ℕ) × (slice_get old.fixes place ≡ Some None)
-    × (new ≡ written_tallies old place (Cell.Fix (Some fix)))
+    × (new ≡ written_tallies old place (TableWrite.Fix (Some fix)))
 
 -- the entry with the stamp is free, and nothing else changes
 abbrev pub IsEntryTaken : ℕ → Tallies → Tallies → Type 0
 IsEntryTaken stamp old new =
     (place : ℕ) × (fix : FixEntry) × (slice_get old.fixes place ≡ Some (Some fix))
-    × (fix.stamp ≡ stamp) × (new ≡ written_tallies old place (Cell.Fix None))
+    × (fix.stamp ≡ stamp) × (new ≡ written_tallies old place (TableWrite.Fix None))
 
 -- the bits of these links are set too, and every other stays
 abbrev pub AreMarked : List (ℕ × ℕ) → List ℕ → List ℕ → Type 0
@@ -204,35 +206,36 @@ AreMarked links old new =
     ≡ ((bit_at (slice_index_or old a 0) b == 1) || names_link links a b)
 
 -- the counts and the sum of a link can be turned
-pub record CanTurnCounts (turn : Turn) (fault : FaultValue) (a b : ℕ) (t : LinkTally) : Type 0 where
-  pub cuts : CanTurn turn 65535 t.cuts (one_if (cuts a b fault))
-  pub slowed : CanTurn turn (2 ^ 64 - 1) t.slowed (delay_by a b fault)
+pub record CanTurnCounts (change : Change) (fault : FaultValue) (a b : ℕ) (t : LinkTally)
+    : Type 0 where
+  pub cuts : CanTurn change 65535 t.cuts (one_if (cuts a b fault))
+  pub slowed : CanTurn change (2 ^ 64 - 1) t.slowed (delay_by a b fault)
   pub losses : (i : ℕ) → i < 20
-      → CanTurn turn 65535 (slice_index_or t.losses i 0) (one_if (loses a b (i + 1) fault))
+      → CanTurn change 65535 (slice_index_or t.losses i 0) (one_if (loses a b (i + 1) fault))
 
 -- all counts and sums can be turned
-pub record CanTurnTallies (turn : Turn) (fault : FaultValue) (t : Tallies) : Type 0 where
+pub record CanTurnTallies (change : Change) (fault : FaultValue) (t : Tallies) : Type 0 where
   pub links : (a b : ℕ) → a < length t.nodes → b < length t.nodes
-      → CanTurnCounts turn fault a b (link_tally (length t.nodes) t.links a b)
+      → CanTurnCounts change fault a b (link_tally (length t.nodes) t.links a b)
   pub pauses : (a : ℕ) → a < length t.nodes
-      → CanTurn turn 65535 (node_tally t.nodes a).pauses (one_if (pauses a fault))
+      → CanTurn change 65535 (node_tally t.nodes a).pauses (one_if (pauses a fault))
   pub kills : (a : ℕ) → a < length t.nodes
-      → CanTurn turn 65535 (node_tally t.nodes a).kills (one_if (kills a fault))
+      → CanTurn change 65535 (node_tally t.nodes a).kills (one_if (kills a fault))
   pub clocks : All (λ n. IsWithin (2 ^ 61) n.bumped) t.nodes
 
 -- there is a free entry for a fix that is put, and one with the stamp where it is taken
-abbrev pub CanTurnEntries : Turn → ℕ → Option FixValue → List (Option FixEntry) → Type 0
-CanTurnEntries turn stamp None entries = ⊤
-CanTurnEntries Turn.Put stamp (Some fix) entries = count_by is_some entries < length entries
-CanTurnEntries Turn.Take stamp (Some fix) entries = list_any (has_stamp stamp) entries ≡ true
+abbrev pub CanTurnEntries : Change → ℕ → Option FixValue → List (Option FixEntry) → Type 0
+CanTurnEntries change stamp None entries = ⊤
+CanTurnEntries Change.Add stamp (Some fix) entries = count_by is_some entries < length entries
+CanTurnEntries Change.Remove stamp (Some fix) entries = list_any (has_stamp stamp) entries ≡ true
 
 -- an entry that was free holds the fix, or the one that held it is free
 abbrev pub AreEntriesTurned
-    : Turn → ℕ → Option FixValue → List (Option FixEntry) → List (Option FixEntry) → Type 0
-AreEntriesTurned turn stamp None old new = new ≡ old
-AreEntriesTurned Turn.Put stamp (Some fix) old new =
+    : Change → ℕ → Option FixValue → List (Option FixEntry) → List (Option FixEntry) → Type 0
+AreEntriesTurned change stamp None old new = new ≡ old
+AreEntriesTurned Change.Add stamp (Some fix) old new =
     (place : ℕ) × (entry : FixEntry) × (slice_get old place ≡ Some None)
     × IsEntryOf 64 stamp fix.0 fix.1 entry × (new ≡ slice_set old place (Some entry))
-AreEntriesTurned Turn.Take stamp (Some fix) old new =
+AreEntriesTurned Change.Remove stamp (Some fix) old new =
     (place : ℕ) × (entry : FixEntry) × (slice_get old place ≡ Some (Some entry))
     × (entry.stamp ≡ stamp) × (new ≡ slice_set old place None)

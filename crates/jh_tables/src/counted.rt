@@ -80,7 +80,7 @@ pub enum NodeCount {
 /// What is written: one count or sum of a link or of a node, or an entry for a fix, which is free
 /// or in use.
 #[derive(Clone, Copy)]
-pub enum Cell {
+pub enum TableWrite {
     Link(LinkCount),
     Node(NodeCount),
     Fix(Option<FixEntry>),
@@ -278,19 +278,19 @@ impl Counted {
     }
 
     /// Writes one count, one sum or one entry, where it stands, and counts it.
-    pub fn write(&mut self, place: usize, cell: &Cell)
-        requires { IsThere self.old place cell.now }
-        ensures { self.new ≡ written_tallies self.old place cell.now }
+    pub fn write(&mut self, place: usize, written: &TableWrite)
+        requires { IsThere self.old place written.now }
+        ensures { self.new ≡ written_tallies self.old place written.now }
     {
-        match cell {
-            Cell::Link(LinkCount::Cuts(count)) => self.links[place].cuts = *count,
-            Cell::Link(LinkCount::Slowed(ms)) => self.links[place].slowed = *ms,
-            Cell::Link(LinkCount::Losses(level, count)) => self.links[place].losses[*level] =
+        match written {
+            TableWrite::Link(LinkCount::Cuts(count)) => self.links[place].cuts = *count,
+            TableWrite::Link(LinkCount::Slowed(ms)) => self.links[place].slowed = *ms,
+            TableWrite::Link(LinkCount::Losses(level, count)) => self.links[place].losses[*level] =
                 *count,
-            Cell::Node(NodeCount::Pauses(count)) => self.nodes[place].pauses = *count,
-            Cell::Node(NodeCount::Kills(count)) => self.nodes[place].kills = *count,
-            Cell::Node(NodeCount::Bumped(ms)) => self.nodes[place].bumped = *ms,
-            Cell::Fix(entry) => self.write_fix(place, entry),
+            TableWrite::Node(NodeCount::Pauses(count)) => self.nodes[place].pauses = *count,
+            TableWrite::Node(NodeCount::Kills(count)) => self.nodes[place].kills = *count,
+            TableWrite::Node(NodeCount::Bumped(ms)) => self.nodes[place].bumped = *ms,
+            TableWrite::Fix(entry) => self.write_fix(place, entry),
         }
         self.work = self.work.saturating_add(1);
     }

@@ -14,10 +14,10 @@ ghost use Rattle.jh_tables.specs.TurningInside.{AreEntriesTurned, AreMarked, Can
 ghost use Rattle.jh_tables.specs.TurningInside.{IsEntryPut, IsEntryTaken, IsPlaceOfStamp};
 ghost use Rattle.jh_tables.specs.TurningInside.{has_stamp, one_if};
 
-use crate::counted::{Cell, Counted, FixEntry, MAX_NODES};
+use crate::counted::{Counted, FixEntry, MAX_NODES, TableWrite};
 use crate::faults::{LinkFault, PlainFault};
 use crate::nodes::Node;
-use crate::turning::Turn;
+use crate::turning::Change;
 
 /// Whether the entry fixes the delay of a link.
 fn is_fixed_in(fix: &FixEntry, from: Node, to: Node) -> bool
@@ -157,7 +157,7 @@ fn put_fix(counted: &mut Counted, fix: FixEntry)
     ensures { IsEntryPut fix counted.old counted.new }
 {
     let place = free_place(counted.fixes(), counted.used());
-    counted.write(place, &Cell::Fix(Some(fix)));
+    counted.write(place, &TableWrite::Fix(Some(fix)));
 }
 
 /// Frees the entry with this stamp, which mostly is the one that was put last.
@@ -167,7 +167,7 @@ fn take_fix(counted: &mut Counted, stamp: u32)
 {
     let last = counted.used().saturating_sub(1);
     if let Some(place) = place_of_stamp(counted.fixes(), last, stamp) {
-        counted.write(place, &Cell::Fix(None));
+        counted.write(place, &TableWrite::Fix(None));
     }
 }
 
@@ -183,19 +183,19 @@ fn fix_of(fault: &PlainFault) -> Option<(u64, &[(Node, Node)])>
 }
 
 /// Turns the entries of fixes.
-pub(crate) fn turn_entries(counted: &mut Counted, turn: Turn, fault: &PlainFault, stamp: u32)
+pub(crate) fn turn_entries(counted: &mut Counted, change: Change, fault: &PlainFault, stamp: u32)
     requires fits { FitsCount 64 (fault_of fault.now) }
-    requires room { CanTurnEntries turn stamp (fix_value (fault_of fault.now)) counted.old.fixes }
-    ensures turned { AreEntriesTurned turn stamp
+    requires room { CanTurnEntries change stamp (fix_value (fault_of fault.now)) counted.old.fixes }
+    ensures turned { AreEntriesTurned change stamp
         (fix_value (fault_of fault.now)) counted.old.fixes counted.new.fixes }
     ensures rest { (counted.new.links ≡ counted.old.links)
         × (counted.new.nodes ≡ counted.old.nodes) }
     ensures work { counted.new.work ≤ counted.old.work + one_if (is_fix (fault_of fault.now)) }
 {
     if let Some((ms, links)) = fix_of(fault) {
-        match turn {
-            Turn::Put => put_fix(counted, entry_of(stamp, ms, links)),
-            Turn::Take => take_fix(counted, stamp),
+        match change {
+            Change::Add => put_fix(counted, entry_of(stamp, ms, links)),
+            Change::Remove => take_fix(counted, stamp),
         }
     }
 }

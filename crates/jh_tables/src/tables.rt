@@ -18,7 +18,7 @@ use crate::entries::{latest_fix, turn_entries};
 use crate::faults::PlainFault;
 use crate::nodes::Node;
 use crate::reading::{link_now, node_now};
-use crate::turning::{Turn, turn_tallies};
+use crate::turning::{Change, turn_tallies};
 use std::alloc::{AllocError, Global};
 use std::marker::Model;
 
@@ -122,7 +122,7 @@ impl Tables {
         ensures work { self.new.tallies.work
             ≤ self.old.tallies.work + fault_size (fault_of fault.now) }
     {
-        turn_all(&mut self.counted, Turn::Put, fault, stamp);
+        turn_all(&mut self.counted, Change::Add, fault, stamp);
         self.laid += 1;
     }
 
@@ -136,7 +136,7 @@ impl Tables {
         ensures work { self.new.tallies.work
             ≤ self.old.tallies.work + fault_size (fault_of fault.now) }
     {
-        turn_all(&mut self.counted, Turn::Take, fault, stamp);
+        turn_all(&mut self.counted, Change::Remove, fault, stamp);
         self.laid -= 1;
     }
 
@@ -156,18 +156,18 @@ impl Tables {
 }
 
 /// Turns all that a fault touches.
-fn turn_all(counted: &mut Counted, turn: Turn, fault: &PlainFault, stamp: u32)
+fn turn_all(counted: &mut Counted, change: Change, fault: &PlainFault, stamp: u32)
     requires fits { FitsCount (length counted.old.nodes) (fault_of fault.now) }
     requires few { length counted.old.nodes ≤ 64 }
     requires right { IsFault (fault_of fault.now) }
-    requires room { CanTurnTallies turn (fault_of fault.now) counted.old }
-    requires entries { CanTurnEntries turn stamp
+    requires room { CanTurnTallies change (fault_of fault.now) counted.old }
+    requires entries { CanTurnEntries change stamp
         (fix_value (fault_of fault.now)) counted.old.fixes }
-    ensures turned { AreTurned turn (fault_of fault.now) counted.old counted.new }
-    ensures entries { AreEntriesTurned turn stamp
+    ensures turned { AreTurned change (fault_of fault.now) counted.old counted.new }
+    ensures entries { AreEntriesTurned change stamp
         (fix_value (fault_of fault.now)) counted.old.fixes counted.new.fixes }
     ensures work { counted.new.work ≤ counted.old.work + fault_size (fault_of fault.now) }
 {
-    turn_tallies(counted, turn, fault);
-    turn_entries(counted, turn, fault, stamp);
+    turn_tallies(counted, change, fault);
+    turn_entries(counted, change, fault, stamp);
 }

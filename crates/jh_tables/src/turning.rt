@@ -15,79 +15,79 @@ ghost use Rattle.jh_tables.specs.TurningInside.{AreNodesTurned, AreTurned, CanTu
 ghost use Rattle.jh_tables.specs.TurningInside.{CanTurnLinks, CanTurnNode, CanTurnNodes};
 ghost use Rattle.jh_tables.specs.TurningInside.{CanTurnTallies};
 
-use crate::counted::{Cell, Counted, LinkCount, LinkTally, NodeCount, NodeTally};
+use crate::counted::{Counted, LinkCount, LinkTally, NodeCount, NodeTally, TableWrite};
 use crate::faults::{LinkFault, NodeFault, PlainFault};
 use crate::nodes::Node;
 
-/// What is done with a fault.
+/// What turns tallies and entries: a fault is added or removed.
 #[derive(Clone, Copy, Debug, PartialEq, Eq)]
-pub enum Turn {
-    Put,
-    Take,
+pub enum Change {
+    Add,
+    Remove,
 }
 
 /// A count with one fault more or less.
-fn number_turned(turn: Turn, number: u16) -> u16
-    requires { CanTurn turn 65535 number 1 }
-    ensures { result ≡ turned_number turn number 1 }
+fn number_turned(change: Change, number: u16) -> u16
+    requires { CanTurn change 65535 number 1 }
+    ensures { result ≡ turned_number change number 1 }
 {
-    match turn {
-        Turn::Put => number + 1,
-        Turn::Take => number - 1,
+    match change {
+        Change::Add => number + 1,
+        Change::Remove => number - 1,
     }
 }
 
-/// The count or sum of a link that the fault turns, turned. A fix is kept in its entry: it leaves
-/// the sum.
-fn link_turned(turn: Turn, fault: LinkFault, tally: &LinkTally) -> LinkCount
-    requires { CanTurnLink turn fault tally.now }
+/// The count or sum of a link that the fault turns, turned. A fix has an entry of its own: the sum is
+/// unchanged.
+fn link_turned(change: Change, fault: LinkFault, tally: &LinkTally) -> LinkCount
+    requires { CanTurnLink change fault tally.now }
     ensures there { IsLevelThere result }
-    ensures turned { link_written result tally.now ≡ named_link_turned turn fault tally.now }
+    ensures turned { link_written result tally.now ≡ named_link_turned change fault tally.now }
 {
     match fault {
-        LinkFault::Cut => LinkCount::Cuts(number_turned(turn, tally.cuts)),
-        LinkFault::Slow(ms) => LinkCount::Slowed(match turn {
-            Turn::Put => tally.slowed + ms,
-            Turn::Take => tally.slowed - ms,
+        LinkFault::Cut => LinkCount::Cuts(number_turned(change, tally.cuts)),
+        LinkFault::Slow(ms) => LinkCount::Slowed(match change {
+            Change::Add => tally.slowed + ms,
+            Change::Remove => tally.slowed - ms,
         }),
         LinkFault::Loss(level) => {
             let place = level as usize - 1;
-            LinkCount::Losses(place, number_turned(turn, tally.losses[place]))
+            LinkCount::Losses(place, number_turned(change, tally.losses[place]))
         }
         LinkFault::Fix(_) => LinkCount::Slowed(tally.slowed),
     }
 }
 
 /// The count of a node that the fault turns, turned.
-fn node_turned(turn: Turn, fault: NodeFault, tally: &NodeTally) -> NodeCount
-    requires { CanTurnNode turn fault tally.now }
-    ensures { node_written result tally.now ≡ named_node_turned turn fault tally.now }
+fn node_turned(change: Change, fault: NodeFault, tally: &NodeTally) -> NodeCount
+    requires { CanTurnNode change fault tally.now }
+    ensures { node_written result tally.now ≡ named_node_turned change fault tally.now }
 {
     match fault {
-        NodeFault::Pause => NodeCount::Pauses(number_turned(turn, tally.pauses)),
-        NodeFault::Kill => NodeCount::Kills(number_turned(turn, tally.kills)),
+        NodeFault::Pause => NodeCount::Pauses(number_turned(change, tally.pauses)),
+        NodeFault::Kill => NodeCount::Kills(number_turned(change, tally.kills)),
     }
 }
 
 /// The sum of a node whose clock the fault moves, turned.
-fn clock_turned(turn: Turn, ms: i64, tally: &NodeTally) -> NodeCount
+fn clock_turned(change: Change, ms: i64, tally: &NodeTally) -> NodeCount
     requires amount { IsBumpAmount ms }
     requires room { IsWithin (2 ^ 62) tally.now.bumped }
     ensures { node_written result tally.now
-        ≡ record tally.now { bumped = int_turned turn tally.now.bumped ms } }
+        ≡ record tally.now { bumped = int_turned change tally.now.bumped ms } }
 {
-    NodeCount::Bumped(match turn {
-        Turn::Put => tally.bumped + ms,
-        Turn::Take => tally.bumped - ms,
+    NodeCount::Bumped(match change {
+        Change::Add => tally.bumped + ms,
+        Change::Remove => tally.bumped - ms,
     })
 }
 
 /// Turns the tally of each of these links, each of which stands once.
-fn turn_links(counted: &mut Counted, turn: Turn, fault: LinkFault, links: &[(Node, Node)])
+fn turn_links(counted: &mut Counted, change: Change, fault: LinkFault, links: &[(Node, Node)])
     requires known { AreKnownLinks (length counted.old.nodes) links.now }
     requires once { AreApart is_same_link links.now }
-    requires room { CanTurnLinks turn fault links.now (length counted.old.nodes) counted.old.links }
-    ensures turned { AreLinksTurned turn fault links.now
+    requires room { CanTurnLinks change fault links.now (length counted.old.nodes) counted.old.links }
+    ensures turned { AreLinksTurned change fault links.now
         (length counted.old.nodes) counted.old.links counted.new.links }
     ensures many { length counted.new.links ≡ length counted.old.links }
     ensures rest { (counted.new.nodes ≡ counted.old.nodes)
@@ -97,17 +97,17 @@ fn turn_links(counted: &mut Counted, turn: Turn, fault: LinkFault, links: &[(Nod
     let count = counted.count();
     for (from, to) in links {
         let place = from.place() as usize * count + to.place() as usize;
-        let turned = link_turned(turn, fault, counted.link(place));
-        counted.write(place, &Cell::Link(turned));
+        let turned = link_turned(change, fault, counted.link(place));
+        counted.write(place, &TableWrite::Link(turned));
     }
 }
 
 /// Turns the tally of each of these nodes, each of which stands once.
-fn turn_nodes(counted: &mut Counted, turn: Turn, fault: NodeFault, nodes: &[Node])
+fn turn_nodes(counted: &mut Counted, change: Change, fault: NodeFault, nodes: &[Node])
     requires known { All (λ n. n < length counted.old.nodes) nodes.now }
     requires once { AreApart is_same_node nodes.now }
-    requires room { CanTurnNodes turn fault nodes.now counted.old.nodes }
-    ensures turned { AreNodesTurned turn fault nodes.now counted.old.nodes counted.new.nodes }
+    requires room { CanTurnNodes change fault nodes.now counted.old.nodes }
+    ensures turned { AreNodesTurned change fault nodes.now counted.old.nodes counted.new.nodes }
     ensures many { length counted.new.nodes ≡ length counted.old.nodes }
     ensures rest { (counted.new.links ≡ counted.old.links)
         × (counted.new.fixes ≡ counted.old.fixes) }
@@ -115,17 +115,17 @@ fn turn_nodes(counted: &mut Counted, turn: Turn, fault: NodeFault, nodes: &[Node
 {
     for node in nodes {
         let place = node.place() as usize;
-        let turned = node_turned(turn, fault, counted.node(place));
-        counted.write(place, &Cell::Node(turned));
+        let turned = node_turned(change, fault, counted.node(place));
+        counted.write(place, &TableWrite::Node(turned));
     }
 }
 
 /// Turns the clock of each of these nodes, each of which stands once.
-fn turn_clocks(counted: &mut Counted, turn: Turn, bumps: &[(Node, i64)])
+fn turn_clocks(counted: &mut Counted, change: Change, bumps: &[(Node, i64)])
     requires known { All (λ b. b.0 < length counted.old.nodes) bumps.now }
     requires right { AreBumps bumps.now }
     requires room { All (λ n. IsWithin (2 ^ 61) n.bumped) counted.old.nodes }
-    ensures turned { AreClocksTurned turn bumps.now counted.old.nodes counted.new.nodes }
+    ensures turned { AreClocksTurned change bumps.now counted.old.nodes counted.new.nodes }
     ensures many { length counted.new.nodes ≡ length counted.old.nodes }
     ensures rest { (counted.new.links ≡ counted.old.links)
         × (counted.new.fixes ≡ counted.old.fixes) }
@@ -133,24 +133,24 @@ fn turn_clocks(counted: &mut Counted, turn: Turn, bumps: &[(Node, i64)])
 {
     for (node, ms) in bumps {
         let place = node.place() as usize;
-        let turned = clock_turned(turn, *ms, counted.node(place));
-        counted.write(place, &Cell::Node(turned));
+        let turned = clock_turned(change, *ms, counted.node(place));
+        counted.write(place, &TableWrite::Node(turned));
     }
 }
 
 /// Turns all tallies; entries of fixes are another matter.
-pub(crate) fn turn_tallies(counted: &mut Counted, turn: Turn, fault: &PlainFault)
+pub(crate) fn turn_tallies(counted: &mut Counted, change: Change, fault: &PlainFault)
     requires fits { FitsCount (length counted.old.nodes) (fault_of fault.now) }
     requires right { IsFault (fault_of fault.now) }
-    requires room { CanTurnTallies turn (fault_of fault.now) counted.old }
-    ensures turned { AreTurned turn (fault_of fault.now) counted.old counted.new }
+    requires room { CanTurnTallies change (fault_of fault.now) counted.old }
+    ensures turned { AreTurned change (fault_of fault.now) counted.old counted.new }
     ensures fixes { counted.new.fixes ≡ counted.old.fixes }
     ensures work { counted.new.work ≤ counted.old.work + named_count (fault_of fault.now) }
 {
     match fault {
         PlainFault::OnLinks(LinkFault::Fix(_), _) => {}
-        PlainFault::OnLinks(kind, links) => turn_links(counted, turn, *kind, links),
-        PlainFault::OnNodes(kind, nodes) => turn_nodes(counted, turn, *kind, nodes),
-        PlainFault::Bump(bumps) => turn_clocks(counted, turn, bumps),
+        PlainFault::OnLinks(kind, links) => turn_links(counted, change, *kind, links),
+        PlainFault::OnNodes(kind, nodes) => turn_nodes(counted, change, *kind, nodes),
+        PlainFault::Bump(bumps) => turn_clocks(counted, change, bumps),
     }
 }

@@ -10,7 +10,7 @@ clock_turned-turned-requires-clause-room c =
     let known : x.0 < length c.args.counted.now.nodes = rw (← c.loop-node-item.is) at (c.requires.known i x c.loop-node-test.true) in
     let short : i ≤ length c.args.bumps.now = omega (arith, c.loop-node-test.true) in
     rw (c.node.ensures, c.place-place.ensures)
-    (bump_room c.args.turn c.args.bumps.now i x.0 c.args.counted.now.nodes c.loop-node.counted.nodes c.requires.right short known c.loop-node.invariant.turned c.requires.room)
+    (bump_room c.args.change c.args.bumps.now i x.0 c.args.counted.now.nodes c.loop-node.counted.nodes c.requires.right short known c.loop-node.invariant.turned c.requires.room)
 
 pub loop-node-preserved : goal.loop-node-preserved
 loop-node-preserved c =
@@ -20,7 +20,7 @@ loop-node-preserved c =
     let fits : FitsSigned w64 x.1 = search rules in
     let value = rw (c.node.ensures, c.place-place.ensures, to_z-of_z w64 x.1 fits) at c.clock_turned-turned.ensures in
     rw (c.write.ensures, c.place-place.ensures) (record {
-      turned = bumps_more c.args.turn c.args.bumps.now i x c.args.counted.now.nodes c.loop-node.counted.nodes _
+      turned = bumps_more c.args.change c.args.bumps.now i x c.args.counted.now.nodes c.loop-node.counted.nodes _
           c.loop-node-test.true c.loop-node-item.is known c.loop-node.invariant.many value c.loop-node.invariant.turned;
       many = length-set c.loop-node.counted.nodes _ _ ∙ c.loop-node.invariant.many;
       links = c.loop-node.invariant.links;

@@ -4,7 +4,7 @@ use Rattle.jh_tables.proofs.turning.turn_clocks.Given as goal
 
 abbrev pub invariant-loop-node : goal.invariant-loop-node
 invariant-loop-node l = record {
-  turned : AreClocksTurned l.turn (take l.node-index l.bumps) l.fn.counted.nodes l.counted.nodes;
+  turned : AreClocksTurned l.change (take l.node-index l.bumps) l.fn.counted.nodes l.counted.nodes;
   many : length l.counted.nodes ≡ length l.fn.counted.nodes;
   links : l.counted.links ≡ l.fn.counted.links;
   fixes : l.counted.fixes ≡ l.fn.counted.fixes;

@@ -8,7 +8,7 @@ link_turned-turned-requires c =
     let i = c.loop-from.from-index in
     let x = c.loop-from-item.result in
     let known : (x.0 < n) × (x.1 < n) = rw (← c.loop-from-item.is) at (c.requires.known i x c.loop-from-test.true) in
-    let can = can_turn_next c.args.turn c.args.fault c.args.links.now i n c.args.counted.now.links c.loop-from.counted.links x
+    let can = can_turn_next c.args.change c.args.fault c.args.links.now i n c.args.counted.now.links c.loop-from.counted.links x
     c.loop-from-test.true c.loop-from-item.is known.0 known.1 c.requires.once c.loop-from.invariant.turned c.requires.room in
     rw (c.link.ensures, c.place.ensures, c.place-in-loop-from.ensures, c.count-count.ensures.count) can
 
@@ -21,7 +21,7 @@ loop-from-preserved c =
     let size : length c.loop-from.counted.links ≡ n * n = c.loop-from.invariant.many ∙ rw c.count-count.ensures.count at c.count-count.ensures.square in
     let value = rw (c.link.ensures, c.place.ensures, c.place-in-loop-from.ensures, c.count-count.ensures.count) at c.link_turned-turned.ensures.turned in
     rw (c.write.ensures, c.place.ensures, c.place-in-loop-from.ensures, c.count-count.ensures.count) (record {
-      turned = links_more c.args.turn c.args.fault c.args.links.now i n c.args.counted.now.links c.loop-from.counted.links x _
+      turned = links_more c.args.change c.args.fault c.args.links.now i n c.args.counted.now.links c.loop-from.counted.links x _
           c.loop-from-test.true c.loop-from-item.is known.0 known.1 c.requires.once size value c.loop-from.invariant.turned;
       nodes = c.loop-from.invariant.nodes;
       fixes = c.loop-from.invariant.fixes;

@@ -4,7 +4,7 @@ use Rattle.jh_tables.proofs.turning.turn_links.Given as goal
 
 abbrev pub invariant-loop-from : goal.invariant-loop-from
 invariant-loop-from l = record {
-  turned : AreLinksTurned l.turn l.fault (take l.from-index l.links) (length l.fn.counted.nodes) l.fn.counted.links l.counted.links;
+  turned : AreLinksTurned l.change l.fault (take l.from-index l.links) (length l.fn.counted.nodes) l.fn.counted.links l.counted.links;
   nodes : l.counted.nodes ≡ l.fn.counted.nodes;
   fixes : l.counted.fixes ≡ l.fn.counted.fixes;
   work : l.counted.work ≤ l.fn.counted.work + l.from-index;

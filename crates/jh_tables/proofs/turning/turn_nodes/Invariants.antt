@@ -4,7 +4,7 @@ use Rattle.jh_tables.proofs.turning.turn_nodes.Given as goal
 
 abbrev pub invariant-loop-node : goal.invariant-loop-node
 invariant-loop-node l = record {
-  turned : AreNodesTurned l.turn l.fault (take l.node-index l.nodes) l.fn.counted.nodes l.counted.nodes;
+  turned : AreNodesTurned l.change l.fault (take l.node-index l.nodes) l.fn.counted.nodes l.counted.nodes;
   many : length l.counted.nodes ≡ length l.fn.counted.nodes;
   links : l.counted.links ≡ l.fn.counted.links;
   fixes : l.counted.fixes ≡ l.fn.counted.fixes;

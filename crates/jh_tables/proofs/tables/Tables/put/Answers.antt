@@ -1,7 +1,7 @@
 use Rattle.std.proofs.Common.{◌∷◌, ◌++◌, ◌+◌, [], length, ap, sym, subst, arith, ◌∙◌, length-append}
 use Rattle.std.specs.List.{All}
 use Rattle.std.proofs.lemmas.List.{length-map}
-use Rattle.jh_tables.specs.declared.turning.Turn.TheVariants.{Put}
+use Rattle.jh_tables.specs.declared.turning.Change.TheVariants.{Add}
 use Rattle.jh_tables.specs.Cells.{Table}
 use Rattle.jh_tables.specs.Faults.{FitsCount, fix_value}
 use Rattle.jh_tables.specs.Plain.{fault_of}
@@ -17,7 +17,7 @@ pub turn_all-requires-clause-room : goal.turn_all-requires-clause-room
 turn_all-requires-clause-room c =
     let w = c.self.invariant in
     let room = rw (← c.self.view_is) at c.requires.room in
-    tallies_room [] (fault_of c.args.fault.now) w.faults Put c.self.inside.counted (omega (arith, room, w.laid)) c.requires.right w.tallies
+    tallies_room [] (fault_of c.args.fault.now) w.faults Add c.self.inside.counted (omega (arith, room, w.laid)) c.requires.right w.tallies
 
 pub invariant_of-self : goal.invariant_of-self
 invariant_of-self c =
@@ -28,17 +28,17 @@ invariant_of-self c =
     let e = c.turn_all.ensures in
     let room = rw (← c.self.view_is) at c.requires.room in
     let fits : FitsCount (length old.nodes) f = rw (← c.self.view_is, length-map old.nodes) at c.requires.fits in
-    let starts = start_stays Put f old new e.turned w.square in
+    let starts = start_stays Add f old new e.turned w.square in
     record {
       faults = f ∷ w.faults;
       laid = omega (arith, w.laid);
       few = omega (arith, room);
       tallies = rw (e.turned).many_nodes
-          (tallies_turned Put [] f w.faults c.requires.right old new fits e.turned (used_turned Put c.args.stamp f old.fixes new.fixes e.entries) w.tallies);
+          (tallies_turned Add [] f w.faults c.requires.right old new fits e.turned (used_turned Add c.args.stamp f old.fixes new.fixes e.entries) w.tallies);
       nodes = rw (e.turned).many_nodes w.nodes;
-      square = square_stays Put f old new e.turned w.square;
-      room = room_turned Put c.args.stamp (fix_value f) old.fixes new.fixes e.entries ∙ w.room;
-      delays = delays_turned Put c.args.stamp f old.fixes new.fixes c.requires.right e.entries w.delays;
+      square = square_stays Add f old new e.turned w.square;
+      room = room_turned Add c.args.stamp (fix_value f) old.fixes new.fixes e.entries ∙ w.room;
+      delays = delays_turned Add c.args.stamp f old.fixes new.fixes c.requires.right e.entries w.delays;
       starting_links = subst (λ (t : Table). All IsStartingLink t.links) (sym starts) w.starting_links;
       starting_nodes = subst (λ (t : Table). All IsStartingNode t.nodes) (sym starts) w.starting_nodes;
     }
@@ -52,12 +52,12 @@ returns-clause-stands c before after order st =
     let e = c.turn_all.ensures in
     let fits : FitsCount (length old.nodes) f = rw (← c.self.view_is, length-map old.nodes) at c.requires.fits in
     let s : StandsAt (tables_of old c.self.inside.laid) (before ++ after) = rw (← c.self.view_is) at st in
-    stands_turned Put c.args.stamp f before after old new c.self.inside.laid (c.self.inside.laid + 1) w.nodes w.square c.requires.right fits e.turned e.entries order
+    stands_turned Add c.args.stamp f before after old new c.self.inside.laid (c.self.inside.laid + 1) w.nodes w.square c.requires.right fits e.turned e.entries order
     (omega (arith, s.laid, length-append before after, length-append before ((c.args.stamp, f) ∷ after))) s
 
 pub returns-clause-start : goal.returns-clause-start
 returns-clause-start c =
-    start_stays Put (fault_of c.args.fault.now) c.self.inside.counted c.turn_all.new.counted c.turn_all.ensures.turned c.self.invariant.square
+    start_stays Add (fault_of c.args.fault.now) c.self.inside.counted c.turn_all.new.counted c.turn_all.ensures.turned c.self.invariant.square
     ∙ ap (λ (t : TablesValue). t.start) c.self.view_is
 
 pub returns-clause-whole : goal.returns-clause-whole

@@ -1,7 +1,7 @@
 use Rattle.std.proofs.Common.{ℕ, ◌∷◌, ◌++◌, ◌-◌, length, ap, sym, subst, arith, ◌∙◌, length-append}
 use Rattle.std.specs.List.{All}
 use Rattle.std.proofs.lemmas.List.{length-map}
-use Rattle.jh_tables.specs.declared.turning.Turn.TheVariants.{Take}
+use Rattle.jh_tables.specs.declared.turning.Change.TheVariants.{Remove}
 use Rattle.jh_tables.specs.Cells.{Table}
 use Rattle.jh_tables.specs.Faults.{FaultValue, fix_value}
 use Rattle.jh_tables.specs.Plain.{fault_of}
@@ -28,7 +28,7 @@ turn_all-requires-clause-room c =
     let f = fault_of c.args.fault.now in
     let t = c.self.inside.counted in
     let r = rw (← c.self.view_is) at c.requires in
-    tallies_room (faults_of r.0) f (faults_of r.1) Take t
+    tallies_room (faults_of r.0) f (faults_of r.1) Remove t
     (held_few c.args.stamp f r.0 r.1 t c.self.inside.laid r.2 c.self.invariant.few)
     (held_fault c.args.stamp f r.0 r.1 t c.self.inside.laid r.2).0
     (held_tallies c.args.stamp f r.0 r.1 t c.self.inside.laid r.2)
@@ -50,7 +50,7 @@ invariant_of-self c =
     let r = rw (← c.self.view_is) at c.requires in
     let s : StandsAt (tables_of old c.self.inside.laid) (r.0 ++ (c.args.stamp, f) ∷ r.1) = r.2 in
     let right = held_fault c.args.stamp f r.0 r.1 old c.self.inside.laid s in
-    let starts = start_stays Take f old new e.turned w.square in
+    let starts = start_stays Remove f old new e.turned w.square in
     record {
       faults = faults_of r.0 ++ faults_of r.1;
       laid = omega (
@@ -63,12 +63,12 @@ invariant_of-self c =
       );
       few = omega (arith, w.few);
       tallies = rw (e.turned).many_nodes
-          (tallies_turned Take (faults_of r.0) f (faults_of r.1) right.0 old new right.1 e.turned (used_turned Take c.args.stamp f old.fixes new.fixes e.entries)
+          (tallies_turned Remove (faults_of r.0) f (faults_of r.1) right.0 old new right.1 e.turned (used_turned Remove c.args.stamp f old.fixes new.fixes e.entries)
           (held_tallies c.args.stamp f r.0 r.1 old c.self.inside.laid s));
       nodes = rw (e.turned).many_nodes w.nodes;
-      square = square_stays Take f old new e.turned w.square;
-      room = room_turned Take c.args.stamp (fix_value f) old.fixes new.fixes e.entries ∙ w.room;
-      delays = delays_turned Take c.args.stamp f old.fixes new.fixes right.0 e.entries w.delays;
+      square = square_stays Remove f old new e.turned w.square;
+      room = room_turned Remove c.args.stamp (fix_value f) old.fixes new.fixes e.entries ∙ w.room;
+      delays = delays_turned Remove c.args.stamp f old.fixes new.fixes right.0 e.entries w.delays;
       starting_links = subst (λ (t : Table). All IsStartingLink t.links) (sym starts) w.starting_links;
       starting_nodes = subst (λ (t : Table). All IsStartingNode t.nodes) (sym starts) w.starting_nodes;
     }
@@ -82,12 +82,12 @@ returns-clause-stands c before after st =
     let e = c.turn_all.ensures in
     let s : StandsAt (tables_of old c.self.inside.laid) (before ++ (c.args.stamp, f) ∷ after) = rw (← c.self.view_is) at st in
     let right = held_fault c.args.stamp f before after old c.self.inside.laid s in
-    stands_turned Take c.args.stamp f before after old new c.self.inside.laid (c.self.inside.laid - 1) w.nodes w.square right.0 right.1 e.turned e.entries s.order
+    stands_turned Remove c.args.stamp f before after old new c.self.inside.laid (c.self.inside.laid - 1) w.nodes w.square right.0 right.1 e.turned e.entries s.order
     (omega (arith, s.laid, length-append before after, length-append before ((c.args.stamp, f) ∷ after))) s
 
 pub returns-clause-start : goal.returns-clause-start
 returns-clause-start c =
-    start_stays Take (fault_of c.args.fault.now) c.self.inside.counted c.turn_all.new.counted c.turn_all.ensures.turned c.self.invariant.square
+    start_stays Remove (fault_of c.args.fault.now) c.self.inside.counted c.turn_all.new.counted c.turn_all.ensures.turned c.self.invariant.square
     ∙ ap (λ (t : TablesValue). t.start) c.self.view_is
 
 pub returns-clause-whole : goal.returns-clause-whole
