@@ -20,7 +20,7 @@ use jh_txn_histories::is_equal;
 use std::alloc::{AllocError, Global};
 
 /// The greatest time that a line can tell, in nanoseconds.
-const MOST_TIME: u64 = i64::MAX as u64;
+const MAX_TIME_NS: u64 = i64::MAX as u64;
 
 /// How many more processes have crashed.
 fn more_crashes(kind: Kind) -> u64
@@ -71,7 +71,7 @@ impl Machine {
         ensures { self.new ≡ rule.at_time time self.old }
     {
         if let Some(time) = time {
-            self.clock = self.clock.max(time).min(MOST_TIME);
+            self.clock = self.clock.max(time).min(MAX_TIME_NS);
         }
     }
 

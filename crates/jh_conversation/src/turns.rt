@@ -25,9 +25,9 @@ use rand_core::utils::NextWord;
 use std::alloc::{AllocError, Global};
 
 /// Nanoseconds of a second, and of a millisecond.
-const SECOND: u128 = 1_000_000_000;
+const NANOSECONDS_A_SECOND: u128 = 1_000_000_000;
 
-const MILLISECOND: u64 = 1_000_000;
+const NANOSECONDS_A_MILLISECOND: u64 = 1_000_000;
 
 /// A step that is due, with the place of its entry.
 #[derive(Drop)]
@@ -42,7 +42,7 @@ fn has_come(limit: Option<u32>, now: u64) -> bool
 {
     match limit {
         None => false,
-        Some(limit) => u64::from(limit) * MILLISECOND <= now,
+        Some(limit) => u64::from(limit) * NANOSECONDS_A_MILLISECOND <= now,
     }
 }
 
@@ -52,7 +52,7 @@ fn keeps_rate(rate: Option<u32>, given: u64, now: u64) -> bool
 {
     match rate {
         None => true,
-        Some(rate) => u128::from(given) * SECOND <= u128::from(now) * u128::from(rate),
+        Some(rate) => u128::from(given) * NANOSECONDS_A_SECOND <= u128::from(now) * u128::from(rate),
     }
 }
 
@@ -132,7 +132,7 @@ impl Machine {
         match when {
             When::Calls(calls) => u64::from(calls) <= self.answered,
             When::Milliseconds(milliseconds) => {
-                u64::from(milliseconds) * MILLISECOND <= self.clock
+                u64::from(milliseconds) * NANOSECONDS_A_MILLISECOND <= self.clock
             }
         }
     }
@@ -398,7 +398,7 @@ impl Machine {
     fn has_recovered(&self, test: &Test) -> bool
         ensures { result ≡ rule.has_recovered test.now self.now }
     {
-        let recovery = u128::from(u64::from(test.recovery()) * MILLISECOND);
+        let recovery = u128::from(u64::from(test.recovery()) * NANOSECONDS_A_MILLISECOND);
         u128::from(self.rested) + recovery <= u128::from(self.clock)
     }
 

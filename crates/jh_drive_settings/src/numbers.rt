@@ -21,7 +21,7 @@ pub(crate) const MAX_MILLISECONDS: u32 = 86_400_000;
 const MAX_RATE: u32 = 1_000_000;
 
 /// The longest recovery, in milliseconds: an hour.
-const MAX_RECOVERY: u64 = 3_600_000;
+const MAX_RECOVERY_MS: u64 = 3_600_000;
 
 /// How many calls, under `ops`: from 1 to 1,000,000.
 pub(crate) fn test_ops_under(table: &Table) -> Result<u32, SettingsError>
@@ -84,7 +84,7 @@ pub(crate) fn share_under(
 pub(crate) fn recovery_under(table: &Table) -> Result<u32, SettingsError>
     ensures { IsValueParsed result Key.Recovery (parsed_recovery (table_view table.now)) }
 {
-    let recovery = number_or(table, Key::Recovery, 0, 0, MAX_RECOVERY)?;
+    let recovery = number_or(table, Key::Recovery, 0, 0, MAX_RECOVERY_MS)?;
     Ok(recovery as u32)
 }
 

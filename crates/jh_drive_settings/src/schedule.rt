@@ -15,21 +15,19 @@ ghost use Rattle.jh_drive_settings.specs.Parsed.{IsParsedTestEntry, IsParsedTest
 use crate::numbers::MAX_MILLISECONDS;
 use jh_edn::Value;
 use jh_env::Nodes;
+use jh_gen::MAX_CALLS;
 use jh_settings::{Key, SettingsError, element_in, value_under};
 use jh_step_texts::{StepTextError, step_of_value};
 use jh_test_parts::{Entry, MAX_ENTRIES, When};
 use std::alloc::{AllocError, Global};
 use toml::Table;
 
-/// After how many answered calls an entry is due at most.
-const MOST_CALLS: u32 = 1_000_000;
-
 /// So many answered calls: from 0 to 1,000,000, and no other number.
 fn calls_of(at: i64) -> Option<When>
     ensures { result ≡ rule.calls_of at }
 {
     match u32::try_from(at) {
-        Ok(calls) if calls <= MOST_CALLS => Some(When::Calls(calls)),
+        Ok(calls) if calls <= MAX_CALLS => Some(When::Calls(calls)),
         _ => None,
     }
 }

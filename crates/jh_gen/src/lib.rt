@@ -15,6 +15,6 @@ mod text;
 pub use answers::{DriverError, Ended, GenAnswer, GenError, Thread};
 pub use driver::{Driver, MAX_CALLS, MAX_CLIENTS};
 pub use generator::{Gen, Gens, Inner, Shares};
-pub use laws::{asked_answers, end_keeps_generator};
+pub use laws::{asked_answers, end_keeps_generator, limits};
 pub use rise::Rise;
 pub use text::{GenTextError, gen_of_value};

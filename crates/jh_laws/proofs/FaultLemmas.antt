@@ -20,7 +20,8 @@ use Rattle.jh_step_texts.specs.FaultWritten.{is_link_before, is_node_before, is_
 use Rattle.jh_env.specs.Names.{AreNodeNames}
 use Rattle.jh_env.proofs.TextPlaceLemmas.{place_of-at}
 use Rattle.jh_env.specs.TextErrors.{place_of}
-use Rattle.jh_step_texts.specs.FaultText.{Links, Nodes, Bumps, link_names, node_name, bump_spelled, all_of, links_in, nodes_in, bumps_in, ends_of, named_node, bump_of, amount_within, slow_kind, loss_kind, fix_kind, is_bump_amount, are_apart_after, are_bumps, parsed_links, parsed_nodes, parsed_bumps}
+use Rattle.jh_env.specs.Naming.{link_names, node_name, bump_spelled, ends_of, named_node, bump_of, is_bump_amount, are_apart_after, are_bumps}
+use Rattle.jh_step_texts.specs.FaultText.{Links, Nodes, Bumps, all_of, links_in, nodes_in, bumps_in, amount_within, slow_kind, loss_kind, fix_kind, parsed_links, parsed_nodes, parsed_bumps}
 use Rattle.jh_laws.specs.StepLines.{IsFaultOn, IsTextOfFault}
 use Rattle.jh_laws.proofs.OrderLemmas.{Apart, apart_behind, apart_in_order, all_in_order, none_in_order, none_each}
 

@@ -33,7 +33,7 @@ use std::alloc::{AllocError, Global};
 use toml::Table;
 
 /// The latest moment at which a step is due, in answered client calls.
-const LATEST: u32 = 10_000;
+pub const MAX_DUE_AT: u32 = 10_000;
 
 /// Passes out of memory on, and no other error.
 fn unless_memory(error: EdnError) -> Result<(), AllocError>
@@ -165,7 +165,7 @@ fn due_of(at: i64) -> Option<u32>
     ensures { result ≡ rule.due_of at }
 {
     match u32::try_from(at) {
-        Ok(at) if at <= LATEST => Some(at),
+        Ok(at) if at <= MAX_DUE_AT => Some(at),
         _ => None,
     }
 }

@@ -13,9 +13,9 @@ mod table;
 
 pub use choices::{Mode, initial_under};
 pub use document::{judge_keys, table_of};
-pub use elements::{element_in, generator_under, start_under};
+pub use elements::{MAX_DUE_AT, element_in, generator_under, start_under};
 pub use error::{KeyText, SettingsError};
 pub use keys::{Key, drive_keys, is_missing, needed_drive_keys};
-pub use numbers::{budget_under, clients_under, seed_under};
+pub use numbers::{MAX_TICK_EVERY, budget_under, clients_under, seed_under};
 pub use settings::{RunSettings, settings_of};
 pub use table::{number_or, number_under, text_under, value_under, whole_in};

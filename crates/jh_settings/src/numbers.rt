@@ -16,7 +16,7 @@ use jh_simnode::MAX_ROWS;
 use toml::Table;
 
 /// After how many of its calls a client thread ticks at most.
-const MAX_TICK_EVERY: u64 = 10_000;
+pub const MAX_TICK_EVERY: u32 = 10_000;
 
 /// The greatest budget of a judgement.
 const MAX_BUDGET: u64 = 10_000_000;
@@ -45,7 +45,7 @@ pub(crate) fn ops_under(table: &Table, workload: Workload) -> Result<u32, Settin
 pub(crate) fn tick_every_under(table: &Table) -> Result<u32, SettingsError>
     ensures { IsValueParsed result Key.TickEvery (parsed_tick_every (table_view table.now)) }
 {
-    let calls = number_or(table, Key::TickEvery, 0, 0, MAX_TICK_EVERY)?;
+    let calls = number_or(table, Key::TickEvery, 0, 0, u64::from(MAX_TICK_EVERY))?;
     Ok(calls as u32)
 }
 

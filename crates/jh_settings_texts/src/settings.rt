@@ -18,6 +18,7 @@ use crate::start::may_start;
 use crate::steps::leads_to_others;
 use crate::table::table_of;
 use jh_ops::Workload;
+use jh_settings::{MAX_DUE_AT, MAX_TICK_EVERY};
 use jh_simnode::{Entry, Plan};
 use std::alloc::{AllocError, Global};
 use toml::ser::Error;
@@ -25,12 +26,6 @@ use toml::table_to_string_pretty;
 
 /// How deep a text of EDN may be nested.
 const MAX_DEPTH: u32 = 64;
-
-/// After how many of its calls a client thread ticks at most.
-const MAX_TICK_EVERY: u32 = 10_000;
-
-/// After how many answered calls an entry is due at most.
-const LATEST: u32 = 10_000;
 
 /// Whether the numbers of a plan are in the ranges of their keys, and only a register holds
 /// something at first.
@@ -45,7 +40,7 @@ fn has_writable_numbers(plan: &Plan) -> bool
 fn is_writable(entry: &Entry) -> bool
     ensures { IsTrue result ↔ (entry.now.at ≤ 10000) × LeadsToOthers entry.now.step }
 {
-    entry.at <= LATEST && leads_to_others(&entry.step)
+    entry.at <= MAX_DUE_AT && leads_to_others(&entry.step)
 }
 
 /// Whether each entry is due in time and leads to others.

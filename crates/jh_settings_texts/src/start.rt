@@ -4,23 +4,16 @@ ghost use Rattle.std.specs.Prelude.{◌↔◌, All, IfSome, IsTrue};
 ghost use Rattle.jh_env.specs.Starting.{IsStartingLink, IsStartingNode};
 ghost use Rattle.jh_settings_texts.specs.StartInside.{IsStarting, MayStartLink, MayStartNode};
 
-use jh_env::{Env, Link, Node, NodeCell};
-
-/// The greatest delay of a link at a start, in milliseconds.
-const MAX_STARTING_DELAY: u64 = 60_000;
-
-/// The greatest level of loss of a link at a start, in twentieths.
-const MAX_STARTING_LOSS: u8 = 20;
-
-/// How far a clock is off at a start at most, either way, in milliseconds.
-const MAX_STARTING_OFFSET: i64 = 1_000_000_000_000;
+use jh_env::{
+    Env, Link, MAX_START_DELAY_MS, MAX_START_LOSS, MAX_START_OFFSET_MS, Node, NodeCell,
+};
 
 /// Whether a link, where there is one, is as it may be at a start.
 fn is_starting_link(link: Option<Link>) -> bool
     ensures { IsTrue result ↔ IfSome link IsStartingLink }
 {
     match link {
-        Some(link) => link.delay <= MAX_STARTING_DELAY && link.loss <= MAX_STARTING_LOSS,
+        Some(link) => link.delay <= MAX_START_DELAY_MS && link.loss <= MAX_START_LOSS,
         None => true,
     }
 }
@@ -30,7 +23,7 @@ fn is_starting_node(cell: Option<NodeCell>) -> bool
     ensures { IsTrue result ↔ IfSome cell IsStartingNode }
 {
     match cell {
-        Some(cell) => (-MAX_STARTING_OFFSET..=MAX_STARTING_OFFSET).contains(&cell.clock),
+        Some(cell) => (-MAX_START_OFFSET_MS..=MAX_START_OFFSET_MS).contains(&cell.clock),
         None => true,
     }
 }

@@ -12,7 +12,7 @@ use jh_txn_graph::{OrderOrCycle, order_or_cycle};
 use std::alloc::{AllocError, Global};
 
 /// At how many steps the search for a cycle of one kind looks.
-const MOST_STEPS: usize = 500_000;
+const MAX_STEPS: usize = 500_000;
 
 /// An order of the transactions of a graph that keeps each of its steps, or a cycle of them, as
 /// `jh_txn_graph::order_or_cycle` gives it, but a cycle for a person to read: of the kinds of cycles one of
@@ -103,7 +103,7 @@ fn shortest_through(
     ensures { IfOk result
         (λ found. IfSome found (λ cycle. IsCycleOfPaths graph.now shape.count cycle.items)) }
 {
-    let mut fuel = MOST_STEPS;
+    let mut fuel = MAX_STEPS;
     let mut best: Option<Vec<Step>> = None;
     for step in steps {
         let found = cycle_through(alloc, graph, shape, choice, step.place, &mut fuel)?;
