@@ -32,8 +32,8 @@ use jh_cli::{
     search_run, shrink_run_observed, timeline_run,
 };
 use jh_search::{Palette, SearchObserver};
-use jh_sections::Choice;
 use jh_shrink::Observer;
+use jh_timeline_sections::Choice;
 use jh_txn::ConsistencyModel;
 use std::alloc::Global;
 use std::io::{Read, Write};

@@ -10,15 +10,15 @@ use Rattle.jh_independent.specs.Refusals.{AreFindings, keys_question}
 use Rattle.jh_checkers.specs.declared.finding.Judging.{Judging}
 use Rattle.jh_independent.specs.declared.serial.KeyFinding.{KeyFinding}
 use Rattle.jh_ops.specs.Operation.{Operation}
-use Rattle.jh_pages.specs.Page.{page_text}
-use Rattle.jh_pages.specs.declared.section.Section.{Section}
-use Rattle.jh_pages.specs.declared.top.Top.{Top}
-use Rattle.jh_sections.specs.KeySections.{AreSectionsOf}
-use Rattle.jh_sections.specs.HistoryAndRest.{AreHistoryAndRest}
-use Rattle.jh_sections.specs.SaidVerdicts.{said_verdict}
-use Rattle.jh_sections.specs.Sections.{IsSectionOf}
-use Rattle.jh_sections.specs.Titles.{history_title, keys_title}
-use Rattle.jh_sections.specs.declared.window.Choice.{Choice}
+use Rattle.jh_timeline_pages.specs.Page.{page_text}
+use Rattle.jh_timeline_pages.specs.declared.section.Section.{Section}
+use Rattle.jh_timeline_pages.specs.declared.top.Top.{Top}
+use Rattle.jh_timeline_sections.specs.KeySections.{AreSectionsOf}
+use Rattle.jh_timeline_sections.specs.HistoryAndRest.{AreHistoryAndRest}
+use Rattle.jh_timeline_sections.specs.SaidVerdicts.{said_verdict}
+use Rattle.jh_timeline_sections.specs.Sections.{IsSectionOf}
+use Rattle.jh_timeline_sections.specs.Titles.{history_title, keys_title}
+use Rattle.jh_timeline_sections.specs.declared.window.Choice.{Choice}
 use Rattle.jh_cli.specs.CheckText.{TakesInitial, TakesModel}
 use Rattle.jh_cli.specs.Notices.{notice_of}
 use Rattle.jh_reports.specs.Reports.{verdict_status}

@@ -7,7 +7,7 @@ ghost use Rattle.std.specs.Prelude.{MatchResult, None, Some, false, true};
 ghost use Rattle.std.specs.Option.{option_copied};
 ghost use Rattle.jh_ops.specs.Operation.{operations};
 ghost use Rattle.jh_ops.specs.OperationWritten.{IsWritable};
-ghost use Rattle.jh_pages.specs.Page as pages;
+ghost use Rattle.jh_timeline_pages.specs.Page as pages;
 ghost use Rattle.jh_cli.specs.Outputs.{OnInput, WritesOutput};
 ghost use Rattle.jh_cli.specs.TimelineRefusals.{RefusesFinding, RefusesPage, RefusesShowing};
 ghost use Rattle.jh_cli.specs.TimelineRefusals.{RefusesTimeline};
@@ -23,9 +23,9 @@ use crate::output::{MAX_READS, finish};
 use jh_checkers::{Finding, Judging, check_history};
 use jh_independent::{check_keys_serial, verdict_of_all};
 use jh_ops::Op;
-use jh_pages::{Section, Top, write_page};
 use jh_reports::{Output, finding_text, keys_text};
-use jh_sections::{
+use jh_timeline_pages::{Section, Top, write_page};
+use jh_timeline_sections::{
     Choice, HistoryAndRest, read_history_and_rest, said_verdict, section_of, sections_of_keys,
     title_of, title_of_keys,
 };
@@ -53,13 +53,13 @@ struct Shown {
     sections: Vec<Section>,
 }
 
-/// Reads a history as `jh_sections::read_history_and_rest` does, or all that `run` printed, judges
+/// Reads a history as `jh_timeline_sections::read_history_and_rest` does, or all that `run` printed, judges
 /// it by the checker of the workload, if there is one, and writes a page in HTML that shows the
-/// history: what was found in one sentence on top, as `jh_sections::title_of` says it, with the line
-/// of the checker folded below, and a notice where the input says another verdict; the history as `jh_sections::section_of` shows it; and below it what
+/// history: what was found in one sentence on top, as `jh_timeline_sections::title_of` says it, with the line
+/// of the checker folded below, and a notice where the input says another verdict; the history as `jh_timeline_sections::section_of` shows it; and below it what
 /// `run` printed behind the history. Where its keys are independent, each is judged by itself, one
 /// after another, sentence and line are those on all keys, and each has the section that
-/// `jh_sections::sections_of_keys` makes. The answer is the exit status: 0 where the history is
+/// `jh_timeline_sections::sections_of_keys` makes. The answer is the exit status: 0 where the history is
 /// valid or not judged, 1 where it is not valid, 2 where that is not known. All is read and judged,
 /// and the page made, before the first byte is written.
 ///

@@ -11,7 +11,7 @@
 use crate::rows::{push_error, with_status};
 use jh_checkers::{Checker, Judging};
 use jh_cli::{CliError, TimelineQuestion, timeline_run};
-use jh_sections::Choice;
+use jh_timeline_sections::Choice;
 use std::alloc::Global;
 use std::io::Write;
 

@@ -7,8 +7,8 @@
 
 use crate::spelled::{mark_of, ops_of};
 use jh_checkers::{Judging, check_history};
-use jh_marks::marks_of;
 use jh_timeline::{Mark, Window, picture_in};
+use jh_timeline_marks::marks_of;
 use std::alloc::Global;
 use std::test::Fail;
 

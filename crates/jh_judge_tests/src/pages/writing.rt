@@ -2,7 +2,7 @@
 
 use crate::narrow::Narrow;
 use crate::pages::rows::{asked, write_asked};
-use jh_pages::{LANE_WIDTH, PageError, ROW_HEIGHT, escaped_text_is_inert, write_escaped};
+use jh_timeline_pages::{LANE_WIDTH, PageError, ROW_HEIGHT, escaped_text_is_inert, write_escaped};
 use std::alloc::Global;
 use std::test::Fail;
 

@@ -1,8 +1,8 @@
 use Rattle.std.proofs.Common.{◌≡◌, ◌∙◌, ℕ, List, ap, subst}
-use Rattle.jh_pages.specs.Page.{page_text}
-use Rattle.jh_pages.specs.declared.section.Section.{Section}
-use Rattle.jh_pages.specs.declared.top.Top.{Top}
-use Rattle.jh_sections.specs.SaidVerdicts.{said_verdict}
+use Rattle.jh_timeline_pages.specs.Page.{page_text}
+use Rattle.jh_timeline_pages.specs.declared.section.Section.{Section}
+use Rattle.jh_timeline_pages.specs.declared.top.Top.{Top}
+use Rattle.jh_timeline_sections.specs.SaidVerdicts.{said_verdict}
 use Rattle.jh_cli.specs.Notices.{notice_of}
 use Rattle.jh_cli.proofs.timeline_command.page_of.Goals as goal
 

@@ -2,7 +2,7 @@ use Rattle.std.proofs.Common.{◌∙◌, ap, List, Some}
 use Rattle.jh_independent.specs.Lines.{keys_line, verdict_of_all}
 use Rattle.jh_independent.specs.declared.serial.KeyFinding.{KeyFinding}
 use Rattle.jh_reports.specs.Reports.{verdict_status}
-use Rattle.jh_sections.specs.Titles.{keys_title}
+use Rattle.jh_timeline_sections.specs.Titles.{keys_title}
 use Rattle.jh_cli.proofs.timeline_command.shown_judged.Goals as goal
 
 pub returns-clause-shows : goal.returns-clause-shows

@@ -1,9 +1,9 @@
 use Rattle.std.proofs.Common.{◌∙◌, List, ◌∷◌, [], ◌++◌, ℕ, Option, ap, subst}
 use Rattle.jh_checkers.specs.declared.finding.Finding.{Finding}
 use Rattle.jh_ops.specs.Operation.{operations}
-use Rattle.jh_pages.specs.declared.section.Section.{Section}
-use Rattle.jh_sections.specs.Sections.{IsSectionOf}
-use Rattle.jh_sections.specs.Titles.{history_title}
+use Rattle.jh_timeline_pages.specs.declared.section.Section.{Section}
+use Rattle.jh_timeline_sections.specs.Sections.{IsSectionOf}
+use Rattle.jh_timeline_sections.specs.Titles.{history_title}
 use Rattle.jh_cli.specs.TimelineText as text
 use Rattle.jh_cli.specs.TimelineText.{IsFoundBy}
 use Rattle.jh_cli.proofs.timeline_command.shown_whole.Goals as goal

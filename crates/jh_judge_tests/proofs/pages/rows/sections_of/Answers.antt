@@ -1,7 +1,7 @@
 use Rattle.std.proofs.Common.{rules, All, ◌≡◌, ◌∷◌, ◌++◌, [], subst, sym}
 use Rattle.std.proofs.lemmas.List.Elements.{All-push}
 use Rattle.jh_ops.specs.OperationWritten.{IsWritable}
-use Rattle.jh_pages.specs.declared.section.Section.{Section}
+use Rattle.jh_timeline_pages.specs.declared.section.Section.{Section}
 use Rattle.jh_judge_tests.proofs.pages.rows.sections_of.Goals as goal
 
 abbrev AreWritable : Section → Type 0

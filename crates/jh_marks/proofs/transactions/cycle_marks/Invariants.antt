@@ -1,7 +1,0 @@
-use Rattle.std.proofs.Common.{◌≡◌, take}
-use Rattle.jh_ops.specs.Operation.{operations}
-use Rattle.jh_marks.specs.Marked.{marks_by, cycle_note}
-use Rattle.jh_marks.proofs.transactions.cycle_marks.Given as goal
-
-abbrev pub invariant-loop-number : goal.invariant-loop-number
-invariant-loop-number l = l.marks.items ≡ marks_by (cycle_note l.steps (operations l.history)) (take l.number l.bars)

@@ -1,6 +1,0 @@
-use Rattle.std.proofs.Common.{◌≡◌}
-use Rattle.jh_sections.specs.SaidVerdicts.{said_before}
-use Rattle.jh_sections.proofs.said.said_verdict.Given as goal
-
-abbrev pub invariant-loop-at : goal.invariant-loop-at
-invariant-loop-at l = l.said ≡ said_before l.text l.at

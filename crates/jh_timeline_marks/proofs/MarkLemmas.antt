@@ -1,0 +1,197 @@
+-- Marks bar by bar, the places of numbers from the last on, and what does not depend on an order.
+use Rattle.std.proofs.Common.{◌≡◌, ℕ, zero, suc, ◌+◌, ◌<◌, ◌≤◌, Bool, true, false, cond, eqb, List, [], ◌∷◌, ◌++◌, length, drop, take, get_or, map, Option, Some, None, refl, sym, ap, ◌∙◌, arith, is_eq}
+use Rattle.std.specs.Prelude.{◌&&◌, not, codes, filter, option_and_then, option_map}
+use Rattle.std.specs.List.{cons_option, enumerate_from, filter_map, position_from}
+use Rattle.std.specs.Option.{option_map_or, option_to_list}
+use Rattle.std.specs.Ordering.{nat_cmp}
+use Rattle.std.specs.BTreeMap.{BTreeMap, get, Updates}
+use Rattle.std.proofs.lemmas.Bool.Decides.{nat_tests}
+use Rattle.std.proofs.lemmas.List.{map-append, take_more}
+use Rattle.std.proofs.lemmas.List.Elements.{filter_map-append}
+use Rattle.std.proofs.Math.Seq.{drop-cons}
+use Rattle.jh_edn.specs.Edn.{Edn}
+use Rattle.jh_edn.specs.Normal.{normal}
+use Rattle.jh_edn.specs.Order.{in_order, is_below}
+use Rattle.jh_edn.specs.View.{view, views}
+use Rattle.jh_edn.specs.declared.value.Value.{Value}
+use Rattle.jh_ops.specs.Operation.{Operation, operation, operations, is_asked}
+use Rattle.jh_ops.specs.Pairing.{pair_of, pairs_from}
+use Rattle.jh_ops.specs.declared.operation.Kind.{Kind}
+use Rattle.jh_ops.specs.declared.operation.Op.{Op}
+use Rattle.jh_ops.specs.declared.operation.Process.{Process}
+use Rattle.jh_check.specs.IdsView.{view_duplicate, view_duplicates}
+use Rattle.jh_check.specs.SetResults.{final_read}
+use Rattle.jh_check.specs.declared.ids.Duplicate.{Duplicate}
+use Rattle.jh_check.specs.declared.set.SetFound.{SetFound}
+use Rattle.jh_check.proofs.ListLemmas.{mapped_more}
+use Rattle.jh_check.proofs.SearchLemmas.{among_in_order}
+use Rattle.jh_timeline.specs.declared.marks.Mark.{Mark}
+use Rattle.jh_timeline.specs.declared.marks.Note.{Note}
+use Rattle.jh_timeline.specs.declared.picture.Bar.{Bar}
+use Rattle.jh_timeline.specs.declared.picture.Call.{Call}
+use Rattle.jh_timeline_marks.specs.Marked.{adds_one_of, call_completion, found_note, has_one_of, invocation_of, invocations_of, is_completed_at, mark_at, marks_by, note_if, place_among}
+use Rattle.jh_timeline_marks.specs.MarkedInside.{found_note_with, gives_one_of, invocations, is_by_client, is_invocation, unexpected_place}
+
+-- ---- bar by bar
+
+numbered_more : {X : Type 0} (n : ℕ) (xs : List X) (x : X) → enumerate_from n (xs ++ x ∷ []) ≡ enumerate_from n xs ++ (n + length xs, x) ∷ []
+numbered_more n [] x = let e : n ≡ n + 0 = omega arith in ap (λ m. (m, x) ∷ []) e
+numbered_more n (y ∷ xs) x =
+    let e : n + 1 + length xs ≡ n + suc (length xs) = omega arith in
+    ap (λ ws. (n, y) ∷ ws) (numbered_more (n + 1) xs x ∙ ap (λ m. enumerate_from (n + 1) xs ++ (m, x) ∷ []) e)
+
+length_take : {X : Type 0} (xs : List X) (i : ℕ) → i ≤ length xs → length (take i xs) ≡ i
+length_take xs zero h = refl
+length_take [] (suc i) h = absurd (omega arith)
+length_take (x ∷ xs) (suc i) h = ap suc (length_take xs i (omega arith))
+
+one_at_most : (mark : Option Mark) → option_to_list mark ≡ cons_option mark []
+one_at_most None = refl
+one_at_most (Some mark) = refl
+
+-- the mark of one more bar
+pub marks_more : (note : Call → Option Note) (bars : List Bar) (i : ℕ) (d : Bar) (before after : List Mark)
+    → i < length bars → before ≡ marks_by note (take i bars) → after ≡ before ++ option_to_list (mark_at i (note (get_or bars i d).call))
+    → after ≡ marks_by note (take (i + 1) bars)
+marks_more note bars i d before after below is grown =
+    let bar = get_or bars i d in
+    let marked : ℕ × Bar → Option Mark = λ numbered. mark_at numbered.0 (note numbered.1.call) in
+    let number : 0 + length (take i bars) ≡ i = (let long = length_take bars i (omega arith) in omega (arith, long)) in
+    let whole : enumerate_from 0 (take (i + 1) bars) ≡ enumerate_from 0 (take i bars) ++ (i, bar) ∷ [] =
+    ap (enumerate_from 0) (take_more bars i d below) ∙ numbered_more 0 (take i bars) bar ∙ ap (λ n. enumerate_from 0 (take i bars) ++ (n, bar) ∷ []) number in
+    grown ∙ ap (λ ms. ms ++ option_to_list (marked (i, bar))) is
+    ∙ ap (λ ms. marks_by note (take i bars) ++ ms) (one_at_most (marked (i, bar)))
+    ∙ sym (ap (filter_map marked) whole ∙ filter_map-append marked (enumerate_from 0 (take i bars)) ((i, bar) ∷ []))
+
+-- of no note there are no marks
+pub no_marks : (bars : List Bar) → marks_by (λ call. None) bars ≡ []
+no_marks bars = none (enumerate_from 0 bars) where
+  none : (numbered : List (ℕ × Bar)) → filter_map (λ one. mark_at one.0 None) numbered ≡ []
+  none [] = refl
+  none (one ∷ numbered) = none numbered
+
+-- ---- values
+
+-- whether one of them is there does not depend on their order
+has_same : (kind : Kind) (name : List ℕ) (values : List Edn) (op : Option Operation)
+    → option_map_or (has_one_of kind name (in_order is_below values)) op false ≡ option_map_or (has_one_of kind name values) op false
+has_same kind name values None = refl
+has_same kind name values (Some op) = ap (λ among. is_asked kind name op && among) (among_in_order (normal op.value) values)
+
+-- one more id
+pub ids_more : (ids : List Value) (duplicated : List Duplicate) (i : ℕ) (duplicate : Duplicate) (id : Value) → i < length duplicated
+    → duplicate ≡ get_or duplicated i duplicate → view id ≡ view duplicate.id → views ids ≡ map (λ id. id.0) (view_duplicates (take i duplicated))
+    → views (ids ++ id ∷ []) ≡ map (λ id. id.0) (view_duplicates (take (i + 1) duplicated))
+ids_more ids duplicated i duplicate id below at same before =
+    let first : Edn × ℕ → Edn = λ id. id.0 in
+    map-append view ids (id ∷ []) ∙ ap (λ xs. xs ++ view id ∷ []) before ∙ ap (λ x. map first (view_duplicates (take i duplicated)) ++ x ∷ []) same
+    ∙ sym (ap (map first) (mapped_more view_duplicate duplicated i duplicate below at)
+    ∙ map-append first (view_duplicates (take i duplicated)) (view_duplicate duplicate ∷ []))
+
+pub ids_same : (sorted ids : List Edn) (history : List Operation) (bars : List Bar) → sorted ≡ in_order is_below ids
+    → marks_by (λ call. note_if (gives_one_of sorted history call) Note.Repeated) bars ≡ marks_by (λ call. note_if (gives_one_of ids history call) Note.Repeated) bars
+ids_same sorted ids history bars e =
+    ap (λ xs. marks_by (λ call. note_if (gives_one_of xs history call) Note.Repeated) bars) e
+    ∙ (λ i. marks_by (λ call. note_if (has_same Kind.Ok (codes "generate") ids (call_completion history call) i) Note.Repeated) bars)
+
+adds_same : (values : List Edn) (history : List Operation) (call : Call) → adds_one_of (in_order is_below values) history call ≡ adds_one_of values history call
+adds_same values history call = has_same Kind.Invoke (codes "add") values (invocation_of history call)
+
+unexpected_same : (none : Bool) (read : Option (ℕ × Operation)) (call : Call)
+    → option_map_or (λ index. is_completed_at index call) (cond none None (option_map (λ one. one.0) read)) false
+    ≡ (not none && option_map_or (λ one. is_completed_at one.0 call) read false)
+unexpected_same true None call = refl
+unexpected_same true (Some read) call = refl
+unexpected_same false None call = refl
+unexpected_same false (Some read) call = refl
+
+-- nor do the notes of a set
+pub found_same : (lost recovered : List Edn) (found : SetFound) (history : List Operation) (bars : List Bar)
+    → lost ≡ in_order is_below found.lost → recovered ≡ in_order is_below found.recovered
+    → marks_by (found_note_with lost recovered (unexpected_place found history) history) bars ≡ marks_by (found_note found history) bars
+found_same lost recovered found history bars e f =
+    (λ i. marks_by (found_note_with (e i) (f i) (unexpected_place found history) history) bars)
+    ∙ (λ i. marks_by (λ call. cond (adds_same found.lost history call i) (Some Note.Lost)
+    (cond (adds_same found.recovered history call i) (Some Note.Recovered)
+    (note_if (unexpected_same (eqb (length found.unexpected) 0) (final_read history) call i) Note.Unexpected))) bars)
+
+-- ---- invocations
+
+invocations_from : (place : ℕ) (history : List Op)
+    → map (λ numbered. numbered.0) (filter (λ numbered. is_invocation numbered.1) (enumerate_from place history))
+    ≡ map (λ pair. pair.invoke) (pairs_from place (operations history))
+invocations_from place [] = refl
+invocations_from place (op ∷ history) = step op.kind op.process (operation op) (invocations_from (place + 1) history) where
+  step : (kind : Kind) (process : Process) (o : Operation)
+      → map (λ numbered. numbered.0) (filter (λ numbered. is_invocation numbered.1) (enumerate_from (place + 1) history))
+      ≡ map (λ pair. pair.invoke) (pairs_from (place + 1) (operations history))
+      → map (λ numbered. numbered.0) (cond (is_by_client kind process) ((place, op) ∷ filter (λ numbered. is_invocation numbered.1) (enumerate_from (place + 1) history))
+      (filter (λ numbered. is_invocation numbered.1) (enumerate_from (place + 1) history)))
+      ≡ map (λ pair. pair.invoke) (pair_of kind process place (operations history) ++ pairs_from (place + 1) (operations history))
+  step Kind.Invoke (Process.Client client) o h = ap (λ ws. place ∷ ws) h
+  step Kind.Ok (Process.Client client) o h = h
+  step Kind.Fail (Process.Client client) o h = h
+  step Kind.Info (Process.Client client) o h = h
+  step Kind.Invoke Process.Nemesis o h = h
+  step Kind.Ok Process.Nemesis o h = h
+  step Kind.Fail Process.Nemesis o h = h
+  step Kind.Info Process.Nemesis o h = h
+
+-- where clients invoke something is where the pairs are invoked
+pub invocations_are : (history : List Op) → invocations history ≡ invocations_of (operations history)
+invocations_are history = invocations_from 0 history
+
+-- ---- places
+
+-- what is kept of the numbers from a place on
+pub record Kept (kept : ℕ → Option ℕ) (numbers : List ℕ) (place : ℕ) : Type 0 where
+  pub within : place ≤ length numbers
+  pub places : (number : ℕ) → kept number ≡ position_from (λ other. eqb other number) place (drop place numbers)
+
+none_behind : {X : Type 0} (xs : List X) → drop (length xs) xs ≡ []
+none_behind [] = refl
+none_behind (x ∷ xs) = none_behind xs
+
+-- of no numbers there is no place
+pub kept_none : (kept : ℕ → Option ℕ) (numbers : List ℕ) (place : ℕ) → place ≡ length numbers → ((number : ℕ) → kept number ≡ None) → Kept kept numbers place
+kept_none kept numbers place at none = record {
+  within = omega arith;
+  places = λ number. none number ∙ sym (ap (λ ns. position_from (λ other. eqb other number) place ns) (ap (λ p. drop p numbers) at ∙ none_behind numbers));
+}
+
+-- from the first number on that is every place
+pub kept_all : (kept : ℕ → Option ℕ) (numbers : List ℕ) (place : ℕ) → place ≡ 0 → Kept kept numbers place
+    → (number : ℕ) → kept number ≡ place_among numbers number
+kept_all kept_at numbers place at kept number = kept.places number ∙ ap (λ p. position_from (λ other. eqb other number) p (drop p numbers)) at
+
+one_more : (numbers : List ℕ) (n i number : ℕ) → n ≡ i + 1 → i < length numbers
+    → position_from (λ other. eqb other number) i (drop i numbers)
+    ≡ cond (eqb (get_or numbers i 0) number) (Some i) (position_from (λ other. eqb other number) n (drop n numbers))
+one_more numbers n i number at below =
+    let next : suc i ≡ n = omega arith in
+    let also : i + 1 ≡ n = omega arith in
+    ap (λ ns. position_from (λ other. eqb other number) i ns) (drop-cons numbers i 0 below)
+    ∙ ap (λ rest. cond (eqb (get_or numbers i 0) number) (Some i) rest)
+    (ap (λ m. position_from (λ other. eqb other number) m (drop (suc i) numbers)) also ∙ ap (λ m. position_from (λ other. eqb other number) n (drop m numbers)) next)
+
+same_key : (key number : ℕ) → is_eq (nat_cmp key number) ≡ eqb key number
+same_key key number = grind (arith, nat_tests)
+
+-- one number more in front
+pub kept_put : (old new : BTreeMap ℕ ℕ) (numbers : List ℕ) (n i key : ℕ) → n ≡ i + 1 → i < length numbers
+    → key ≡ get_or numbers i 0 → Kept (get nat_cmp old) numbers n → Updates nat_cmp old new key (Some i) → Kept (get nat_cmp new) numbers i
+kept_put old new numbers n i key at below is kept updates = record {
+  within = omega arith;
+  places = λ number.
+      updates.0 number
+      ∙ ap (λ b. cond b (Some i) (get nat_cmp old number)) (same_key key number ∙ ap (λ k. eqb k number) is)
+      ∙ ap (λ rest. cond (eqb (get_or numbers i 0) number) (Some i) rest) (kept.places number)
+      ∙ sym (one_more numbers n i number at below);
+}
+
+-- a place by way of two lists
+pub through : (numbers places : BTreeMap ℕ ℕ) (known order : List ℕ) (index : ℕ) → ((n : ℕ) → get nat_cmp numbers n ≡ place_among known n)
+    → ((n : ℕ) → get nat_cmp places n ≡ place_among order n)
+    → option_and_then (get nat_cmp places) (get nat_cmp numbers index) ≡ option_and_then (place_among order) (place_among known index)
+through numbers places known order index first second =
+    ap (option_and_then (get nat_cmp places)) (first index) ∙ (λ i. option_and_then (λ n. second n i) (place_among known index))

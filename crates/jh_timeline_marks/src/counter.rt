@@ -1,0 +1,127 @@
+//! The marks of counters. `specs/Marked.antt` has the rule.
+
+ghost use Rattle.std.specs.Prelude.{◌≡◌, ◌++◌, IfOk, OnOk, option_and_then};
+ghost use Rattle.jh_ops.specs.Operation.{operations};
+ghost use Rattle.jh_ops.specs.Pairing.{history_pairs};
+ghost use Rattle.jh_check.specs.CounterResults as counter;
+ghost use Rattle.jh_timeline_marks.specs.Marked as rule;
+ghost use Rattle.jh_timeline_marks.specs.Marked.{marks_by};
+ghost use Rattle.jh_timeline_marks.specs.MarkedInside.{bounds_with, pair_with};
+
+use crate::notes::{noted, push_note};
+use crate::places::{place_of, places_of};
+use jh_check::{ReadBounds, read_ends};
+use jh_ops::{Kind, Op, Pair, Process};
+use jh_timeline::{Bar, Call, Mark, Note};
+use std::alloc::{AllocError, Global};
+use std::collections::BTreeMap;
+
+/// Puts the call of a client's record last, if the record is an invocation, where this is the place
+/// of the client's next record.
+fn push_call(
+    kind: Kind,
+    place: usize,
+    next: Option<usize>,
+    calls: &mut Vec<Pair>,
+) -> Result<(), AllocError>
+    ensures { OnOk result (calls.new.items ≡ calls.old.items ++ pair_with kind place next) }
+{
+    match kind {
+        Kind::Invoke => calls.push(Pair {
+            invoke: place,
+            outcome: next,
+        })?,
+        _ => (),
+    }
+    Ok(())
+}
+
+/// The calls of clients, in the order of their invocations. `jh_ops::pair` refuses a history that is
+/// not well formed, and the marks of such a history are defined too.
+fn calls_of(alloc: Global, history: &[Op]) -> Result<Vec<Pair>, AllocError>
+    ensures { IfOk result (λ calls. calls.items ≡ history_pairs (operations history.now)) }
+{
+    let mut next = BTreeMap::new(alloc);
+    let mut calls = Vec::new(alloc);
+    let mut place = history.len();
+    while place > 0 {
+        place -= 1;
+        let op = &history[place];
+        if let Process::Client(client) = op.process {
+            let outcome = next.get(&client).copied();
+            push_call(op.kind, place, outcome, &mut calls)?;
+            next.insert(client, place)?;
+        }
+    }
+    calls.reverse();
+    Ok(calls)
+}
+
+/// Where the reads that happened end, in order.
+fn ends_of(alloc: Global, history: &[Op]) -> Result<Vec<usize>, AllocError>
+    ensures { IfOk result (λ ends. ends.items
+        ≡ counter.read_ends (operations history.now) (history_pairs (operations history.now))) }
+{
+    let calls = calls_of(alloc, history)?;
+    read_ends(alloc, history, &calls)
+}
+
+/// Whether a read lies within its bounds.
+fn is_within(read: ReadBounds) -> bool
+    ensures { result ≡ counter.is_in_bounds read }
+{
+    let value = i128::from(read.value);
+    read.lower <= value && value <= read.upper
+}
+
+/// The bounds, where a read lies outside.
+fn outside_note(read: ReadBounds) -> Option<Note>
+    ensures { result ≡ rule.outside_note read }
+{
+    let note = Note::Outside {
+        lower: read.lower,
+        upper: read.upper,
+    };
+    noted(!is_within(read), note)
+}
+
+/// The bounds of the read that ends at an index, if one does.
+fn bounds_at(
+    reads: &[ReadBounds],
+    places: &BTreeMap<usize, usize>,
+    index: usize,
+) -> Option<ReadBounds>
+    ensures { result ≡ bounds_with reads.now places.now index }
+{
+    let place = place_of(places, index)?;
+    reads.get(place).copied()
+}
+
+/// The bounds, where a call is a read that lies outside.
+fn counter_note(reads: &[ReadBounds], places: &BTreeMap<usize, usize>, call: &Call) -> Option<Note>
+    ensures { result ≡ option_and_then rule.outside_note
+        (option_and_then (bounds_with reads.now places.now) call.now.completion) }
+{
+    let index = call.completion?;
+    let read = bounds_at(reads, places, index)?;
+    outside_note(read)
+}
+
+/// A mark at each read outside its bounds.
+pub(crate) fn counter_marks(
+    alloc: Global,
+    reads: &[ReadBounds],
+    history: &[Op],
+    bars: &[Bar],
+) -> Result<Vec<Mark>, AllocError>
+    ensures { IfOk result (λ marks. marks.items
+        ≡ marks_by (rule.counter_note reads.now (operations history.now)) bars.now) }
+{
+    let ends = ends_of(alloc, history)?;
+    let places = places_of(alloc, &ends)?;
+    let mut marks = Vec::new(alloc);
+    for (number, bar) in bars.iter().enumerate() {
+        push_note(counter_note(reads, &places, &bar.call), number, &mut marks)?;
+    }
+    Ok(marks)
+}

@@ -1,0 +1,82 @@
+//! Numbers of calls, and the marks of an order that has these. `specs/Marked.antt` has the rule.
+
+ghost use Rattle.std.specs.Prelude.{◌≡◌, ℕ, IfOk, option_map};
+ghost use Rattle.std.specs.BTreeMap.{get};
+ghost use Rattle.std.specs.Ordering.{nat_cmp};
+ghost use Rattle.jh_ops.specs.Operation.{operations};
+ghost use Rattle.jh_timeline_marks.specs.Marked as rule;
+ghost use Rattle.jh_timeline_marks.specs.Marked.{marks_by, place_among, placed_note};
+ghost use Rattle.jh_timeline_marks.specs.MarkedInside as inside;
+
+use crate::notes::push_note;
+use crate::places::{place_through, places_of};
+use jh_ops::{Kind, Op, Process};
+use jh_timeline::{Bar, Mark, Note};
+use std::alloc::{AllocError, Global};
+use std::collections::BTreeMap;
+
+/// Whether a client invokes something.
+fn is_invocation(op: &Op) -> bool
+    ensures { result ≡ inside.is_invocation op.now }
+{
+    match (op.process, op.kind) {
+        (Process::Client(_), Kind::Invoke) => true,
+        _ => false,
+    }
+}
+
+/// Where clients invoke something.
+fn invocations(alloc: Global, history: &[Op]) -> Result<Vec<usize>, AllocError>
+    ensures { IfOk result (λ found. found.items ≡ inside.invocations history.now) }
+{
+    history
+        .iter()
+        .enumerate()
+        .filter(|(_, op)| is_invocation(op))
+        .map(|(index, _)| index)
+        .collect(alloc)
+}
+
+/// The number that calls have in orders, by where they are invoked.
+pub(crate) fn numbers_of(
+    alloc: Global,
+    history: &[Op],
+) -> Result<BTreeMap<usize, usize>, AllocError>
+    ensures { IfOk result (λ numbers. (index : ℕ)
+        → get nat_cmp numbers index
+        ≡ place_among (rule.invocations_of (operations history.now)) index) }
+{
+    let found = invocations(alloc, history)?;
+    places_of(alloc, &found)
+}
+
+/// The place in an order, as a note.
+pub(crate) fn placed(place: Option<usize>) -> Option<Note>
+    ensures { result ≡ option_map Note.Placed place }
+{
+    match place {
+        Some(place) => Some(Note::Placed(place)),
+        None => None,
+    }
+}
+
+/// A mark at each call that an order has, with its first place there.
+pub(crate) fn placed_marks(
+    alloc: Global,
+    order: &[usize],
+    history: &[Op],
+    bars: &[Bar],
+) -> Result<Vec<Mark>, AllocError>
+    ensures { IfOk result
+        (λ marks. marks.items
+        ≡ marks_by (placed_note order.now (operations history.now)) bars.now) }
+{
+    let numbers = numbers_of(alloc, history)?;
+    let places = places_of(alloc, order)?;
+    let mut marks = Vec::new(alloc);
+    for (number, bar) in bars.iter().enumerate() {
+        let place = place_through(&numbers, &places, bar.call.invoke);
+        push_note(placed(place), number, &mut marks)?;
+    }
+    Ok(marks)
+}

@@ -1,0 +1,83 @@
+//! The marks of registers. `specs/Marked.antt` has the rule.
+
+ghost use Rattle.std.specs.Prelude.{◌≡◌, IfOk};
+ghost use Rattle.jh_ops.specs.Operation.{operations};
+ghost use Rattle.jh_timeline_marks.specs.Marked as rule;
+ghost use Rattle.jh_timeline_marks.specs.Marked.{marks_by, register_note};
+ghost use Rattle.jh_timeline_marks.specs.MarkedInside as inside;
+
+use crate::notes::{no_marks, push_note};
+use crate::operations::is_completed_at;
+use crate::orders::{numbers_of, placed, placed_marks};
+use crate::places::{place_through, places_of};
+use jh_checkers::Explanation;
+use jh_linear::{LinVerdict, Stuck};
+use jh_ops::Op;
+use jh_timeline::{Bar, Call, Mark, Note};
+use std::alloc::{AllocError, Global};
+
+/// The numbers of what is pending, where that is known.
+fn pending_in(explanation: &Option<Explanation>) -> &[usize]
+    ensures { result.now ≡ rule.pending_numbers_in explanation.now }
+{
+    match explanation {
+        Some(given) => given.pending.as_slice(),
+        None => &[],
+    }
+}
+
+/// The note of a call where a history is stuck, with this place in the order of what is before.
+fn stuck_note(end: usize, pending: bool, place: Option<usize>, call: &Call) -> Option<Note>
+    ensures { result ≡ inside.stuck_note_with end pending place call.now }
+{
+    if is_completed_at(end, call) {
+        Some(Note::Stuck)
+    } else if pending {
+        Some(Note::Pending(place))
+    } else {
+        placed(place)
+    }
+}
+
+/// Marks at the call where the history is stuck, at what is pending there, and at what the order
+/// before it has.
+fn invalid_marks(
+    alloc: Global,
+    stuck: &Stuck,
+    explanation: &Option<Explanation>,
+    history: &[Op],
+    bars: &[Bar],
+) -> Result<Vec<Mark>, AllocError>
+    ensures { IfOk result (λ marks. marks.items
+        ≡ marks_by (rule.stuck_note stuck.now explanation.now (operations history.now)) bars.now) }
+{
+    let numbers = numbers_of(alloc, history)?;
+    let pending = places_of(alloc, pending_in(explanation))?;
+    let places = places_of(alloc, stuck.order.as_slice())?;
+    let mut marks = Vec::new(alloc);
+    for (number, bar) in bars.iter().enumerate() {
+        let is_pending = place_through(&numbers, &pending, bar.call.invoke).is_some();
+        let place = place_through(&numbers, &places, bar.call.invoke);
+        let note = stuck_note(stuck.end, is_pending, place, &bar.call);
+        push_note(note, number, &mut marks)?;
+    }
+    Ok(marks)
+}
+
+/// The marks of what the judge of a register says.
+pub(crate) fn register_marks(
+    alloc: Global,
+    judged: &LinVerdict,
+    explanation: &Option<Explanation>,
+    history: &[Op],
+    bars: &[Bar],
+) -> Result<Vec<Mark>, AllocError>
+    ensures { IfOk result (λ marks. marks.items
+        ≡ marks_by (register_note judged.now explanation.now (operations history.now)) bars.now) }
+{
+    match judged {
+        LinVerdict::Valid(order) => placed_marks(alloc, order.as_slice(), history, bars),
+        LinVerdict::Invalid(stuck) => invalid_marks(alloc, stuck, explanation, history, bars),
+        LinVerdict::Unknown(_) => Ok(no_marks(alloc, bars)),
+    }
+}

@@ -1,0 +1,12 @@
+use Rattle.std.proofs.lemmas.Result.{on_ok_weaker}
+use Rattle.jh_edn.proofs.CitedLemmas.{appends_then}
+use Rattle.jh_timeline_pages.proofs.drawing.write_fault.Goals as goal
+
+pub returns : goal.returns
+returns g c =
+    let contents = g.W.Write.contents in
+    let start = contents c.args.writer.now in
+    let one = appends_then start (contents c.write_line.new.writer) (contents c.write_record.new.writer) _ _ c.in_ok-write_line.ensures c.in_ok-write_record.ensures in
+    let two = appends_then start (contents c.write_record.new.writer) (contents c.put.new.writer) _ _ one c.in_ok-put.ensures.bytes in
+    let three = appends_then start (contents c.put.new.writer) (contents c.write_label.new.writer) _ _ two c.in_ok-write_label.ensures in
+    on_ok_weaker c.put-2.result (λ end. appends_then start (contents c.write_label.new.writer) (contents c.put-2.new.writer) _ _ three end) c.put-2.ensures.bytes

@@ -1,0 +1,256 @@
+//! The page of histories. `specs/Page.antt` has the rule.
+
+ghost use Rattle.std.specs.Prelude.{◌≡◌, All, OnOk};
+ghost use Rattle.std.specs.Io.KnownBytes.{Appends};
+ghost use Rattle.std.specs.List.{enumerate_from, flat_map};
+ghost use Rattle.jh_ops.specs.OperationWritten.{IsWritable};
+ghost use Rattle.jh_timeline_pages.specs.Page as rule;
+ghost use Rattle.jh_timeline_pages.specs.Page.{below_text, client_text, contents_text, heading_text};
+ghost use Rattle.jh_timeline_pages.specs.Page.{lane_text, section_link_text};
+ghost use Rattle.jh_timeline_pages.specs.Page.{anchor_text, page_text, drawn_records_text, section_text};
+ghost use Rattle.jh_timeline_pages.specs.Page.{window_text};
+
+use crate::drawing::{end_in, write_picture};
+use crate::error::PageError;
+use crate::markup::{put, write_escaped_bytes};
+use crate::section::Section;
+use crate::top::{Top, write_top};
+use jh_timeline::{Lane, Window};
+use std::alloc::Global;
+use std::io::Write;
+
+/// Writes the end of a tag with the name of a section, or a link to it.
+fn write_name<W: Write>(tag: &str, number: usize, writer: &mut W) -> Result<(), PageError>
+    ensures { OnOk result
+        (Appends (W.contents writer.old) (W.contents writer.new) (anchor_text tag.now number)) }
+{
+    write!(writer, "{tag}part-{number}\">").map_err(|_| PageError::Write)
+}
+
+/// Writes the heading of a section.
+fn write_heading<W: Write>(
+    alloc: Global,
+    number: usize,
+    heading: &[u8],
+    writer: &mut W,
+) -> Result<(), PageError>
+    ensures { OnOk result
+        (Appends (W.contents writer.old) (W.contents writer.new)
+        (heading_text number heading.now)) }
+{
+    if heading.is_empty() {
+        return write_name("<p id=\"", number, writer);
+    }
+    write_name("<h2 id=\"", number, writer)?;
+    write_escaped_bytes(alloc, heading, writer)?;
+    put(b"</h2>\n<p>", writer)
+}
+
+/// Whether all records are drawn.
+fn is_whole(window: Window, total: usize) -> bool
+    ensures { result ≡ rule.is_whole window total }
+{
+    window.from == 0 && total <= window.to
+}
+
+/// Writes that records from one to another are drawn.
+fn write_range<W: Write>(
+    first: usize,
+    last: usize,
+    total: usize,
+    writer: &mut W,
+) -> Result<(), PageError>
+    ensures { OnOk result
+        (Appends (W.contents writer.old) (W.contents writer.new)
+        (drawn_records_text first last total)) }
+{
+    write!(
+        writer,
+        "Records {first} to {last} of {total}; --from and --to choose others.</p>\n"
+    )
+    .map_err(|_| PageError::Write)
+}
+
+/// Writes which of so many records are drawn.
+fn write_window<W: Write>(window: Window, total: usize, writer: &mut W) -> Result<(), PageError>
+    ensures { OnOk result
+        (Appends (W.contents writer.old) (W.contents writer.new) (window_text window total)) }
+{
+    let end = end_in(window, total);
+    if is_whole(window, total) {
+        write!(writer, "All {total} records.</p>\n").map_err(|_| PageError::Write)
+    } else if window.from < end {
+        write_range(window.from, end - 1, total, writer)
+    } else {
+        write!(
+            writer,
+            "No record of {total}; --from and --to choose others.</p>\n"
+        )
+        .map_err(|_| PageError::Write)
+    }
+}
+
+/// Writes the processes that a lane had.
+fn write_clients<W: Write>(lane: &Lane, writer: &mut W) -> Result<(), PageError>
+    ensures { OnOk result (Appends (W.contents writer.old) (W.contents writer.new)
+        (flat_map client_text lane.now.clients.items)) }
+{
+    for client in &lane.clients {
+        write!(writer, " {client}").map_err(|_| PageError::Write)?;
+    }
+    Ok(())
+}
+
+/// Writes a lane.
+fn write_lane<W: Write>(lane: &Lane, writer: &mut W) -> Result<(), PageError>
+    ensures { OnOk result
+        (Appends (W.contents writer.old) (W.contents writer.new) (lane_text lane.now)) }
+{
+    put(b"<li>process", writer)?;
+    write_clients(lane, writer)?;
+    put(b"</li>\n", writer)
+}
+
+/// Writes all lanes.
+fn write_lanes<W: Write>(lanes: &[Lane], writer: &mut W) -> Result<(), PageError>
+    ensures { OnOk result
+        (Appends (W.contents writer.old) (W.contents writer.new) (flat_map lane_text lanes.now)) }
+{
+    for lane in lanes {
+        write_lane(lane, writer)?;
+    }
+    Ok(())
+}
+
+/// Writes a history.
+fn write_section<W: Write>(
+    alloc: Global,
+    number: usize,
+    section: &Section,
+    writer: &mut W,
+) -> Result<(), PageError>
+    requires { All (λ op. IsWritable op.process) section.now.history.items }
+    ensures { OnOk result
+        (Appends (W.contents writer.old) (W.contents writer.new)
+        (section_text number section.now)) }
+{
+    put(b"<section>\n", writer)?;
+    write_heading(alloc, number, section.heading.as_slice(), writer)?;
+    write_window(section.window, section.history.len(), writer)?;
+    put(b"<ol class=\"lanes\">\n", writer)?;
+    write_lanes(section.picture.lanes.as_slice(), writer)?;
+    put(b"</ol>\n", writer)?;
+    write_picture(alloc, section, writer)?;
+    put(b"</section>\n", writer)
+}
+
+/// Writes all histories.
+fn write_sections<W: Write>(
+    alloc: Global,
+    sections: &[Section],
+    writer: &mut W,
+) -> Result<(), PageError>
+    requires { All (λ section. All (λ op. IsWritable op.process) section.history.items)
+        sections.now }
+    ensures { OnOk result (Appends (W.contents writer.old) (W.contents writer.new)
+        (flat_map (λ numbered. section_text numbered.0 numbered.1)
+        (enumerate_from 0 sections.now))) }
+{
+    for (number, section) in sections.iter().enumerate() {
+        write_section(alloc, number, section, writer)?;
+    }
+    Ok(())
+}
+
+/// Writes a link to a section.
+fn write_link<W: Write>(
+    alloc: Global,
+    number: usize,
+    section: &Section,
+    writer: &mut W,
+) -> Result<(), PageError>
+    ensures { OnOk result
+        (Appends (W.contents writer.old) (W.contents writer.new)
+        (section_link_text number section.now)) }
+{
+    write_name("<li><a href=\"#", number, writer)?;
+    write_escaped_bytes(alloc, section.heading.as_slice(), writer)?;
+    put(b"</a></li>\n", writer)
+}
+
+/// Writes a link to each section.
+fn write_links<W: Write>(
+    alloc: Global,
+    sections: &[Section],
+    writer: &mut W,
+) -> Result<(), PageError>
+    ensures { OnOk result (Appends (W.contents writer.old) (W.contents writer.new)
+        (flat_map (λ numbered. section_link_text numbered.0 numbered.1)
+        (enumerate_from 0 sections.now))) }
+{
+    for (number, section) in sections.iter().enumerate() {
+        write_link(alloc, number, section, writer)?;
+    }
+    Ok(())
+}
+
+/// Writes the table of contents, where there is more than one section.
+fn write_contents<W: Write>(
+    alloc: Global,
+    sections: &[Section],
+    writer: &mut W,
+) -> Result<(), PageError>
+    ensures { OnOk result
+        (Appends (W.contents writer.old) (W.contents writer.new) (contents_text sections.now)) }
+{
+    if sections.len() <= 1 {
+        return Ok(());
+    }
+    put(b"<ul>\n", writer)?;
+    write_links(alloc, sections, writer)?;
+    put(b"</ul>\n", writer)
+}
+
+/// Writes what stands below all sections.
+fn write_below<W: Write>(alloc: Global, below: &[u8], writer: &mut W) -> Result<(), PageError>
+    ensures { OnOk result
+        (Appends (W.contents writer.old) (W.contents writer.new) (below_text below.now)) }
+{
+    if below.is_empty() {
+        return Ok(());
+    }
+    put(b"<pre>", writer)?;
+    write_escaped_bytes(alloc, below, writer)?;
+    put(b"</pre>\n", writer)
+}
+
+/// Writes a page: its top, a table of contents where there is more than one section, then each
+/// section with its picture, and a text below them all, if there is one.
+///
+/// Processes can be written, which `Process::is_writable` tests. A bar or a fault whose index its
+/// history lacks is not drawn, nor is a mark whose bar its picture lacks. A bar has at most one
+/// mark, or else their texts lie upon each other.
+///
+/// The writer may have taken a part of the page where this failed.
+///
+/// Errors:
+/// - `Write`: the writer failed;
+/// - `OutOfMemory`.
+pub fn write_page<W: Write>(
+    alloc: Global,
+    top: &Top,
+    sections: &[Section],
+    below: &[u8],
+    writer: &mut W,
+) -> Result<(), PageError>
+    requires { All (λ section. All (λ op. IsWritable op.process) section.history.items)
+        sections.now }
+    ensures { OnOk result (Appends (W.contents writer.old) (W.contents writer.new)
+        (page_text top.now sections.now below.now)) }
+{
+    write_top(alloc, top, writer)?;
+    write_contents(alloc, sections, writer)?;
+    write_sections(alloc, sections, writer)?;
+    write_below(alloc, below, writer)?;
+    put(b"</body>\n</html>\n", writer)
+}

@@ -1,0 +1,8 @@
+use Rattle.jh_timeline_sections.specs.HistoryAndRest.{active}
+use Rattle.jh_timeline_sections.proofs.FirstLineLemmas.{behind_feed}
+use Rattle.jh_timeline_sections.proofs.rest.first_line.Goals as goal
+
+pub returns-in-Some-clause-place : goal.returns-in-Some-clause-place
+returns-in-Some-clause-place c =
+    let found = c.in-Some.ensures.cases in
+    behind_feed active c.args.text.now c.in-Some.before found.0 c.if-starts_with.ensures.cases found.1.0 found.1.1

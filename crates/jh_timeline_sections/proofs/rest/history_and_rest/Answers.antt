@@ -1,0 +1,6 @@
+use Rattle.jh_timeline_sections.proofs.FirstLineLemmas.{means_none}
+use Rattle.jh_timeline_sections.proofs.rest.history_and_rest.Goals as goal
+
+pub history_before-requires-clause-none : goal.history_before-requires-clause-none
+history_before-requires-clause-none c =
+    means_none c.args.text.now c.in-Err.error c.spelled_once.ensures (λ of. let wrong = c.if-is_of_bytes.ensures.1 of in cc) c.in-Err.ensures.refused

@@ -1,0 +1,136 @@
+//! Which part of a text is a history. `specs/HistoryAndRest.antt` has the rule.
+
+ghost use Rattle.std.specs.Prelude.{◌↔◌, All, IfErr, IfOk, IfSome, IsTrue, MatchOption};
+ghost use Rattle.std.specs.Str.{IsCharBoundary};
+ghost use Rattle.jh_histories.specs.Histories.{RefusesHistoryOf};
+ghost use Rattle.jh_ops.specs.Operation.{operations};
+ghost use Rattle.jh_ops.specs.OperationWritten.{IsWritable};
+ghost use Rattle.jh_timeline_sections.specs.HistoryAndRest.{AreHistoryAndRest, HasNoLine, IsFirstLine};
+ghost use Rattle.jh_timeline_sections.specs.HistoryAndRest.{active, IsBehindEnd, IsOfBytes};
+ghost use Rattle.jh_timeline_sections.specs.HistoryAndRest.{RefusesHistoryAndRest, IsNoHistory};
+
+use jh_edn::{EdnError, read_bytes, spelled_once};
+use jh_histories::{ReadHistoryError, history_in};
+use jh_ops::{HistoryError, Op};
+use std::alloc::Global;
+use std::io::Read;
+
+/// A text in two parts.
+#[derive(Drop)]
+pub struct HistoryAndRest {
+    pub history: Vec<Op>,
+    /// What is no part of the history, as it is in the text.
+    pub below: Vec<u8>,
+}
+
+/// Where the first line begins that begins with `:active`.
+fn first_line(text: &str) -> Option<usize>
+    ensures place { MatchOption result (HasNoLine active text.now) (IsFirstLine active text.now) }
+    ensures boundary { IfSome result (IsCharBoundary text.now) }
+{
+    if text.starts_with(":active") {
+        return Some(0);
+    }
+    match text.find("\n:active") {
+        Some(before) => Some(before + 1),
+        None => None,
+    }
+}
+
+/// What stands behind the first line `:end`, and all of the text where it has none.
+fn behind_end(text: &str) -> &str
+    ensures { IsBehindEnd text.now result.now }
+{
+    if text.starts_with(":end\n") {
+        return &text[5..];
+    }
+    match text.find("\n:end\n") {
+        Some(before) => &text[before + 6..],
+        None => text,
+    }
+}
+
+/// Whether an error does not come from what a text holds.
+fn is_of_bytes(error: ReadHistoryError) -> bool
+    ensures { IsTrue result ↔ IsOfBytes error }
+{
+    matches!(
+        error,
+        ReadHistoryError::Text(
+            EdnError::Utf8 | EdnError::TooLong | EdnError::Read | EdnError::OutOfMemory
+        ) | ReadHistoryError::History(HistoryError::OutOfMemory)
+    )
+}
+
+/// The parts of a text that is no history as a whole, for this reason.
+fn history_before(
+    alloc: Global,
+    text: &str,
+    whole: ReadHistoryError,
+) -> Result<HistoryAndRest, ReadHistoryError>
+    requires refused { RefusesHistoryOf text.now whole }
+    requires none { IsNoHistory text.now }
+    ensures parsed { IfOk result (λ parts.
+        AreHistoryAndRest text.now (operations parts.history.items) parts.below.items) }
+    ensures writable { IfOk result (λ parts.
+        All (λ op. IsWritable op.process) parts.history.items) }
+    ensures refused { IfErr result (RefusesHistoryAndRest text.now) }
+{
+    let Some(end) = first_line(text) else {
+        return Err(whole);
+    };
+    let history = history_in(alloc, behind_end(&text[..end]))?;
+    let below = Vec::from_slice(alloc, &text.as_bytes()[end..])?;
+    Ok(HistoryAndRest { history, below })
+}
+
+/// The history that a text means, and what is below it. Where the whole text is a history, nothing
+/// is. Else, if there is a line that begins with `:active`, as the first of those that `jeprun run`
+/// and `jeprun drive` print behind a history, that line and all behind it is below, and what stands
+/// before the first such line is the history: of that, what stands behind the first line `:end`, where
+/// there is one, for `drive` prints the conversation before it.
+///
+/// Errors: those of `history_in` for the whole text, where memory runs out or there is no line
+/// `:active`; else those for the part that is the history.
+///
+/// Reads the text at most twice, looks for each of these lines once, and copies what is below.
+pub fn history_and_rest(alloc: Global, text: &str) -> Result<HistoryAndRest, ReadHistoryError>
+    ensures parsed { IfOk result (λ parts.
+        AreHistoryAndRest text.now (operations parts.history.items) parts.below.items) }
+    ensures writable { IfOk result (λ parts.
+        All (λ op. IsWritable op.process) parts.history.items) }
+    ensures refused { IfErr result (RefusesHistoryAndRest text.now) }
+{
+    spelled_once();
+    match history_in(alloc, text) {
+        Ok(history) => Ok(HistoryAndRest {
+            history,
+            below: Vec::new(alloc),
+        }),
+        Err(error) if is_of_bytes(error) => Err(error),
+        Err(error) => history_before(alloc, text, error),
+    }
+}
+
+/// The parts of the text of a reader, as `history_and_rest` gives them, read in at most `turns`
+/// reads. The text is dropped before they are given.
+///
+/// Errors: those of `jh_edn::read_bytes`, then `Utf8`, then those of `history_and_rest`.
+pub fn read_history_and_rest<R: Read>(
+    alloc: Global,
+    reader: &mut R,
+    turns: u32,
+) -> Result<HistoryAndRest, ReadHistoryError>
+    ensures parsed { IfOk result (λ parts. IfSome (R.remaining reader.old) (λ bytes.
+        AreHistoryAndRest bytes (operations parts.history.items) parts.below.items)) }
+    ensures writable { IfOk result (λ parts.
+        All (λ op. IsWritable op.process) parts.history.items) }
+    ensures refused { IfErr result (λ e.
+        IfSome (R.remaining reader.old) (λ bytes. RefusesHistoryAndRest bytes e)) }
+{
+    let bytes = read_bytes(alloc, reader, turns)?;
+    let Ok(text) = str::from_utf8(&bytes) else {
+        return Err(ReadHistoryError::Text(EdnError::Utf8));
+    };
+    history_and_rest(alloc, text)
+}
