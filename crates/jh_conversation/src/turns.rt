@@ -52,7 +52,8 @@ fn keeps_rate(rate: Option<u32>, given: u64, now: u64) -> bool
 {
     match rate {
         None => true,
-        Some(rate) => u128::from(given) * NANOSECONDS_A_SECOND <= u128::from(now) * u128::from(rate),
+        Some(rate) => u128::from(given) * NANOSECONDS_A_SECOND
+            <= u128::from(now) * u128::from(rate),
     }
 }
 

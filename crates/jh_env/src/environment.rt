@@ -3,7 +3,7 @@
 
 ghost use Rattle.std.specs.Prelude.{◌≡◌, ◌<◌, ◌≤◌, ◌+◌, [], length, IfOk, IfSome};
 ghost use Rattle.jh_tables.specs.Standing.{IsLinkInRange, IsNodeInRange, IsPut, IsTaken};
-ghost use Rattle.jh_tables.specs.Standing.{StandsAtSome, max_put};
+ghost use Rattle.jh_tables.specs.Standing.{StandsAtSome, max_laid};
 ghost use Rattle.jh_env.specs.Names.{AreFew, AreNodeNames};
 ghost use Rattle.jh_env.specs.Overlay.{StandsFor, StandsWith, KeepsStart, cells_of, link_of};
 ghost use Rattle.jh_env.specs.Overlay.{node_of, tables_of, work_of};
@@ -119,7 +119,7 @@ impl Env {
     /// the fault names, and one entry for a fix.
     pub fn put(&mut self, fault: &Fault, stamp: u32)
         requires fits { FitsCount (length self.old.names) fault.now }
-        requires room { self.old.laid < max_put }
+        requires room { self.old.laid < max_laid }
         ensures stands { IsPut (stamp, fault.now) (tables_of self.old) (tables_of self.new) }
         ensures kept { KeepsStart self.old self.new }
         ensures work { work_of self.new ≤ work_of self.old + fault_size fault.now }

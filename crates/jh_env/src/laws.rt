@@ -1,7 +1,7 @@
 //! A law of the limits, the clause of a function that does nothing.
 
 ghost use Rattle.std.specs.Prelude.{◌≡◌, ◌^◌, pos};
-ghost use Rattle.jh_tables.specs.Standing.{max_put, max_delay, max_offset};
+ghost use Rattle.jh_tables.specs.Standing.{max_laid, max_delay, max_offset};
 
 use crate::environment::{MAX_DELAY_MS, MAX_LAID, MAX_OFFSET_MS};
 use crate::faults::{MAX_BUMPED_MS, MAX_FIXED_MS, MAX_LOSS, MAX_SLOWED_MS};
@@ -9,7 +9,7 @@ use crate::starting::{MAX_START_DELAY_MS, MAX_START_LOSS, MAX_START_OFFSET_MS};
 
 /// The limits that code can name are the numbers of the definitions.
 pub fn limits()
-    ensures put { MAX_LAID ≡ max_put }
+    ensures put { MAX_LAID ≡ max_laid }
     ensures delay { MAX_DELAY_MS ≡ max_delay }
     ensures offset { MAX_OFFSET_MS ≡ max_offset }
     ensures start_delay { MAX_START_DELAY_MS ≡ 60000 }

@@ -16,8 +16,8 @@ use Rattle.jh_nemesis.specs.Work.{NemesisValue, faults_only_in}
 use Rattle.jh_nemesis.specs.NemesisInside.{nemesis_of, state_from, state_of}
 use Rattle.jh_nemesis.specs.declared.nemesis.Nemesis.TheInside.{Inside}
 use Rattle.jh_nemesis.specs.RecordsInside.{active_after, begun_fault, faults_at, moment, past_of, future_of, record_at, stamps_changed, AreRight, AreStamps, IsBegin, IsRight, IsTrueTo}
-use Rattle.jh_nemesis.specs.declared.records.Record.{Record}
-use Rattle.jh_nemesis.specs.declared.records.Record.TheVariants.{Begun, Withdrawn, WithdrawnAll}
+use Rattle.jh_nemesis.specs.declared.records.AcceptedStep.{AcceptedStep}
+use Rattle.jh_nemesis.specs.declared.records.AcceptedStep.TheVariants.{Begun, Withdrawn, WithdrawnAll}
 use Rattle.jh_nemesis.specs.declared.steps.Step.{Step}
 use Rattle.jh_nemesis.specs.declared.steps.Step.TheVariants.{Begin, Withdraw, WithdrawAll, Undo, Redo}
 use Rattle.jh_nemesis.specs.declared.steps.StepAnswer.TheVariants as StepAnswer
@@ -59,14 +59,14 @@ pushed_more id f fs new =
 
 -- ---- at a step that is kept
 
-others_fail : (id : ℕ) (records : List Record) (stamps : List ℕ) → All (λ k. has_id id (begun_fault (record_at records k)) ≡ false) stamps
+others_fail : (id : ℕ) (records : List AcceptedStep) (stamps : List ℕ) → All (λ k. has_id id (begun_fault (record_at records k)) ≡ false) stamps
     → filter (has_id id) (faults_at records stamps) ≡ []
 others_fail id records stamps other =
     none_kept (has_id id) (faults_at records stamps)
     (list_any_none (has_id id) (faults_at records stamps) (All-map (λ (f : ℕ × FaultValue). has_id id f ≡ false) (λ k. begun_fault (record_at records k)) stamps other))
 
 -- the fault of a stamp alone has its id
-stamp_alone : (records : List Record) (active : List ℕ) (id stamp : ℕ) → AllPairs (Apart records) active → Contains active stamp
+stamp_alone : (records : List AcceptedStep) (active : List ℕ) (id stamp : ℕ) → AllPairs (Apart records) active → Contains active stamp
     → (begun_fault (record_at records stamp)).0 ≡ id → filter (has_id id) (faults_at records active) ≡ faults_at records (stamp ∷ [])
 stamp_alone records active id stamp apart inside is =
     let f : ℕ → ℕ × FaultValue = λ k. begun_fault (record_at records k) in
@@ -76,11 +76,11 @@ stamp_alone records active id stamp apart inside is =
     let here : has_id id (f stamp) ≡ true = eq-eqb (f stamp).0 id is in
     rw (s.is, map-append f s.before (stamp ∷ s.after), filter-append (has_id id) (faults_at records s.before) (f stamp ∷ faults_at records s.after), before, here, after) refl
 
-abbrev IsStamp : List Record → ℕ → Type 0
+abbrev IsStamp : List AcceptedStep → ℕ → Type 0
 IsStamp records k = (k < length records) × IsBegin (record_at records k)
 
 -- one of some stamps
-pub one_known : (records : List Record) (stamps : List ℕ) (stamp : ℕ) → AreStamps records stamps → Contains stamps stamp → AreStamps records (stamp ∷ [])
+pub one_known : (records : List AcceptedStep) (stamps : List ℕ) (stamp : ℕ) → AreStamps records stamps → Contains stamps stamp → AreStamps records (stamp ∷ [])
 one_known records stamps stamp known inside =
     All-cons (IsStamp records) stamp [] (All-contains (IsStamp records) stamps stamp known inside) (All-nil (IsStamp records))
 
@@ -88,8 +88,8 @@ one_known records stamps stamp known inside =
 abbrev AreChanges : Active → Active → List FaultValue → Type 0
 AreChanges before after named = IsChange before after named × IsChange after before named
 
-module _ (nodes : ℕ) (records : List Record) (right : AreRight nodes records) (n : ℕ) (within : n < length records) where
-  record_changes : (step : Record) → record_at records n ≡ step → AreChanges (moment records n) (moment records (n + 1)) (faults_in (faults_at records (stamps_changed n step)))
+module _ (nodes : ℕ) (records : List AcceptedStep) (right : AreRight nodes records) (n : ℕ) (within : n < length records) where
+  record_changes : (step : AcceptedStep) → record_at records n ≡ step → AreChanges (moment records n) (moment records (n + 1)) (faults_in (faults_at records (stamps_changed n step)))
   record_changes (Begun id fault) at =
       let more = pushed_more id fault (moment records n) (begun_right nodes records right n within id fault at).2 in
       let both : AreChanges (moment records n) (moment records n ++ (id, fault) ∷ []) (fault ∷ []) = (begun _ _ _ more, ended _ _ _ more) in
@@ -107,7 +107,7 @@ module _ (nodes : ℕ) (records : List Record) (right : AreRight nodes records) 
       let both : AreChanges (moment records n) [] (faults_in (moment records n)) = (ended _ _ _ more, begun _ _ _ more) in
       rw (none, is) both
 
-  record_known : (step : Record) → record_at records n ≡ step → AreStamps records (stamps_changed n step)
+  record_known : (step : AcceptedStep) → record_at records n ≡ step → AreStamps records (stamps_changed n step)
   record_known (Begun id fault) at =
       All-cons (IsStamp records) n [] (within, subst IsBegin (sym at) tt) (All-nil (IsStamp records))
   record_known (Withdrawn stamp) at =
@@ -155,7 +155,7 @@ redo_ok : (b : Bool) → is_ok (if b then StepAnswer.NothingToRedo else StepAnsw
 redo_ok true ok = cc
 redo_ok false ok = refl
 
-module _ {env : EnvValue} {records : List Record} {cursor : ℕ} {active : List ℕ} (sound : IsTrueTo env records cursor active) where
+module _ {env : EnvValue} {records : List AcceptedStep} {cursor : ℕ} {active : List ℕ} (sound : IsTrueTo env records cursor active) where
   abbrev now : State
   now = state_from env records cursor active
 

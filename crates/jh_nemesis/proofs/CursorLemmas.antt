@@ -13,37 +13,37 @@ use Rattle.jh_nemesis.specs.Steps.{begin_answer, withdraw_answer, withdraw_all_a
 use Rattle.jh_nemesis.specs.RecordsInside.{record_at, stamps_after, stamps_before, active_after, begun_fault, faults_at, past_of, future_of, faults_with_stamps, AreStamps, IsBegin, IsRight, IsTrueTo}
 use Rattle.jh_nemesis.specs.NemesisInside.{state_from}
 use Rattle.jh_nemesis.specs.Work.{size_between}
-use Rattle.jh_nemesis.specs.declared.records.Record.{Record}
-use Rattle.jh_nemesis.specs.declared.records.Record.TheVariants.{Begun, Withdrawn, WithdrawnAll}
+use Rattle.jh_nemesis.specs.declared.records.AcceptedStep.{AcceptedStep}
+use Rattle.jh_nemesis.specs.declared.records.AcceptedStep.TheVariants.{Begun, Withdrawn, WithdrawnAll}
 use Rattle.jh_nemesis.specs.Steps.{max_active, max_steps}
 use Rattle.jh_nemesis.specs.declared.steps.Step.TheVariants.{Begin, Withdraw, WithdrawAll}
 use Rattle.jh_nemesis.specs.declared.steps.StepAnswer.TheVariants as StepAnswer
 use Rattle.jh_nemesis.proofs.RecordLemmas.{SameBelow, same_active, same_faults, same_past, same_stamped, same_right, stamps_below, are_stamps, few_after, apart_after, back_again, without_stamp, length-past, Apart}
 
 -- a cursor is at the start where no step lies before it
-pub at_start : (records : List Record) (cursor : ℕ) → eqb cursor 0 ≡ is_empty (past_of records cursor)
+pub at_start : (records : List AcceptedStep) (cursor : ℕ) → eqb cursor 0 ≡ is_empty (past_of records cursor)
 at_start records zero = refl
 at_start records (suc n) = ne_eqb (suc n) 0 (λ e. absurd (omega arith))
 
-pub has_past : (records : List Record) (cursor : ℕ) → is_empty (past_of records cursor) ≡ false → 0 < cursor
+pub has_past : (records : List AcceptedStep) (cursor : ℕ) → is_empty (past_of records cursor) ≡ false → 0 < cursor
 has_past records zero h = absurd cc
 has_past records (suc n) h = omega arith
 
 -- and at the end where none lies after it
-count_left : (records : List Record) (cursor end count : ℕ) → cursor + count ≡ end
+count_left : (records : List AcceptedStep) (cursor end count : ℕ) → cursor + count ≡ end
     → eqb cursor end ≡ is_empty (future_of records cursor count)
 count_left records cursor end zero e = eq-eqb cursor end (omega arith)
 count_left records cursor end (suc n) e = ne_eqb cursor end (λ same. absurd (omega arith))
 
-pub at_end : (records : List Record) (cursor : ℕ) → cursor ≤ length records
+pub at_end : (records : List AcceptedStep) (cursor : ℕ) → cursor ≤ length records
     → eqb cursor (length records) ≡ is_empty (future_of records cursor (length records - cursor))
 at_end records cursor within = count_left records cursor (length records) (length records - cursor) (omega arith)
 
-has_more : (records : List Record) (cursor count : ℕ) → is_empty (future_of records cursor count) ≡ false → 0 < count
+has_more : (records : List AcceptedStep) (cursor count : ℕ) → is_empty (future_of records cursor count) ≡ false → 0 < count
 has_more records cursor zero h = absurd cc
 has_more records cursor (suc n) h = omega arith
 
-pub has_future : (records : List Record) (cursor : ℕ) → is_empty (future_of records cursor (length records - cursor)) ≡ false
+pub has_future : (records : List AcceptedStep) (cursor : ℕ) → is_empty (future_of records cursor (length records - cursor)) ≡ false
     → cursor < length records
 has_future records cursor h = let more = has_more records cursor (length records - cursor) h in omega arith
 
@@ -63,11 +63,11 @@ all_tests_fail false true e = cc
 all_tests_fail false false e = refl
 
 -- fewer steps lie in the past than can be kept
-pub room_left : (records : List Record) (cursor : ℕ) → nat_le max_steps (length (past_of records cursor)) ≡ false
+pub room_left : (records : List AcceptedStep) (cursor : ℕ) → nat_le max_steps (length (past_of records cursor)) ≡ false
     → cursor < max_steps
 room_left records cursor e = rw (length-past records cursor) at (leb-false max_steps (length (past_of records cursor)) e)
 
-module _ {env : EnvValue} {records : List Record} {cursor : ℕ} {active : List ℕ}
+module _ {env : EnvValue} {records : List AcceptedStep} {cursor : ℕ} {active : List ℕ}
     (sound : IsTrueTo env records cursor active) where
   -- what holds of the stamps that some of the steps make active
   pub known_at : (n : ℕ) (stamps : List ℕ) → n ≤ length records → stamps ≡ active_after records n → AreStamps records stamps
@@ -137,9 +137,9 @@ module _ {env : EnvValue} {records : List Record} {cursor : ℕ} {active : List 
       let now : stamps ≡ active_after records (suc cursor) = is ∙ ap (active_after records) (add-one cursor) in
       rw (add-one cursor, left, sound.now, now, same.names, same.start) refl
 
-  module _ (step : Record) where
+  module _ (step : AcceptedStep) where
     -- the steps once this one was put at the cursor
-    abbrev pub put : List Record
+    abbrev pub put : List AcceptedStep
     put = take cursor records ++ step ∷ []
 
     put_same : SameBelow cursor records put
@@ -199,7 +199,7 @@ module _ {env : EnvValue} {records : List Record} {cursor : ℕ} {active : List 
         rw (left, put_here, now, is, put_faults, same_past cursor records put put_same) refl
 
     -- what was written at most once that step was taken
-    pub put_work : (items : List Record) (new after : State) (written work : ℕ) → items ≡ put → new ≡ after
+    pub put_work : (items : List AcceptedStep) (new after : State) (written work : ℕ) → items ≡ put → new ≡ after
         → written ≤ work + size_between (faults_at items active) new.active
         → written ≤ work + size_between (faults_at records active) after.active
     put_work items new after written work is same bound = rw (is, put_faults, same) at bound
@@ -215,27 +215,27 @@ module _ {env : EnvValue} {records : List Record} {cursor : ℕ} {active : List 
   pub withdrawn_faults : (id stamp : ℕ) → Contains active stamp → (begun_fault (record_at records stamp)).0 ≡ id
       → faults_at (put (Withdrawn stamp)) (stamps_after cursor (Withdrawn stamp) active) ≡ active_without (faults_at records active) id
   withdrawn_faults id stamp inside is =
-      let step : Record = Withdrawn stamp in
+      let step : AcceptedStep = Withdrawn stamp in
       let below : All (λ k. k < cursor) active = rw sound.now (stamps_below records cursor) in
       same_faults cursor records (put step) (stamps_after cursor step active) (put_same step)
       (All-filter (λ k. not (eqb k stamp)) (λ k. k < cursor) active below)
       ∙ without_stamp records active id stamp apart inside is
 
   -- the state once a step was put at the cursor and taken
-  taken : (step : Record) (items : List Record) (new : State) (next : Active) → items ≡ put step
+  taken : (step : AcceptedStep) (items : List AcceptedStep) (new : State) (next : Active) → items ≡ put step
       → new ≡ state_forth_to (state_from env items cursor active) (future_of items cursor (length items - cursor))
       → faults_at (put step) (stamps_after cursor step active) ≡ next
       → new ≡ next_state (state_from env records cursor active) next
   taken step items new next is forth faults = rw is at forth ∙ put_state step next faults
 
-  pub begun_state : (id : ℕ) (fault : FaultValue) (items : List Record) (new : State) → items ≡ put (Begun id fault)
+  pub begun_state : (id : ℕ) (fault : FaultValue) (items : List AcceptedStep) (new : State) → items ≡ put (Begun id fault)
       → new ≡ state_forth_to (state_from env items cursor active) (future_of items cursor (length items - cursor))
       → begin_answer (state_from env records cursor active) id ≡ StepAnswer.Ok
       → new ≡ state_after (state_from env records cursor active) (Begin id fault)
   begun_state id fault items new is forth ok =
       rw ok (taken (Begun id fault) items new (faults_at records active ++ (id, fault) ∷ []) is forth (begun_faults id fault))
 
-  pub withdrawn_state : (id stamp : ℕ) (items : List Record) (new : State) → items ≡ put (Withdrawn stamp)
+  pub withdrawn_state : (id stamp : ℕ) (items : List AcceptedStep) (new : State) → items ≡ put (Withdrawn stamp)
       → Contains active stamp → (begun_fault (record_at records stamp)).0 ≡ id
       → new ≡ state_forth_to (state_from env items cursor active) (future_of items cursor (length items - cursor))
       → withdraw_answer (state_from env records cursor active) id ≡ StepAnswer.Ok
@@ -243,7 +243,7 @@ module _ {env : EnvValue} {records : List Record} {cursor : ℕ} {active : List 
   withdrawn_state id stamp items new is inside at forth ok =
       rw ok (taken (Withdrawn stamp) items new (active_without (faults_at records active) id) is forth (withdrawn_faults id stamp inside at))
 
-  pub all_withdrawn_state : (stamps : Vec ℕ Global) (items : List Record) (new : State) → items ≡ put (WithdrawnAll stamps)
+  pub all_withdrawn_state : (stamps : Vec ℕ Global) (items : List AcceptedStep) (new : State) → items ≡ put (WithdrawnAll stamps)
       → new ≡ state_forth_to (state_from env items cursor active) (future_of items cursor (length items - cursor))
       → withdraw_all_answer (state_from env records cursor active) ≡ StepAnswer.Ok
       → new ≡ state_after (state_from env records cursor active) WithdrawAll

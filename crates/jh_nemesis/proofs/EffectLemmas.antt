@@ -12,25 +12,25 @@ use Rattle.jh_nemesis.specs.Steps.{active_without}
 use Rattle.jh_nemesis.specs.RecordsInside.{active_after, begun_fault, faults_at, moment, record_at, fault_with_stamp, faults_with_stamps, AreRight, AreStamps, IsBegin, IsRight}
 use Rattle.jh_nemesis.specs.Work.{faults_only_in, size_between, size_of_all}
 use Rattle.jh_nemesis.specs.Steps.{max_active}
-use Rattle.jh_nemesis.specs.declared.records.Record.{Record}
-use Rattle.jh_nemesis.specs.declared.records.Record.TheVariants.{Begun, Withdrawn}
+use Rattle.jh_nemesis.specs.declared.records.AcceptedStep.{AcceptedStep}
+use Rattle.jh_nemesis.specs.declared.records.AcceptedStep.TheVariants.{Begun, Withdrawn}
 use Rattle.jh_nemesis.proofs.RecordLemmas.{Apart, apart_after, are_stamps, few_after, fit_after, without_stamp}
 use Rattle.jh_nemesis.proofs.StampLemmas.{SplitAt, all_pass, split_at, taken_out}
 
 -- the step that is read
-pub step_read : (records : List Record) (n : ℕ) (step : Record) → n < length records → step ≡ get_or records n step → record_at records n ≡ step
+pub step_read : (records : List AcceptedStep) (n : ℕ) (step : AcceptedStep) → n < length records → step ≡ get_or records n step → record_at records n ≡ step
 step_read records n step within is = get_or_default records n (Withdrawn 0) step within ∙ sym is
 
 -- ---- in order of their stamps
 
-pub stamps_rise : (records : List Record) (stamps : List ℕ) → AllPairs (λ x y. x < y) stamps → AreInOrder (faults_with_stamps records stamps)
+pub stamps_rise : (records : List AcceptedStep) (stamps : List ℕ) → AllPairs (λ x y. x < y) stamps → AreInOrder (faults_with_stamps records stamps)
 stamps_rise records stamps rise i j d less within =
     let below : j < length stamps = rw (length-map stamps (fault_with_stamp records)) at within in
     let first = get_or-map (fault_with_stamp records) stamps i 0 d (omega arith) in
     let second = get_or-map (fault_with_stamp records) stamps j 0 d below in
     rw (first, second) (rise i j 0 less below)
 
-pub active_rise : (nodes : ℕ) (records : List Record) → AreRight nodes records → (n : ℕ) → n ≤ length records → AllPairs (λ x y. x < y) (active_after records n)
+pub active_rise : (nodes : ℕ) (records : List AcceptedStep) → AreRight nodes records → (n : ℕ) → n ≤ length records → AllPairs (λ x y. x < y) (active_after records n)
 active_rise nodes records right n within i j d less inside = (apart_after nodes records right n within i j d less inside).less
 
 pub rise_take : (n : ℕ) (stamps : List ℕ) → AllPairs (λ x y. x < y) stamps → AllPairs (λ x y. x < y) (take n stamps)
@@ -39,17 +39,17 @@ rise_take n stamps rise i j d less within =
     rw (get_or-take n stamps i d (omega (arith, less, short.0)), get_or-take n stamps j d short.0) (rise i j d less short.1)
 
 -- one more stamp
-pub stamped_more : (records : List Record) (stamps : List ℕ) (i : ℕ) → i < length stamps
+pub stamped_more : (records : List AcceptedStep) (stamps : List ℕ) (i : ℕ) → i < length stamps
     → faults_with_stamps records (take (i + 1) stamps) ≡ faults_with_stamps records (take i stamps) ++ fault_with_stamp records (get_or stamps i 0) ∷ []
 stamped_more records stamps i h = ap (faults_with_stamps records) (take_more stamps i 0 h) ∙ map-append (fault_with_stamp records) (take i stamps) (get_or stamps i 0 ∷ [])
 
-pub faults_more : (records : List Record) (stamps : List ℕ) (i : ℕ) → i < length stamps
+pub faults_more : (records : List AcceptedStep) (stamps : List ℕ) (i : ℕ) → i < length stamps
     → faults_at records (take (i + 1) stamps) ≡ faults_at records (take i stamps) ++ begun_fault (record_at records (get_or stamps i 0)) ∷ []
 faults_more records stamps i h =
     ap (faults_at records) (take_more stamps i 0 h) ∙ map-append (λ k. begun_fault (record_at records k)) (take i stamps) (get_or stamps i 0 ∷ [])
 
 -- the stamp at i, and those behind it
-pub stamped_left : (records : List Record) (stamps : List ℕ) (i : ℕ) → i < length stamps
+pub stamped_left : (records : List AcceptedStep) (stamps : List ℕ) (i : ℕ) → i < length stamps
     → faults_with_stamps records (drop i stamps) ≡ fault_with_stamp records (get_or stamps i 0) ∷ faults_with_stamps records (drop (i + 1) stamps)
 stamped_left records stamps i h =
     let cut : drop i stamps ≡ get_or stamps i 0 ∷ drop (i + 1) stamps = rw add-one (drop-cons stamps i 0 h) in
@@ -102,7 +102,7 @@ size_more f (g ∷ before) =
     omega (arith, size_more f before, sum_by-cons (λ (f : ℕ × FaultValue). fault_size f.1) g (before ++ f ∷ []), sum_by-cons (λ (f : ℕ × FaultValue). fault_size f.1) g before)
 
 -- what is written of the first of some stamps, and of one more
-pub work_more : (records : List Record) (stamps : List ℕ) (i was now start : ℕ) → i < length stamps → was ≤ start + size_of_all (faults_at records (take i stamps))
+pub work_more : (records : List AcceptedStep) (stamps : List ℕ) (i was now start : ℕ) → i < length stamps → was ≤ start + size_of_all (faults_at records (take i stamps))
     → now ≤ was + fault_size (fault_with_stamp records (get_or stamps i 0)).1 → now ≤ start + size_of_all (faults_at records (take (i + 1) stamps))
 work_more records stamps i was now start h before here =
     rw (faults_more records stamps i h) (omega (arith, before, here, size_more (begun_fault (record_at records (get_or stamps i 0))) (faults_at records (take i stamps))))
@@ -116,7 +116,7 @@ gone id (f ∷ fs) =
       | false ↦ λ is. rw is (gone id fs)
     ] refl
 
-module _ (nodes : ℕ) (records : List Record) (right : AreRight nodes records) (n : ℕ) (within : n < length records) where
+module _ (nodes : ℕ) (records : List AcceptedStep) (right : AreRight nodes records) (n : ℕ) (within : n < length records) where
   before_rise : AllPairs (λ x y. x < y) (active_after records n)
   before_rise = active_rise nodes records right n (omega arith)
 
@@ -150,7 +150,7 @@ module _ (nodes : ℕ) (records : List Record) (right : AreRight nodes records) 
     begun_moment =
         ap (faults_at records) begun_active
         ∙ map-append (λ k. begun_fault (record_at records k)) (active_after records n) (n ∷ [])
-        ∙ ap (λ (step : Record). moment records n ++ begun_fault step ∷ []) at
+        ∙ ap (λ (step : AcceptedStep). moment records n ++ begun_fault step ∷ []) at
 
     pub begun_size : fault_size (fault_with_stamp records n).1 ≤ size_between (moment records n) (moment records (n + 1))
     begun_size =

@@ -16,52 +16,52 @@ use Rattle.jh_nemesis.specs.State.{has_id, is_active, faults_in}
 use Rattle.jh_env.specs.Standing.{faults_of}
 use Rattle.jh_nemesis.specs.Steps.{active_without}
 use Rattle.jh_nemesis.specs.RecordsInside.{record_at, stamps_after, stamps_before, active_after, begun_fault, faults_at, moment, past_of, fault_with_stamp, faults_with_stamps, IsBegin, AreRight, AreStamps, IsRight}
-use Rattle.jh_nemesis.specs.declared.records.Record.{Record}
-use Rattle.jh_nemesis.specs.declared.records.Record.TheVariants.{Begun, Withdrawn, WithdrawnAll}
+use Rattle.jh_nemesis.specs.declared.records.AcceptedStep.{AcceptedStep}
+use Rattle.jh_nemesis.specs.declared.records.AcceptedStep.TheVariants.{Begun, Withdrawn, WithdrawnAll}
 use Rattle.jh_nemesis.specs.Steps.{max_active}
 use Rattle.jh_nemesis.proofs.StampLemmas.{split_at, all_pass, taken_out, put_back}
 
 -- the first steps of two lists are the same
-abbrev pub SameBelow : ℕ → List Record → List Record → Type 0
+abbrev pub SameBelow : ℕ → List AcceptedStep → List AcceptedStep → Type 0
 SameBelow n old new = (k : ℕ) → k < n → record_at new k ≡ record_at old k
 
-pub same_active : (n : ℕ) (old new : List Record) → SameBelow n old new → active_after new n ≡ active_after old n
+pub same_active : (n : ℕ) (old new : List AcceptedStep) → SameBelow n old new → active_after new n ≡ active_after old n
 same_active zero old new same = refl
 same_active (suc n) old new same = ap₂ (stamps_after n) (same n (omega arith)) (same_active n old new (λ k below. same k (omega arith)))
 
-pub same_faults : (n : ℕ) (old new : List Record) (stamps : List ℕ) → SameBelow n old new → All (λ k. k < n) stamps
+pub same_faults : (n : ℕ) (old new : List AcceptedStep) (stamps : List ℕ) → SameBelow n old new → All (λ k. k < n) stamps
     → faults_at new stamps ≡ faults_at old stamps
 same_faults n old new [] same below = refl
 same_faults n old new (k ∷ ks) same below =
     ap₂ (λ fault faults. fault ∷ faults) (ap begun_fault (same k (All-head (λ k. k < n) k ks below)))
     (same_faults n old new ks same (All-tail (λ k. k < n) k ks below))
 
-pub same_stamped : (n : ℕ) (old new : List Record) (stamps : List ℕ) → SameBelow n old new → All (λ k. k < n) stamps
+pub same_stamped : (n : ℕ) (old new : List AcceptedStep) (stamps : List ℕ) → SameBelow n old new → All (λ k. k < n) stamps
     → faults_with_stamps new stamps ≡ faults_with_stamps old stamps
 same_stamped n old new [] same below = refl
 same_stamped n old new (k ∷ ks) same below =
-    let here : fault_with_stamp new k ≡ fault_with_stamp old k = ap (λ (step : Record). (k, (begun_fault step).1)) (same k (All-head (λ k. k < n) k ks below)) in
+    let here : fault_with_stamp new k ≡ fault_with_stamp old k = ap (λ (step : AcceptedStep). (k, (begun_fault step).1)) (same k (All-head (λ k. k < n) k ks below)) in
     ap₂ (λ first rest. first ∷ rest) here (same_stamped n old new ks same (All-tail (λ k. k < n) k ks below))
 
 -- without their stamps they are the faults
-pub stamped_faults : (records : List Record) (stamps : List ℕ) → faults_of (faults_with_stamps records stamps) ≡ faults_in (faults_at records stamps)
+pub stamped_faults : (records : List AcceptedStep) (stamps : List ℕ) → faults_of (faults_with_stamps records stamps) ≡ faults_in (faults_at records stamps)
 stamped_faults records [] = refl
 stamped_faults records (k ∷ ks) = ap (λ (faults : List FaultValue). (begun_fault (record_at records k)).1 ∷ faults) (stamped_faults records ks)
 
 -- each stamp is the index of a step before
-played_below : (n : ℕ) (step : Record) (active : List ℕ) → All (λ k. k < n) active → All (λ k. k < suc n) (stamps_after n step active)
+played_below : (n : ℕ) (step : AcceptedStep) (active : List ℕ) → All (λ k. k < n) active → All (λ k. k < suc n) (stamps_after n step active)
 played_below n (Begun id fault) active below =
     All-push (λ k. k < suc n) active n (λ k d within. let less = below k d within in omega arith) (omega arith)
 played_below n (Withdrawn stamp) active below =
     All-filter (λ k. not (eqb k stamp)) (λ k. k < suc n) active (λ k d within. let less = below k d within in omega arith)
 played_below n (WithdrawnAll stamps) active below = All-nil (λ k. k < suc n)
 
-pub stamps_below : (records : List Record) (n : ℕ) → All (λ k. k < n) (active_after records n)
+pub stamps_below : (records : List AcceptedStep) (n : ℕ) → All (λ k. k < n) (active_after records n)
 stamps_below records zero = All-nil (λ k. k < 0)
 stamps_below records (suc n) = played_below n (record_at records n) (active_after records n) (stamps_below records n)
 
 -- and that step is a begin
-played_begins : (records : List Record) (n : ℕ) (step : Record) (active : List ℕ) → record_at records n ≡ step
+played_begins : (records : List AcceptedStep) (n : ℕ) (step : AcceptedStep) (active : List ℕ) → record_at records n ≡ step
     → All (λ k. IsBegin (record_at records k)) active
     → All (λ k. IsBegin (record_at records k)) (stamps_after n step active)
 played_begins records n (Begun id fault) active at begins =
@@ -70,27 +70,27 @@ played_begins records n (Withdrawn stamp) active at begins =
     All-filter (λ k. not (eqb k stamp)) (λ k. IsBegin (record_at records k)) active begins
 played_begins records n (WithdrawnAll stamps) active at begins = All-nil (λ k. IsBegin (record_at records k))
 
-stamps_begin : (records : List Record) (n : ℕ) → All (λ k. IsBegin (record_at records k)) (active_after records n)
+stamps_begin : (records : List AcceptedStep) (n : ℕ) → All (λ k. IsBegin (record_at records k)) (active_after records n)
 stamps_begin records zero = All-nil (λ k. IsBegin (record_at records k))
 stamps_begin records (suc n) =
     played_begins records n (record_at records n) (active_after records n) refl (stamps_begin records n)
 
-pub are_stamps : (records : List Record) (n : ℕ) → n ≤ length records → AreStamps records (active_after records n)
+pub are_stamps : (records : List AcceptedStep) (n : ℕ) → n ≤ length records → AreStamps records (active_after records n)
 are_stamps records n within k d inside =
     (let below = stamps_below records n k d inside in omega arith, stamps_begin records n k d inside)
 
-pub same_moment : (n : ℕ) (old new : List Record) → SameBelow n old new → moment new n ≡ moment old n
+pub same_moment : (n : ℕ) (old new : List AcceptedStep) → SameBelow n old new → moment new n ≡ moment old n
 same_moment n old new same =
     ap (faults_at new) (same_active n old new same)
     ∙ same_faults n old new (active_after old n) same (stamps_below old n)
 
-pub same_past : (n : ℕ) (old new : List Record) → SameBelow n old new → past_of new n ≡ past_of old n
+pub same_past : (n : ℕ) (old new : List AcceptedStep) → SameBelow n old new → past_of new n ≡ past_of old n
 same_past zero old new same = refl
 same_past (suc n) old new same =
     let before : SameBelow n old new = λ k below. same k (omega arith) in
     ap₂ (λ first rest. first ∷ rest) (same_moment n old new before) (same_past n old new before)
 
-pub same_right : (nodes n : ℕ) (old new : List Record) (step : Record) → SameBelow n old new → IsRight nodes old n step
+pub same_right : (nodes n : ℕ) (old new : List AcceptedStep) (step : AcceptedStep) → SameBelow n old new → IsRight nodes old n step
     → IsRight nodes new n step
 same_right nodes n old new (Begun id fault) same right =
     (right.0, rw (same_active n old new same) right.1, ap (λ faults. is_active faults id) (same_moment n old new same) ∙ right.2)
@@ -98,16 +98,16 @@ same_right nodes n old new (Withdrawn stamp) same right = rw (same_active n old 
 same_right nodes n old new (WithdrawnAll stamps) same right = right ∙ sym (same_active n old new same)
 
 -- a fault is active where a stamp is
-pub some_active : (records : List Record) (stamps : List ℕ) → eqb (length stamps) 0 ≡ false
+pub some_active : (records : List AcceptedStep) (stamps : List ℕ) → eqb (length stamps) 0 ≡ false
     → is_empty (faults_at records stamps) ≡ false
 some_active records [] h = absurd cc
 some_active records (k ∷ ks) h = refl
 
-pub length-past : (records : List Record) (n : ℕ) → length (past_of records n) ≡ n
+pub length-past : (records : List AcceptedStep) (n : ℕ) → length (past_of records n) ≡ n
 length-past records zero = refl
 length-past records (suc n) = ap suc (length-past records n)
 
-played_few : (nodes n : ℕ) (records : List Record) (step : Record) → IsRight nodes records n step
+played_few : (nodes n : ℕ) (records : List AcceptedStep) (step : AcceptedStep) → IsRight nodes records n step
     → length (active_after records n) ≤ max_active
     → length (stamps_after n step (active_after records n)) ≤ max_active
 played_few nodes n records (Begun id fault) right few =
@@ -116,19 +116,19 @@ played_few nodes n records (Withdrawn stamp) right few =
     omega (arith, length-filter_both (λ k. not (eqb k stamp)) (λ k. not (not (eqb k stamp))) (λ _. refl) (active_after records n))
 played_few nodes n records (WithdrawnAll stamps) right few = omega arith
 
-pub few_after : (nodes : ℕ) (records : List Record) → AreRight nodes records → (n : ℕ) → n ≤ length records
+pub few_after : (nodes : ℕ) (records : List AcceptedStep) → AreRight nodes records → (n : ℕ) → n ≤ length records
     → length (active_after records n) ≤ max_active
 few_after nodes records right zero within = omega arith
 few_after nodes records right (suc n) within =
     played_few nodes n records (record_at records n) (right n (omega arith)) (few_after nodes records right n (omega arith))
 
-begin_fits : (nodes n : ℕ) (records : List Record) (step : Record) → IsBegin step → IsRight nodes records n step
+begin_fits : (nodes n : ℕ) (records : List AcceptedStep) (step : AcceptedStep) → IsBegin step → IsRight nodes records n step
     → FitsCount nodes (begun_fault step).1
 begin_fits nodes n records (Begun id fault) begins right = right.0
 begin_fits nodes n records (Withdrawn stamp) begins right = absurd begins
 begin_fits nodes n records (WithdrawnAll stamps) begins right = absurd begins
 
-pub fit_after : (nodes : ℕ) (records : List Record) → AreRight nodes records → (n : ℕ) → n ≤ length records
+pub fit_after : (nodes : ℕ) (records : List AcceptedStep) → AreRight nodes records → (n : ℕ) → n ≤ length records
     → All (λ k. FitsCount nodes (begun_fault (record_at records k)).1) (active_after records n)
 fit_after nodes records right n within k d inside =
     let stamp = get_or (active_after records n) k d in
@@ -136,13 +136,13 @@ fit_after nodes records right n within k d inside =
     begin_fits nodes stamp records (record_at records stamp) here.1 (right stamp here.0)
 
 -- the step of a stamp is a begin
-pub not_begin : (step : Record) → IsBegin step → ((id : ℕ) (fault : FaultValue) → step ≡ Begun id fault → ⊥) → ⊥
+pub not_begin : (step : AcceptedStep) → IsBegin step → ((id : ℕ) (fault : FaultValue) → step ≡ Begun id fault → ⊥) → ⊥
 not_begin (Begun id fault) begins other = other id fault refl
 not_begin (Withdrawn stamp) begins other = begins
 not_begin (WithdrawnAll stamps) begins other = begins
 
 -- the fault of the stamp that stands at i
-pub fault_read : (records : List Record) (stamps : List ℕ) (i stamp : ℕ) (step : Record) → i < length stamps
+pub fault_read : (records : List AcceptedStep) (stamps : List ℕ) (i stamp : ℕ) (step : AcceptedStep) → i < length stamps
     → stamp ≡ get_or stamps i stamp → stamp < length records → step ≡ get_or records stamp step
     → Some (begun_fault step) ≡ slice_get (faults_at records stamps) i
 fault_read records stamps i stamp step below at known is =
@@ -151,11 +151,11 @@ fault_read records stamps i stamp step below at known is =
     rw (slice_get-map (λ k. begun_fault (record_at records k)) stamps i, here, value) refl
 
 -- one fault was begun before the other, under another id
-pub record Apart (records : List Record) (a b : ℕ) : Type 0 where
+pub record Apart (records : List AcceptedStep) (a b : ℕ) : Type 0 where
   pub less : a < b
   pub ids : (begun_fault (record_at records a)).0 ≢ (begun_fault (record_at records b)).0
 
-id_apart : (records : List Record) (active : List ℕ) (id : ℕ) → is_active (faults_at records active) id ≡ false → (k d : ℕ)
+id_apart : (records : List AcceptedStep) (active : List ℕ) (id : ℕ) → is_active (faults_at records active) id ≡ false → (k d : ℕ)
     → k < length active
     → (begun_fault (record_at records (get_or active k d))).0 ≢ id
 id_apart records active id free k d within same =
@@ -166,7 +166,7 @@ id_apart records active id free k d within same =
     (rw at (eq-eqb (begun_fault (record_at records (get_or active k d))).0 id same)) in
     absurd cc
 
-played_apart : (nodes n : ℕ) (records : List Record) (step : Record) → record_at records n ≡ step → IsRight nodes records n step
+played_apart : (nodes n : ℕ) (records : List AcceptedStep) (step : AcceptedStep) → record_at records n ≡ step → IsRight nodes records n step
     → AllPairs (Apart records) (active_after records n)
     → AllPairs (Apart records) (stamps_after n step (active_after records n))
 played_apart nodes n records (Begun id fault) at right apart =
@@ -178,7 +178,7 @@ played_apart nodes n records (Withdrawn stamp) at right apart =
     AllPairs-filter (Apart records) (λ k. not (eqb k stamp)) (active_after records n) apart
 played_apart nodes n records (WithdrawnAll stamps) at right apart = λ i j d less within. absurd (omega arith)
 
-pub apart_after : (nodes : ℕ) (records : List Record) → AreRight nodes records → (n : ℕ) → n ≤ length records
+pub apart_after : (nodes : ℕ) (records : List AcceptedStep) → AreRight nodes records → (n : ℕ) → n ≤ length records
     → AllPairs (Apart records) (active_after records n)
 apart_after nodes records right zero within = λ i j d less inside. absurd (omega arith)
 apart_after nodes records right (suc n) within =
@@ -186,7 +186,7 @@ apart_after nodes records right (suc n) within =
     (apart_after nodes records right n (omega arith))
 
 -- a step that is taken back leaves what was active before it
-pub back_again : (nodes n : ℕ) (records : List Record) (step : Record) → IsRight nodes records n step
+pub back_again : (nodes n : ℕ) (records : List AcceptedStep) (step : AcceptedStep) → IsRight nodes records n step
     → AllPairs (Apart records) (active_after records n)
     → stamps_before step (stamps_after n step (active_after records n)) ≡ active_after records n
 back_again nodes n records (Begun id fault) right apart =
@@ -202,7 +202,7 @@ back_again nodes n records (Withdrawn stamp) right apart =
     rw (s.is, out) (put_back s.before s.after stamp below above)
 back_again nodes n records (WithdrawnAll stamps) right apart = right
 
-others_stay : (id : ℕ) (records : List Record) (stamps : List ℕ) → All (λ k. (begun_fault (record_at records k)).0 ≢ id) stamps
+others_stay : (id : ℕ) (records : List AcceptedStep) (stamps : List ℕ) → All (λ k. (begun_fault (record_at records k)).0 ≢ id) stamps
     → filter (λ f. not (has_id id f)) (faults_at records stamps) ≡ faults_at records stamps
 others_stay id records stamps other =
     all_pass (λ (f : ℕ × FaultValue). not (has_id id f)) (faults_at records stamps)
@@ -210,7 +210,7 @@ others_stay id records stamps other =
     (λ k d h. ap not (ne_eqb (begun_fault (record_at records (get_or stamps k d))).0 id (other k d h))))
 
 -- the fault of an id is the one of its stamp
-pub without_stamp : (records : List Record) (active : List ℕ) (id stamp : ℕ) → AllPairs (Apart records) active
+pub without_stamp : (records : List AcceptedStep) (active : List ℕ) (id stamp : ℕ) → AllPairs (Apart records) active
     → Contains active stamp → (begun_fault (record_at records stamp)).0 ≡ id
     → faults_at records (filter (λ other. not (eqb other stamp)) active) ≡ active_without (faults_at records active) id
 without_stamp records active id stamp apart inside is =

@@ -4,11 +4,11 @@ use Rattle.jh_env.specs.Overlay.{EnvValue, work_of}
 use Rattle.jh_nemesis.specs.State.{State}
 use Rattle.jh_nemesis.specs.RecordsInside.{faults_at, past_of, future_of, IsTrueTo}
 use Rattle.jh_nemesis.specs.Work.{NemesisValue}
-use Rattle.jh_nemesis.specs.declared.records.Record.{Record}
+use Rattle.jh_nemesis.specs.declared.records.AcceptedStep.{AcceptedStep}
 use Rattle.jh_nemesis.specs.declared.nemesis.Nemesis.TheInside.{Inside}
 
 -- the state of an environment, the steps, the cursor among them, and the active stamps
-abbrev pub state_from : EnvValue → List Record → ℕ → List ℕ → State
+abbrev pub state_from : EnvValue → List AcceptedStep → ℕ → List ℕ → State
 state_from env records cursor active = record {
   names = env.names;
   start = env.start;

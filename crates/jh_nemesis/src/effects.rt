@@ -12,11 +12,11 @@ ghost use Rattle.jh_nemesis.specs.RecordsInside.{AreStamps, IsBegin};
 ghost use Rattle.jh_nemesis.specs.Steps.{max_active, max_steps};
 ghost use Rattle.jh_nemesis.specs.Work.{size_between, size_of_all};
 
-use crate::records::Record;
+use crate::records::AcceptedStep;
 use jh_env::Env;
 
 /// Puts the fault of a begin on the environment, under its stamp.
-fn put_begun(env: &mut Env, records: &[Record], stamp: usize)
+fn put_begun(env: &mut Env, records: &[AcceptedStep], stamp: usize)
     requires begin { (stamp < length records.now) × IsBegin (record_at records.now stamp) }
     requires few { length records.now ≤ max_steps }
     requires fits { FitsCount (length env.old.names) (fault_with_stamp records.now stamp).1 }
@@ -27,13 +27,13 @@ fn put_begun(env: &mut Env, records: &[Record], stamp: usize)
     ensures work { work_of env.new
         ≤ work_of env.old + fault_size (fault_with_stamp records.now stamp).1 }
 {
-    if let Record::Begun(_, fault) = &records[stamp] {
+    if let AcceptedStep::Begun(_, fault) = &records[stamp] {
         env.put(fault, stamp as u32);
     }
 }
 
 /// Takes the fault of a begin off the environment.
-fn take_begun(env: &mut Env, records: &[Record], stamp: usize)
+fn take_begun(env: &mut Env, records: &[AcceptedStep], stamp: usize)
     requires begin { (stamp < length records.now) × IsBegin (record_at records.now stamp) }
     requires few { length records.now ≤ max_steps }
     requires stands { StandsAtSome (tables_of env.old) (fault_with_stamp records.now stamp) }
@@ -43,13 +43,13 @@ fn take_begun(env: &mut Env, records: &[Record], stamp: usize)
     ensures work { work_of env.new
         ≤ work_of env.old + fault_size (fault_with_stamp records.now stamp).1 }
 {
-    if let Record::Begun(_, fault) = &records[stamp] {
+    if let AcceptedStep::Begun(_, fault) = &records[stamp] {
         env.take(fault, stamp as u32);
     }
 }
 
 /// Puts the faults of these stamps on an environment that stands for none.
-fn put_each(env: &mut Env, records: &[Record], stamps: &[usize])
+fn put_each(env: &mut Env, records: &[AcceptedStep], stamps: &[usize])
     requires begins { AreStamps records.now stamps.now }
     requires few { (length records.now ≤ max_steps) × (length stamps.now ≤ max_active) }
     requires fit { All
@@ -67,7 +67,7 @@ fn put_each(env: &mut Env, records: &[Record], stamps: &[usize])
 }
 
 /// Takes the faults of these stamps, for which the environment stands, off it.
-fn take_each(env: &mut Env, records: &[Record], stamps: &[usize])
+fn take_each(env: &mut Env, records: &[AcceptedStep], stamps: &[usize])
     requires begins { AreStamps records.now stamps.now }
     requires few { length records.now ≤ max_steps }
     requires stands { StandsWith env.old (faults_with_stamps records.now stamps.now) }
@@ -83,7 +83,7 @@ fn take_each(env: &mut Env, records: &[Record], stamps: &[usize])
 
 /// Does to the environment what the step at this index does. It takes no memory, and writes no more
 /// than the faults take that the step begins or ends.
-pub fn step_forth(env: &mut Env, records: &[Record], index: usize)
+pub fn step_forth(env: &mut Env, records: &[AcceptedStep], index: usize)
     requires known { index < length records.now }
     requires few { length records.now ≤ max_steps }
     requires right { AreRight (length env.old.names) records.now }
@@ -97,15 +97,15 @@ pub fn step_forth(env: &mut Env, records: &[Record], index: usize)
         (moment records.now (index + 1)) }
 {
     match &records[index] {
-        Record::Begun(_, _) => put_begun(env, records, index),
-        Record::Withdrawn(stamp) => take_begun(env, records, *stamp),
-        Record::WithdrawnAll(stamps) => take_each(env, records, stamps),
+        AcceptedStep::Begun(_, _) => put_begun(env, records, index),
+        AcceptedStep::Withdrawn(stamp) => take_begun(env, records, *stamp),
+        AcceptedStep::WithdrawnAll(stamps) => take_each(env, records, stamps),
     }
 }
 
 /// Takes back what the step at this index did to the environment. It takes no memory, and writes no
 /// more than `step_forth`.
-pub fn step_back(env: &mut Env, records: &[Record], index: usize)
+pub fn step_back(env: &mut Env, records: &[AcceptedStep], index: usize)
     requires known { index < length records.now }
     requires few { length records.now ≤ max_steps }
     requires right { AreRight (length env.old.names) records.now }
@@ -119,8 +119,8 @@ pub fn step_back(env: &mut Env, records: &[Record], index: usize)
         (moment records.now index) }
 {
     match &records[index] {
-        Record::Begun(_, _) => take_begun(env, records, index),
-        Record::Withdrawn(stamp) => put_begun(env, records, *stamp),
-        Record::WithdrawnAll(stamps) => put_each(env, records, stamps),
+        AcceptedStep::Begun(_, _) => take_begun(env, records, index),
+        AcceptedStep::Withdrawn(stamp) => put_begun(env, records, *stamp),
+        AcceptedStep::WithdrawnAll(stamps) => put_each(env, records, stamps),
     }
 }

@@ -16,7 +16,9 @@ ghost use Rattle.jh_nemesis.specs.Work.{size_between, size_of_step, size_of_step
 ghost use Rattle.jh_nemesis.specs.Changed.{changed_by, AgreeElsewhere};
 
 use crate::effects::{step_back, step_forth};
-use crate::records::{Record, Stamps, changed_at, faults_of, play, play_back, put_at, stamp_of};
+use crate::records::{
+    AcceptedStep, Stamps, changed_at, faults_of, play, play_back, put_at, stamp_of,
+};
 use crate::steps::{
     BeginError, MAX_ACTIVE, MAX_STEPS, NothingToRedo, NothingToUndo, Step, StepAnswer, Stopped,
     WithdrawAllError, WithdrawError,
@@ -32,7 +34,7 @@ use std::marker::Model;
 pub struct Nemesis {
     alloc: Global,
     env: Env,
-    records: Vec<Record>,
+    records: Vec<AcceptedStep>,
     cursor: usize,
     active: Stamps,
 }
@@ -110,7 +112,7 @@ impl Nemesis {
     {
         let stamp = *self.active.get(place)?;
         match &self.records[stamp] {
-            Record::Begun(id, fault) => Some((*id, fault)),
+            AcceptedStep::Begun(id, fault) => Some((*id, fault)),
             _ => None,
         }
     }
@@ -155,7 +157,11 @@ impl Nemesis {
         if answer != StepAnswer::Ok {
             return Ok(answer);
         }
-        put_at(&mut self.records, self.cursor, Record::Begun(id, fault))?;
+        put_at(
+            &mut self.records,
+            self.cursor,
+            AcceptedStep::Begun(id, fault),
+        )?;
         self.go_forth();
         Ok(StepAnswer::Ok)
     }
@@ -176,7 +182,11 @@ impl Nemesis {
         if self.is_full() {
             return Ok(StepAnswer::TooManySteps);
         }
-        put_at(&mut self.records, self.cursor, Record::Withdrawn(stamp))?;
+        put_at(
+            &mut self.records,
+            self.cursor,
+            AcceptedStep::Withdrawn(stamp),
+        )?;
         self.go_forth();
         Ok(StepAnswer::Ok)
     }
@@ -222,7 +232,11 @@ impl Nemesis {
             return Ok(answer);
         }
         let stamps = Vec::from_slice(self.alloc, &self.active)?;
-        put_at(&mut self.records, self.cursor, Record::WithdrawnAll(stamps))?;
+        put_at(
+            &mut self.records,
+            self.cursor,
+            AcceptedStep::WithdrawnAll(stamps),
+        )?;
         self.go_forth();
         Ok(StepAnswer::Ok)
     }

@@ -22,7 +22,7 @@ pub type Stamps = ArrayVec<usize, MAX_ACTIVE>;
 
 /// An accepted step, with what it takes to undo it and to redo it.
 #[derive(Debug, Drop)]
-pub enum Record {
+pub enum AcceptedStep {
     /// The fault was begun under the id.
     Begun(u32, Fault),
     /// The fault of the stamp was withdrawn.
@@ -33,7 +33,11 @@ pub enum Record {
 
 /// Puts a step at the cursor, in place of all from there on. Memory is taken first: where it is
 /// refused, all steps stay.
-pub fn put_at(records: &mut Vec<Record>, cursor: usize, step: Record) -> Result<(), AllocError>
+pub fn put_at(
+    records: &mut Vec<AcceptedStep>,
+    cursor: usize,
+    step: AcceptedStep,
+) -> Result<(), AllocError>
     requires { cursor ≤ length records.old.items }
     ensures ok { OnOk result (records.new.items ≡ take cursor records.old.items ++ step ∷ []) }
     ensures err { OnErr result (records.new.items ≡ records.old.items) }
@@ -71,48 +75,48 @@ fn put_all(active: &mut Stamps, stamps: &[usize])
 }
 
 /// Takes the step at this index, over the active stamps.
-pub fn play(records: &[Record], index: usize, active: &mut Stamps)
+pub fn play(records: &[AcceptedStep], index: usize, active: &mut Stamps)
     requires known { index < length records.now }
     requires room { length (stamps_after index (record_at records.now index) active.old.items)
         ≤ max_active }
     ensures { active.new.items ≡ stamps_after index (record_at records.now index) active.old.items }
 {
     match &records[index] {
-        Record::Begun(_, _) => active.push(index),
-        Record::Withdrawn(stamp) => take_out(active, *stamp),
-        Record::WithdrawnAll(_) => active.clear(),
+        AcceptedStep::Begun(_, _) => active.push(index),
+        AcceptedStep::Withdrawn(stamp) => take_out(active, *stamp),
+        AcceptedStep::WithdrawnAll(_) => active.clear(),
     }
 }
 
 /// Takes the step at this index back, over the active stamps.
-pub fn play_back(records: &[Record], index: usize, active: &mut Stamps)
+pub fn play_back(records: &[AcceptedStep], index: usize, active: &mut Stamps)
     requires known { index < length records.now }
     requires room { length (stamps_before (record_at records.now index) active.old.items)
         ≤ max_active }
     ensures { active.new.items ≡ stamps_before (record_at records.now index) active.old.items }
 {
     match &records[index] {
-        Record::Begun(_, _) => {
+        AcceptedStep::Begun(_, _) => {
             let _ = active.pop();
         }
-        Record::Withdrawn(stamp) => put_back(active, *stamp),
-        Record::WithdrawnAll(stamps) => put_all(active, stamps),
+        AcceptedStep::Withdrawn(stamp) => put_back(active, *stamp),
+        AcceptedStep::WithdrawnAll(stamps) => put_all(active, stamps),
     }
 }
 
 /// Whether the step begins a fault under the id.
-fn is_begin_of(step: &Record, id: u32) -> bool
+fn is_begin_of(step: &AcceptedStep, id: u32) -> bool
     requires { IsBegin step.now }
     ensures { result ≡ spec.has_id id (begun_fault step.now) }
 {
     match step {
-        Record::Begun(other, _) => *other == id,
+        AcceptedStep::Begun(other, _) => *other == id,
         _ => false,
     }
 }
 
 /// The stamp of the fault of the id, of these stamps.
-pub fn stamp_of(records: &[Record], stamps: &[usize], id: u32) -> Option<usize>
+pub fn stamp_of(records: &[AcceptedStep], stamps: &[usize], id: u32) -> Option<usize>
     requires { AreStamps records.now stamps.now }
     ensures variant { is_some result ≡ spec.is_active (faults_at records.now stamps.now) id }
     ensures stamp { IfSome result
@@ -130,7 +134,7 @@ pub fn stamp_of(records: &[Record], stamps: &[usize], id: u32) -> Option<usize>
 /// The faults of these stamps.
 pub fn faults_of<'a>(
     alloc: Global,
-    records: &'a [Record],
+    records: &'a [AcceptedStep],
     stamps: &[usize],
 ) -> Result<Vec<&'a Fault>, AllocError>
     requires { AreStamps records.now stamps.now }
@@ -141,7 +145,7 @@ pub fn faults_of<'a>(
 {
     let mut faults = Vec::new(alloc);
     for stamp in stamps {
-        if let Record::Begun(_, fault) = &records[*stamp] {
+        if let AcceptedStep::Begun(_, fault) = &records[*stamp] {
             faults.push(fault)?;
         }
     }
@@ -151,7 +155,7 @@ pub fn faults_of<'a>(
 /// The faults that the step at this index begins or ends.
 pub fn changed_at<'a>(
     alloc: Global,
-    records: &'a [Record],
+    records: &'a [AcceptedStep],
     index: usize,
 ) -> Result<Vec<&'a Fault>, AllocError>
     requires known { index < length records.now }
@@ -165,8 +169,8 @@ pub fn changed_at<'a>(
         (faults_at records.now (stamps_changed index (record_at records.now index))) ≢ []) }
 {
     match &records[index] {
-        Record::Begun(_, _) => faults_of(alloc, records, &[index]),
-        Record::Withdrawn(stamp) => faults_of(alloc, records, &[*stamp]),
-        Record::WithdrawnAll(stamps) => faults_of(alloc, records, stamps),
+        AcceptedStep::Begun(_, _) => faults_of(alloc, records, &[index]),
+        AcceptedStep::Withdrawn(stamp) => faults_of(alloc, records, &[*stamp]),
+        AcceptedStep::WithdrawnAll(stamps) => faults_of(alloc, records, stamps),
     }
 }

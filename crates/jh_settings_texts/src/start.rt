@@ -4,9 +4,7 @@ ghost use Rattle.std.specs.Prelude.{◌↔◌, All, IfSome, IsTrue};
 ghost use Rattle.jh_env.specs.Starting.{IsStartingLink, IsStartingNode};
 ghost use Rattle.jh_settings_texts.specs.StartInside.{IsStarting, MayStartLink, MayStartNode};
 
-use jh_env::{
-    Env, Link, MAX_START_DELAY_MS, MAX_START_LOSS, MAX_START_OFFSET_MS, Node, NodeCell,
-};
+use jh_env::{Env, Link, MAX_START_DELAY_MS, MAX_START_LOSS, MAX_START_OFFSET_MS, Node, NodeCell};
 
 /// Whether a link, where there is one, is as it may be at a start.
 fn is_starting_link(link: Option<Link>) -> bool

@@ -122,8 +122,8 @@ abbrev pub IsStartingNode : NodeCell → Type 0
 IsStartingNode n = IsWithin (10 ^ 12) n.clock
 
 -- how many faults can be put and not taken
-abbrev pub max_put : ℕ
-max_put = 256
+abbrev pub max_laid : ℕ
+max_laid = 256
 
 -- the most milliseconds by which a message is late: a minute at the start or of a fix, and one more
 -- for each fault

@@ -5,7 +5,7 @@ use Rattle.std.specs.List.{All}
 use Rattle.jh_tables.specs.Faults.{FaultValue, IsFixAmount}
 use Rattle.jh_tables.specs.Tallies.{cells_now, cells_at_start}
 use Rattle.jh_tables.specs.Standing.{TablesValue, AreTallies, IsStartingLink, IsStartingNode}
-use Rattle.jh_tables.specs.Standing.{max_put}
+use Rattle.jh_tables.specs.Standing.{max_laid}
 use Rattle.jh_tables.specs.declared.tables.Tables.TheInside.{Inside}
 
 -- the cells that are read off the tallies, and how many faults are put
@@ -26,7 +26,7 @@ HasFixAmount (Some entry) = IsFixAmount entry.ms
 pub record IsWhole (a : Inside) : Type 0 where
   pub faults : List FaultValue
   pub laid : a.laid ≡ length faults
-  pub few : a.laid ≤ max_put
+  pub few : a.laid ≤ max_laid
   pub tallies : AreTallies (length a.counted.nodes) a.counted faults
   pub nodes : length a.counted.nodes ≤ 64
   pub square : length a.counted.links ≡ length a.counted.nodes * length a.counted.nodes

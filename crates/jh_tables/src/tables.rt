@@ -8,7 +8,7 @@ ghost use Rattle.jh_tables.specs.Plain.{fault_of};
 ghost use Rattle.jh_tables.specs.Cells.{link_at, node_at};
 ghost use Rattle.jh_tables.specs.Standing.{IsLinkInRange, IsNodeInRange, IsPut, IsStartingLink};
 ghost use Rattle.jh_tables.specs.Standing.{IsStartingNode, IsTaken, StandsAt, StandsAtSome};
-ghost use Rattle.jh_tables.specs.Standing.{max_put};
+ghost use Rattle.jh_tables.specs.Standing.{max_laid};
 ghost use Rattle.jh_tables.specs.TurningInside.{AreEntriesTurned, AreTurned, CanTurnEntries};
 ghost use Rattle.jh_tables.specs.TurningInside.{CanTurnTallies};
 
@@ -115,7 +115,7 @@ impl Tables {
     pub fn put(&mut self, fault: &PlainFault, stamp: u32)
         requires fits { FitsCount (length self.old.start.nodes) (fault_of fault.now) }
         requires right { IsFault (fault_of fault.now) }
-        requires room { self.old.laid < max_put }
+        requires room { self.old.laid < max_laid }
         ensures stands { IsPut (stamp, fault_of fault.now) self.old self.new }
         ensures start { self.new.start ≡ self.old.start }
         ensures whole { length self.new.cells.nodes ≡ length self.old.cells.nodes }

@@ -1,6 +1,6 @@
 use Rattle.std.proofs.Common.{◌≡◌, ◌∙◌}
 use Rattle.jh_nemesis.specs.RecordsInside.{record_at}
-use Rattle.jh_nemesis.specs.declared.records.Record.TheVariants.{Begun}
+use Rattle.jh_nemesis.specs.declared.records.AcceptedStep.TheVariants.{Begun}
 use Rattle.jh_nemesis.proofs.EffectLemmas.{step_read}
 use Rattle.jh_nemesis.proofs.effects.put_begun.Goals as goal
 

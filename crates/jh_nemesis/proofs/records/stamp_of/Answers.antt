@@ -3,7 +3,7 @@ use Rattle.std.proofs.lemmas.List.{get_or-map, length-map, get_or_default}
 use Rattle.std.proofs.lemmas.List.Folds.{list_any_at}
 use Rattle.jh_nemesis.specs.State.{has_id}
 use Rattle.jh_nemesis.specs.RecordsInside.{faults_at, begun_fault, record_at}
-use Rattle.jh_nemesis.specs.declared.records.Record.TheVariants.{Withdrawn}
+use Rattle.jh_nemesis.specs.declared.records.AcceptedStep.TheVariants.{Withdrawn}
 use Rattle.jh_nemesis.proofs.records.stamp_of.Goals as goal
 
 pub returns-then-is_begin_of-clause-variant : goal.returns-then-is_begin_of-clause-variant

@@ -2,8 +2,8 @@ use Rattle.std.proofs.Common.{◌≡◌, ◌<◌, ◌∙◌, ap, sym, length, ge
 use Rattle.std.proofs.lemmas.Bool.{ltb-true}
 use Rattle.std.proofs.lemmas.List.{get_or_default}
 use Rattle.jh_nemesis.specs.RecordsInside.{IsBegin, record_at, begun_fault}
-use Rattle.jh_nemesis.specs.declared.records.Record.{Record}
-use Rattle.jh_nemesis.specs.declared.records.Record.TheVariants.{Withdrawn}
+use Rattle.jh_nemesis.specs.declared.records.AcceptedStep.{AcceptedStep}
+use Rattle.jh_nemesis.specs.declared.records.AcceptedStep.TheVariants.{Withdrawn}
 use Rattle.jh_nemesis.proofs.RecordLemmas.{fault_read, not_begin}
 use Rattle.jh_nemesis.proofs.CursorLemmas.{known_read}
 use Rattle.jh_nemesis.proofs.nemesis.Nemesis.active_at.Goals as goal
@@ -26,7 +26,7 @@ returns-in-Begun c =
     let at : stamp ≡ get_or a.active.items c.args.place stamp = rw c.deref.ensures.0 at c.in_ok-stamp.ensures.lookup.1 in
     let known = (known_read c.self.invariant c.args.place stamp below at).0 in
     rw (← c.self.view_is)
-    (ap (λ (step : Record). Some (begun_fault step)) (sym c.in-Begun.is)
+    (ap (λ (step : AcceptedStep). Some (begun_fault step)) (sym c.in-Begun.is)
     ∙ fault_read a.records.items a.active.items c.args.place stamp c.index.result.now below at known c.index.ensures)
 
 pub returns-in_default : goal.returns-in_default

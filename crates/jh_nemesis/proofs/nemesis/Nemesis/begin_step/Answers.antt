@@ -8,7 +8,7 @@ use Rattle.jh_nemesis.specs.Work.{NemesisValue, size_of_step}
 use Rattle.jh_nemesis.specs.Steps.{begin_answer, state_after}
 use Rattle.jh_nemesis.specs.declared.steps.Step.TheVariants.{Begin}
 use Rattle.jh_nemesis.specs.declared.steps.StepAnswer.TheVariants as StepAnswer
-use Rattle.jh_nemesis.specs.declared.records.Record.TheVariants.{Begun}
+use Rattle.jh_nemesis.specs.declared.records.AcceptedStep.TheVariants.{Begun}
 use Rattle.jh_nemesis.proofs.CursorLemmas.{begin_right, put_true, put_future, put_work, begun_state}
 use Rattle.jh_nemesis.proofs.nemesis.Nemesis.begin_step.Goals as goal
 

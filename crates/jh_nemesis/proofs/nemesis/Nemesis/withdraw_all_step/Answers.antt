@@ -4,7 +4,7 @@ use Rattle.jh_nemesis.specs.State.{State}
 use Rattle.jh_nemesis.specs.Work.{NemesisValue, size_of_step}
 use Rattle.jh_nemesis.specs.Steps.{withdraw_all_answer, state_after}
 use Rattle.jh_nemesis.specs.NemesisInside.{state_of}
-use Rattle.jh_nemesis.specs.declared.records.Record.TheVariants.{WithdrawnAll}
+use Rattle.jh_nemesis.specs.declared.records.AcceptedStep.TheVariants.{WithdrawnAll}
 use Rattle.jh_nemesis.specs.declared.steps.Step.TheVariants.{WithdrawAll}
 use Rattle.jh_nemesis.specs.declared.steps.StepAnswer.TheVariants as StepAnswer
 use Rattle.jh_nemesis.proofs.CursorLemmas.{all_room, all_right, put_true, put_future, put_work, all_withdrawn_state}

@@ -7,7 +7,7 @@ use Rattle.jh_nemesis.specs.Work.{NemesisValue, size_of_step}
 use Rattle.jh_nemesis.specs.Steps.{withdraw_answer, state_after}
 use Rattle.jh_nemesis.specs.RecordsInside.{begun_fault, faults_at, past_of, record_at}
 use Rattle.jh_nemesis.specs.NemesisInside.{state_of}
-use Rattle.jh_nemesis.specs.declared.records.Record.TheVariants.{Withdrawn}
+use Rattle.jh_nemesis.specs.declared.records.AcceptedStep.TheVariants.{Withdrawn}
 use Rattle.jh_nemesis.specs.declared.steps.Step.TheVariants.{Withdraw}
 use Rattle.jh_nemesis.specs.Steps.{max_steps}
 use Rattle.jh_nemesis.specs.declared.steps.StepAnswer.TheVariants as StepAnswer
