@@ -11,3 +11,4 @@ mod writers;
 
 pub use fork::fork_graph;
 pub use graph::graph_of;
+pub use steps::{add, add_nodes, no_steps};

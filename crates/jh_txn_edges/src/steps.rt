@@ -9,7 +9,9 @@ use jh_txn_writers::Writer;
 use std::alloc::{AllocError, Global};
 
 /// A graph of so many nodes and no steps.
-pub(crate) fn no_steps(alloc: Global, count: usize) -> Result<Vec<Vec<Step>>, AllocError>
+///
+/// Errors: out of memory.
+pub fn no_steps(alloc: Global, count: usize) -> Result<Vec<Vec<Step>>, AllocError>
     ensures count { IfOk result (λ graph. length graph.items ≡ count) }
     ensures none { IfOk result (λ graph. (node : ℕ) → steps_to graph.items node ≡ []) }
 {
@@ -19,11 +21,9 @@ pub(crate) fn no_steps(alloc: Global, count: usize) -> Result<Vec<Vec<Step>>, Al
 }
 
 /// Adds so many nodes to which no steps lead.
-pub(crate) fn add_nodes(
-    alloc: Global,
-    graph: &mut Vec<Vec<Step>>,
-    count: usize,
-) -> Result<(), AllocError>
+///
+/// Errors: out of memory; some of the nodes may be there then.
+pub fn add_nodes(alloc: Global, graph: &mut Vec<Vec<Step>>, count: usize) -> Result<(), AllocError>
     ensures count { OnOk result (length graph.new.items ≡ length graph.old.items + count) }
     ensures none { OnOk result
         ((node : ℕ) → steps_to graph.new.items node ≡ steps_to graph.old.items node) }
@@ -34,8 +34,10 @@ pub(crate) fn add_nodes(
     Ok(())
 }
 
-/// Adds a step that leads to a node.
-pub(crate) fn add(graph: &mut [Vec<Step>], step: Step, node: usize) -> Result<(), AllocError>
+/// Adds a step that leads to a node of the graph.
+///
+/// Errors: out of memory.
+pub fn add(graph: &mut [Vec<Step>], step: Step, node: usize) -> Result<(), AllocError>
     requires { node < length graph.old }
     ensures { OnOk result (AddsSteps (IsThis step node) graph.old graph.new) }
 {

@@ -11,9 +11,9 @@ ghost use Rattle.jh_txn_seen.specs.Marks.{IsMarked};
 ghost use Rattle.jh_txn_seen.specs.Places.{AreWritersBelow, writer_place};
 
 use crate::kept::add_kept_steps;
-use crate::steps::{add, add_commit_steps, add_nodes, no_steps};
+use crate::steps::add_commit_steps;
 use jh_txn::{Step, Why};
-use jh_txn_edges::fork_graph;
+use jh_txn_edges::{add, add_nodes, fork_graph, no_steps};
 use jh_txn_seen::{DoneRead, is_marked, mark_elements, writer_of};
 use jh_txn_writers::Writer;
 use std::alloc::{AllocError, Global};

@@ -10,10 +10,10 @@ ghost use Rattle.jh_txn_writers.specs.Numbers.{AreNumbersOf};
 ghost use Rattle.jh_txn_writers.specs.Writers.{AreWriters};
 
 use crate::kept::add_kept_steps;
-use crate::steps::{add_commit_steps, add_nodes, no_steps};
+use crate::steps::add_commit_steps;
 use crate::unread::{add_hub_steps, add_unread_steps};
 use jh_txn::{Step, Txn};
-use jh_txn_edges::graph_of;
+use jh_txn_edges::{add_nodes, graph_of, no_steps};
 use jh_txn_seen::{DoneRead, marks_of_read, middles_of};
 use jh_txn_writers::Writer;
 use std::alloc::{AllocError, Global};

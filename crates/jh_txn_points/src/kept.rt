@@ -10,8 +10,8 @@ ghost use Rattle.jh_txn_points.specs.Inside.{IsKeptStepTo, IsStepOfRow};
 ghost use Rattle.jh_txn_points.specs.PointSteps.{IsKeptStep, IsKeyHub, IsStepOfPoints};
 ghost use Rattle.jh_txn_points.specs.Points.{IsArriving, IsLeaving};
 
-use crate::steps::add;
 use jh_txn::{Step, Why};
+use jh_txn_edges::add;
 use std::alloc::AllocError;
 
 /// Adds the steps of a graph of transactions, but for those to hubs of keys and from them.

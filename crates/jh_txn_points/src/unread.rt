@@ -11,8 +11,8 @@ ghost use Rattle.jh_txn_seen.specs.Places.{AreWriterKeysBelow, AreWritersBelow};
 ghost use Rattle.jh_txn_seen.specs.Reads.{IsAmongReads};
 ghost use Rattle.jh_txn_seen.specs.declared.done_reads.DoneRead.{DoneRead};
 
-use crate::steps::add;
 use jh_txn::{Step, Why};
+use jh_txn_edges::add;
 use jh_txn_seen::{DoneRead, Middle, is_full, is_marked, writer_of};
 use jh_txn_writers::Writer;
 use std::alloc::AllocError;
