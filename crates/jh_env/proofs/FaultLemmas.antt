@@ -11,7 +11,7 @@ use Rattle.std.proofs.lemmas.List.Folds.{list_any_none}
 use Rattle.jh_tables.specs.declared.faults.LinkFault.{LinkFault}
 use Rattle.jh_tables.specs.declared.faults.NodeFault.{NodeFault}
 use Rattle.jh_tables.specs.Plain.{fault_on_links, fault_on_nodes}
-use Rattle.jh_env.specs.EffectsInside.{IsLinkAmount}
+use Rattle.jh_env.specs.Amounts.{IsLinkAmount}
 use Rattle.jh_env.specs.Faults.{kept_list, kept_links, kept_nodes, AreApart, is_same_link, is_same_node, is_same_bumped, FitsCount, is_unknown_link, is_unknown_node, is_unknown_bump, IsFault}
 
 none_of : (x y : Bool) → (x || y) ≡ false → (x ≡ false) × (y ≡ false)

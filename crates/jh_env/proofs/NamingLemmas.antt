@@ -6,7 +6,7 @@ use Rattle.jh_tables.specs.declared.faults.LinkFault.{LinkFault}
 use Rattle.jh_tables.specs.declared.faults.LinkFault.TheVariants as Kind
 use Rattle.jh_tables.specs.declared.faults.NodeFault.{NodeFault}
 use Rattle.jh_tables.specs.Plain.{fault_on_links, fault_on_nodes}
-use Rattle.jh_env.specs.EffectsInside.{IsLinkAmount}
+use Rattle.jh_env.specs.Amounts.{IsLinkAmount}
 use Rattle.jh_env.specs.Faults.{AreBumps, AreLinksOf, FaultValue, RefusesBumps, RefusesLinks, RefusesNodes, is_self_link, is_unknown_bump, is_unknown_link, is_unknown_node, kept_links, kept_nodes}
 use Rattle.jh_env.specs.Faults.{Bump, Cut}
 use Rattle.jh_env.specs.Naming.{AreAllFound, AreLinksBy, IsFaultBy, IsRightKind, RefusesBumpsBy, RefusesLinksBy, RefusesNodesBy, are_bumps, known_bump, known_link, known_node}

@@ -2,7 +2,7 @@ pub use Rattle.jh_tables.specs.Standing
 pub mod Cells
 pub mod Names
 pub mod Faults
-pub mod EffectsInside
+pub mod Amounts
 pub mod FaultInside
 pub mod FaultOrder
 pub mod Overlay

@@ -9,7 +9,7 @@ use Rattle.std.specs.List.{filter_map, list_all, list_any}
 use Rattle.jh_edn.specs.Edn.{Edn, int, str, elements_of}
 use Rattle.jh_tables.specs.Plain.{fault_on_links}
 use Rattle.jh_tables.specs.declared.faults.LinkFault.{LinkFault}
-use Rattle.jh_env.specs.EffectsInside.{IsLinkAmount}
+use Rattle.jh_env.specs.Amounts.{IsLinkAmount}
 use Rattle.jh_env.specs.Faults.{FaultValue, is_same_bumped, is_self_link, is_unknown_bump}
 use Rattle.jh_env.specs.Faults.{is_unknown_link, is_unknown_node, kept_links}
 use Rattle.jh_env.specs.TextErrors.{place_of}

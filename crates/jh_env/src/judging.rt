@@ -3,7 +3,7 @@
 
 ghost use Rattle.std.specs.Prelude.{◌≡◌, ◌≢◌, ◌↔◌, ◌==◌, [], Some, IsTrue, MatchResult, is_none};
 ghost use Rattle.std.specs.List.{filter_map, list_all, list_any};
-ghost use Rattle.jh_env.specs.EffectsInside.{IsLinkAmount};
+ghost use Rattle.jh_env.specs.Amounts.{IsLinkAmount};
 ghost use Rattle.jh_env.specs.Faults.{is_self_link};
 ghost use Rattle.jh_env.specs.Naming as rule;
 ghost use Rattle.jh_env.specs.Naming.{AreLinksBy, RefusesLinksBy};

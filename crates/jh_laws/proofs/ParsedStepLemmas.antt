@@ -12,7 +12,7 @@ use Rattle.std.proofs.lemmas.Option.{slice_get_within, get_or_from_slice_get}
 use Rattle.jh_edn.specs.Edn.{Edn, int, keyword, list, vector, Items, no_items, item, list_of}
 use Rattle.jh_env.specs.Faults.{FaultValue, AreApart, kept_links, kept_nodes, is_self_link, is_same_link, is_same_node}
 use Rattle.jh_env.specs.Faults.{Bump}
-use Rattle.jh_env.specs.EffectsInside.{IsLinkAmount}
+use Rattle.jh_env.specs.Amounts.{IsLinkAmount}
 use Rattle.jh_env.specs.Names.{node_places}
 use Rattle.jh_tables.specs.Plain.{fault_on_links, fault_on_nodes}
 use Rattle.jh_tables.specs.declared.faults.LinkFault.{LinkFault}

@@ -7,7 +7,7 @@ use Rattle.std.proofs.lemmas.Bool.{both_ways, eqb-true}
 use Rattle.std.proofs.lemmas.List.Elements.{All-contains}
 use Rattle.jh_edn.specs.View.{view, views, view_pair, view_pairs}
 use Rattle.jh_edn.specs.declared.value.Value.{Value}
-use Rattle.jh_env.specs.EffectsInside.{IsLinkAmount}
+use Rattle.jh_env.specs.Amounts.{IsLinkAmount}
 use Rattle.jh_env.specs.Faults.{FaultValue, Bump, is_self_link, is_unknown_link, kept_links, kept_nodes}
 use Rattle.jh_env.specs.Naming.{AreAllFound, AreLinksBy, IsFaultBy, IsRightKind, RefusesBumpsBy, RefusesLinksBy, RefusesNodesBy, are_bumps, bump_of, ends_of, known_link, named_node}
 use Rattle.jh_tables.specs.Plain.{fault_on_links, fault_on_nodes}

@@ -1,7 +1,7 @@
 -- What a contract sees of a fault as a program reads it (this project's own).
 use Rattle.std.specs.Prelude.{⊤, IfSome}
 use Rattle.jh_edn.specs.View.{views, view_pairs}
-use Rattle.jh_env.specs.EffectsInside.{IsLinkAmount}
+use Rattle.jh_env.specs.Amounts.{IsLinkAmount}
 use Rattle.jh_step_texts.specs.FaultText.{FaultSpelling}
 use Rattle.jh_step_texts.specs.FaultText.FaultSpelling.{Links, Nodes, Bumps, SplitOne, Grudge}
 use Rattle.jh_step_texts.specs.declared.shapes.SpelledFault.{SpelledFault}

@@ -5,7 +5,7 @@ ghost use Rattle.std.specs.Prelude.{◌≡◌, ◌<◌, length, map, IfOk};
 ghost use Rattle.std.specs.List.{All};
 ghost use Rattle.jh_edn.specs.View.{view, views, view_pairs};
 ghost use Rattle.jh_tables.specs.Plain.{fault_on_links, fault_on_nodes};
-ghost use Rattle.jh_env.specs.EffectsInside.{IsLinkAmount};
+ghost use Rattle.jh_env.specs.Amounts.{IsLinkAmount};
 ghost use Rattle.jh_env.specs.Faults.{FitsCount};
 ghost use Rattle.jh_tables.specs.Faults.FaultValue.{Bump};
 ghost use Rattle.jh_step_texts.specs.FaultWritten as text;

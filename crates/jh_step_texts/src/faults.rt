@@ -3,7 +3,7 @@
 
 ghost use Rattle.std.specs.Prelude.{Some, IfOk, IfSome, length};
 ghost use Rattle.jh_edn.specs.View.{views, view_pairs};
-ghost use Rattle.jh_env.specs.EffectsInside.{IsLinkAmount};
+ghost use Rattle.jh_env.specs.Amounts.{IsLinkAmount};
 ghost use Rattle.jh_env.specs.Faults.{FitsCount};
 ghost use Rattle.jh_step_texts.specs.FaultText.{IsParsedAs, IsRingOverAll, parsed_bumps};
 ghost use Rattle.jh_step_texts.specs.FaultText.{parsed_fault, parsed_links, parsed_nodes};

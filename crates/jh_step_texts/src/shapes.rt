@@ -1,7 +1,7 @@
 //! Faults as EDN values: how they are spelled. `specs/FaultText.antt` has the rule, case by case.
 
 ghost use Rattle.std.specs.Prelude.{◌≡◌, IfSome, MatchOption, option_map, is_some};
-ghost use Rattle.jh_env.specs.EffectsInside.{IsLinkAmount};
+ghost use Rattle.jh_env.specs.Amounts.{IsLinkAmount};
 ghost use Rattle.std.specs.List.{list_all};
 ghost use Rattle.jh_edn.specs.View.{view, views, view_pair, view_pairs};
 ghost use Rattle.jh_env.specs.Naming as naming;

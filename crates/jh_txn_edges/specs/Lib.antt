@@ -3,3 +3,4 @@ pub mod MiddleSteps
 pub mod Moments
 pub mod Graph
 pub mod Inside
+pub mod Adding

@@ -1,7 +1,8 @@
 //! Graphs of steps: how a step is added. `specs/Steps.antt` says which steps there are.
 
 ghost use Rattle.std.specs.Prelude.{◌≡◌, ◌<◌, ◌+◌, [], ℕ, length, IfOk, OnOk};
-ghost use Rattle.jh_txn_edges.specs.Inside.{AddsSteps, IsOther, IsThis};
+ghost use Rattle.jh_txn_edges.specs.Adding.{AddsSteps, IsThis};
+ghost use Rattle.jh_txn_edges.specs.Inside.{IsOther};
 ghost use Rattle.jh_txn_graph.specs.Graphs.{steps_to};
 
 use jh_txn::Step;
