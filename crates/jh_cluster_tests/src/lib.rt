@@ -14,7 +14,6 @@ mod plain_audit;
 #[cfg(test)]
 mod plain_simnode;
 #[cfg(test)]
-mod random;
 #[cfg(test)]
 mod shrink;
 #[cfg(test)]

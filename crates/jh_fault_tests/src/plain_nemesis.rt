@@ -5,12 +5,10 @@ mod cells;
 mod draws;
 mod faults;
 mod nemesis;
-mod random;
 mod steps;
 
 pub use cells::{PlainCells, all_links};
 pub use draws::random_cells;
 pub use faults::{LinkFault, NodeFault, PlainFault};
 pub use nemesis::{PlainNemesis, PlainStep};
-pub use random::Random;
 pub use steps::{Habit, random_step};

@@ -6,7 +6,6 @@
 #![tactic(auto)]
 
 #[cfg(test)]
-mod dice;
 #[cfg(test)]
 mod edn;
 #[cfg(test)]

@@ -7,4 +7,4 @@ mod parts;
 mod random;
 
 pub use driver::PlainDriver;
-pub use random::{Random, random_source};
+pub use random::random_source;

@@ -6,13 +6,11 @@
 
 mod busy;
 mod checkers;
-mod dice;
 mod events;
 mod orders;
 mod register;
 
 pub use busy::busy_history;
 pub use checkers::{Case, random_case};
-pub use dice::Dice;
 pub use orders::{cut, ends_at, is_possible, judged_slowly, value_after};
 pub use register::random_history;

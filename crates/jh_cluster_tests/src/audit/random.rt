@@ -4,11 +4,11 @@
 
 use crate::audit::rows::{Run, run_of};
 use crate::plain_audit::{Line, audited_slowly, change, lines_of, text_of};
-use crate::random::Random;
 use jh_audit::audit;
 use jh_edn::{read_all, write};
 use jh_ops::{Op, history_of, value_of};
 use jh_simnode::Event;
+use jh_test_kit::Random;
 use std::alloc::Global;
 
 fn put(alloc: Global, text: &mut Vec<u8>, op: &Op) -> Option<()> {

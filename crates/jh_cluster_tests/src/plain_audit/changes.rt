@@ -2,7 +2,7 @@
 //! or says something else.
 
 use crate::plain_audit::lines::Line;
-use crate::random::Random;
+use jh_test_kit::Random;
 
 static KINDS: [&str; 4] = ["invoke", "ok", "fail", "info"];
 

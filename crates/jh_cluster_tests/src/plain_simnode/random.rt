@@ -1,10 +1,10 @@
 //! Requests, faults and steps that look random.
 
 use crate::plain_simnode::reach::node_at;
-use crate::random::Random;
 use jh_env::{Env, Fault, Node};
 use jh_nemesis::Step;
 use jh_ops::Request;
+use jh_test_kit::Random;
 use std::alloc::Global;
 
 /// A number from 0 to 4.

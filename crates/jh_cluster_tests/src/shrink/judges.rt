@@ -2,10 +2,10 @@
 //!
 //! None is answered where memory was refused.
 
-use crate::random::Random;
 use crate::shrink::entries::{dues, schedule};
 use jh_shrink::{Nobody, ScheduleJudge, ShrinkError, Shrunk, shrink, shrink_by};
 use jh_simnode::{Entry, Schedule};
+use jh_test_kit::Random;
 use std::alloc::Global;
 
 /// Whether an entry is due at a number.

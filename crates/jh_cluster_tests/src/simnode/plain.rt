@@ -5,12 +5,12 @@ ghost use Rattle.std.specs.Prelude.{[]};
 ghost use Rattle.jh_env.specs.Overlay.{StandsFor};
 
 use crate::plain_simnode::{PlainCluster, node_at, random_place, random_request, random_step};
-use crate::random::Random;
 use crate::simnode::fixtures::{env_of, value};
 use jh_edn::Value;
 use jh_env::Env;
 use jh_ops::{Request, Workload};
 use jh_simnode::{Settings, Store, World};
+use jh_test_kit::Random;
 use std::alloc::Global;
 
 /// A world with the definition beside it.

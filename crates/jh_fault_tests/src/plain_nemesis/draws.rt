@@ -2,8 +2,8 @@
 
 use crate::plain_nemesis::cells::{PlainCells, all_links};
 use crate::plain_nemesis::faults::{LinkFault, NodeFault, PlainFault};
-use crate::plain_nemesis::random::Random;
 use jh_env::{Life, Link, MAX_BUMPED_MS, MAX_FIXED_MS, MAX_LOSS, MAX_SLOWED_MS, NodeCell};
+use jh_test_kit::Random;
 use std::alloc::Global;
 
 /// A node of so many, mostly one of the first three, so that faults meet.

@@ -2,7 +2,7 @@
 
 use crate::plain_nemesis::draws::random_fault;
 use crate::plain_nemesis::nemesis::PlainStep;
-use crate::plain_nemesis::random::Random;
+use jh_test_kit::Random;
 use std::alloc::Global;
 
 /// How often each kind of step is drawn.

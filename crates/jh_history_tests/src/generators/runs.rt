@@ -3,8 +3,9 @@
 
 ghost use Rattle.std.specs.Prelude.{◌<◌};
 
-use crate::plain_generators::{PlainDriver, Random, random_source};
+use crate::plain_generators::{PlainDriver, random_source};
 use jh_gen::{Driver, DriverError, Ended, Thread};
+use jh_test_kit::Dice;
 use std::alloc::{AllocError, Global};
 use std::test::Fail;
 
@@ -38,14 +39,14 @@ fn end(driver: &mut Driver, plain: &mut PlainDriver, thread: u32, is_lost: bool)
 fn is_same_run(
     driver: &mut Driver,
     plain: &mut PlainDriver,
-    random: &mut Random,
+    dice: &mut Dice,
     threads: u32,
 ) -> Result<bool, AllocError>
     requires { 0 < threads }
 {
     for _ in 0..12u32 {
-        let thread = random.below(u64::from(threads)) as u32;
-        let draw = random.below(1_000_000);
+        let thread = dice.below(u64::from(threads)) as u32;
+        let draw = dice.below(1_000_000);
         let is_same = if plain.is_busy(thread as usize) {
             end(driver, plain, thread, draw < 300_000)
         } else {
@@ -60,17 +61,17 @@ fn is_same_run(
 
 /// How many calls a random generator gave in a random run, if driver and definition gave the same answers.
 fn calls_in_a_run(alloc: Global, seed: u64) -> Result<Option<usize>, DriverError> {
-    let mut random = Random::new(seed);
+    let mut dice = Dice::new(seed);
     let mut again = random;
-    let source = random_source(alloc, &mut random, 3)?;
-    let clients = 1 + random.below(3) as u32;
+    let source = random_source(alloc, &mut dice, 3)?;
+    let clients = 1 + dice.below(3) as u32;
     let mut plain = PlainDriver::new(alloc, source, clients)?;
     let source = random_source(alloc, &mut again, 3)?;
     let mut driver = match Driver::new(alloc, source, clients) {
         Err(DriverError::BadReserve) => return Ok(Some(0)),
         answer => answer?,
     };
-    let is_same = is_same_run(&mut driver, &mut plain, &mut random, clients + 1)?;
+    let is_same = is_same_run(&mut driver, &mut plain, &mut dice, clients + 1)?;
     Ok(is_same.then_some(plain.given()))
 }
 

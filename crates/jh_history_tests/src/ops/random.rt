@@ -2,13 +2,13 @@
 //!
 //! None is answered where memory was refused.
 
-use crate::dice::Dice;
 use crate::plain_ops::{
     Held, PlainOp, Record, Records, Step, Words, history_slowly, op_slowly, pairs_slowly,
     random_records, random_steps,
 };
 use jh_edn::{Pairs, Tagged, Text, Value, Values, read_one, write};
 use jh_ops::{HistoryError, Op, OpError, PairError, history_of, op_of, pair};
+use jh_test_kit::Dice;
 use std::alloc::Global;
 use std::ops::Range;
 

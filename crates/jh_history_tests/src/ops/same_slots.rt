@@ -4,10 +4,10 @@
 
 ghost use Rattle.std.specs.Prelude.{◌≡◌, ◌≤◌};
 
-use crate::dice::Dice;
 use crate::ops::players::{OfLog, Player};
 use crate::plain_slots::{PlainClaim, PlainSlots};
 use jh_slots::{Read, Seat, Slots};
+use jh_test_kit::Dice;
 use std::alloc::Global;
 use std::marker::Brand;
 

@@ -1,7 +1,7 @@
 //! Texts that look random.
 
-use crate::dice::Dice;
 use crate::plain_edn::pieces::{NESTS, ODDITIES, ROWS, SETS, SHAPES, SPOILS, pieces_of};
+use jh_test_kit::Dice;
 use std::alloc::{AllocError, Global};
 
 /// Puts one of the pieces behind a text, with other pieces for its letters, at most so many inside

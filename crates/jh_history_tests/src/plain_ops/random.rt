@@ -2,10 +2,10 @@
 
 ghost use Rattle.std.specs.Prelude.{◌<◌};
 
-use crate::dice::Dice;
 use crate::plain_ops::pairs::Step;
 use crate::plain_ops::records::{Held, Record, Records, Words};
 use jh_ops::{Kind, Process};
+use jh_test_kit::Dice;
 use std::alloc::{AllocError, Global};
 
 /// What stands between two of the texts below.

@@ -1,7 +1,7 @@
 //! A long history of a register by many clients, each busy all the time.
 
-use crate::plain_check::dice::Dice;
 use jh_linear::RegCall;
+use jh_test_kit::Dice;
 use std::alloc::{AllocError, Global};
 
 /// One that does operations, one after another.

@@ -1,9 +1,9 @@
 //! The definitions of the checkers as plain, slow programs, and random histories with their
 //! answers.
 
-use crate::plain_check::dice::Dice;
 use crate::plain_check::events::{Event, add_item, any_events, listed, paired_events, text_of};
 use jh_ops::Workload;
+use jh_test_kit::Dice;
 use std::alloc::{AllocError, Global};
 
 /// The row of bits of the values of the adds of a kind.

@@ -1,8 +1,8 @@
 //! The operations that the plain checkers judge, and random ones. A value is a small number; where
 //! a set is read, it is a row of bits, one for each element from 0 to 4.
 
-use crate::plain_check::dice::Dice;
 use jh_ops::Workload;
+use jh_test_kit::Dice;
 use std::alloc::{AllocError, Global};
 
 /// Processes below this one are clients, and this one is the nemesis.

@@ -1,6 +1,6 @@
 //! Random histories of a register, by three clients.
 
-use crate::plain_check::dice::Dice;
+use jh_test_kit::Dice;
 use std::alloc::{AllocError, Global};
 
 /// One that does operations, one after another.

@@ -1,9 +1,10 @@
 //! The histories of several keys in one. None is answered where memory was refused.
 
-use crate::plain_check::{Case, Dice};
+use crate::plain_check::Case;
 use crate::plain_independent::answers::{answer_of, count_before};
 use crate::plain_independent::parts::{Part, random_parts};
 use jh_ops::Workload;
+use jh_test_kit::Dice;
 use std::alloc::Global;
 
 /// Puts the number of a part at as many random places as it has operations.

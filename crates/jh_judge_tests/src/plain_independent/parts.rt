@@ -1,11 +1,12 @@
 //! What is done with each key, and what is answered of that alone. None is answered where memory
 //! was refused.
 
-use crate::plain_check::{Case, Dice, random_case, random_history};
+use crate::plain_check::{Case, random_case, random_history};
 use crate::spelled::ops_of;
 use jh_check::CheckError;
 use jh_checkers::{Checker, Judging, check_history, write_finding};
 use jh_ops::Workload;
+use jh_test_kit::Dice;
 use std::alloc::Global;
 
 /// Keys in normal order, each as it is printed. Behind a bar stands how some may be written, too.

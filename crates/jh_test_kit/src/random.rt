@@ -1,4 +1,4 @@
-//! Numbers that look random: the same ones for the same seed.
+//! Numbers that look random, by the generator that runs use, where a row of 2^31 is too short.
 
 use rand_core::utils::NextWord;
 use rand_pcg::Lcg128Xsl64;
@@ -23,12 +23,12 @@ impl Random {
     }
 
     /// Whether a number below four is below this one: never at 0, always at 4.
-    pub(crate) fn is_within(&mut self, of_four: u64) -> bool {
+    pub fn is_within(&mut self, of_four: u64) -> bool {
         self.below(4) < of_four
     }
 
     /// A number from the least to the most, often one of these two.
-    pub(crate) fn amount(&mut self, least: u64, most: u64) -> u64 {
+    pub fn amount(&mut self, least: u64, most: u64) -> u64 {
         let width = most.saturating_sub(least).saturating_add(1);
         match self.below(4) {
             0 => least,
@@ -38,7 +38,7 @@ impl Random {
     }
 
     /// A number other than 0, at most so far from it, either way.
-    pub(crate) fn offset(&mut self, most: u64) -> i64 {
+    pub fn offset(&mut self, most: u64) -> i64 {
         let amount = i64::try_from(self.amount(1, most)).unwrap_or(1);
         match self.below(2) {
             0 => amount,
