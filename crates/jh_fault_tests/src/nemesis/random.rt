@@ -7,11 +7,11 @@ ghost use Rattle.std.specs.Prelude.{[], IfSome};
 ghost use Rattle.jh_env.specs.Overlay.{StandsFor};
 
 use crate::plain_nemesis::{
-    Habit, PlainCells, PlainFault, PlainNemesis, PlainStep, Random, all_links, random_cells,
-    random_step,
+    Habit, PlainCells, PlainFault, PlainNemesis, PlainStep, all_links, random_cells, random_step,
 };
 use jh_env::{Env, Node, Nodes};
 use jh_nemesis::{Nemesis, Step, StepAnswer};
+use jh_test_kit::Random;
 use std::alloc::Global;
 
 /// What is drawn: steps over so many nodes, with ids below a number.

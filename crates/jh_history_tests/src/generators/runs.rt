@@ -62,7 +62,7 @@ fn is_same_run(
 /// How many calls a random generator gave in a random run, if driver and definition gave the same answers.
 fn calls_in_a_run(alloc: Global, seed: u64) -> Result<Option<usize>, DriverError> {
     let mut dice = Dice::new(seed);
-    let mut again = random;
+    let mut again = dice;
     let source = random_source(alloc, &mut dice, 3)?;
     let clients = 1 + dice.below(3) as u32;
     let mut plain = PlainDriver::new(alloc, source, clients)?;

@@ -5,11 +5,12 @@ ghost use Rattle.jh_linear.specs.Order.{EndAfterInvoked};
 use crate::check::register::found;
 use crate::check::rows::{Ask, answer, calls_in};
 use crate::plain_check::{
-    Dice, busy_history, cut, ends_at, is_possible, judged_slowly, random_case, random_history,
+    busy_history, cut, ends_at, is_possible, judged_slowly, random_case, random_history,
     value_after,
 };
 use jh_linear::{LinVerdict, RegOp, Stuck, check, check_order};
 use jh_ops::Workload;
+use jh_test_kit::Dice;
 use std::alloc::Global;
 
 /// Whether a checker's answer to a random history is that of the plain program. None: memory was refused.
