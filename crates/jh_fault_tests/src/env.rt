@@ -9,6 +9,7 @@ mod faults;
 mod grudge;
 mod largest;
 mod names;
+mod naming;
 mod rows;
 mod same_grudges;
 mod starting;

@@ -27,6 +27,7 @@ pub(crate) enum Ask {
     Tagged,
     Apart,
     Untagged,
+    Under,
 }
 
 /// The error of a row that cannot be asked. It is no row's answer, as `holds` takes it for memory that was refused.
@@ -60,6 +61,7 @@ fn answer(alloc: Global, ask: &Ask, question: &str) -> Result<Vec<u8>, EdnError>
         Ask::Tagged => values::tagged(alloc, question),
         Ask::Apart => values::apart(alloc, question),
         Ask::Untagged => values::untagged(alloc, question),
+        Ask::Under => values::under(alloc, question),
     }
 }
 

@@ -4,8 +4,8 @@
 use crate::edn::reading::print_all;
 use crate::edn::rows::{Ask, MALFORMED, ask_all};
 use jh_edn::{
-    EdnError, Tagged, Text, Value, Values, normal_laws, print_laws, put, read_all, write,
-    write_part,
+    EdnError, Tagged, Text, Value, Values, normal_laws, print_laws, put, read_all, value_under,
+    write, write_part,
 };
 use std::alloc::{AllocError, Global};
 use std::cmp::Ordering;
@@ -254,4 +254,26 @@ fn takes_tags_off(rt: HostRuntime) -> Result<(), Fail> {
 fn states_laws_of_values() {
     normal_laws();
     print_laws();
+}
+
+/// What stands under `:a` in the map of a text, printed.
+pub(crate) fn under(alloc: Global, text: &str) -> Result<Vec<u8>, EdnError> {
+    let Value::Map(pairs) = &only(alloc, text)? else {
+        return Ok(b"no map".to_vec(alloc)?);
+    };
+    let mut printed = Vec::new(alloc);
+    match value_under("a", pairs.as_slice()) {
+        Some(value) => write(value, &mut printed)?,
+        None => put(b"nothing", &mut printed)?,
+    }
+    Ok(printed)
+}
+
+#[test]
+fn finds_what_stands_under_a_key(rt: HostRuntime) -> Result<(), Fail> {
+    let rows = "\
+        {:b 1 :a [2]}\x1f[2]\
+        \x1e{:b 1}\x1fnothing\
+        \x1e{a 1 \"a\" 2 [:a] 3}\x1fnothing";
+    ask_all(rt.alloc(), &Ask::Under, rows)
 }

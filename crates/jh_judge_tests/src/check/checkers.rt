@@ -4,9 +4,11 @@ use crate::check::rows::{Ask, ask_all};
 use crate::spelled::ops_of;
 use jh_check::{
     CheckError, CounterResult, IdsResult, SetResult, Verdict, check_counter, check_set,
-    check_unique, end_of, is_ok_read, merge, same_values_are_equal,
+    check_unique, end_of, final_read, in_normal_order, is_among, is_ok_read, merge, read_ends,
+    same_values_are_equal,
 };
-use jh_ops::{Pair, Workload};
+use jh_edn::Value;
+use jh_ops::{Pair, Workload, pair};
 use std::alloc::Global;
 use std::test::Fail;
 
@@ -121,4 +123,48 @@ fn knows_reads_that_happened(rt: HostRuntime) {
         let found = read_and_end(rt.alloc(), history, Pair { invoke, outcome });
         assert!(rt; found.is_none_or(|found| found == expected));
     }
+}
+
+/// The place of the last read of a set that happened. None: memory was refused.
+fn final_place(alloc: Global, history: &str) -> Option<Option<usize>> {
+    Some(final_read(&ops_of(alloc, history)?).map(|read| read.0))
+}
+
+#[test]
+fn knows_the_final_read(rt: HostRuntime) {
+    for (history, expected) in [
+        (
+            "1 :ok :read 5; 1 :ok :read []; 1 :fail :read [1]; :nemesis :ok :read [2]",
+            Some(1),
+        ),
+        ("1 :invoke :read; 1 :info :read", None),
+    ] {
+        let found = final_place(rt.alloc(), history);
+        assert!(rt; found.is_none_or(|found| found == expected));
+    }
+}
+
+/// Whether the reads of a history that happened end at these places. None: memory was refused.
+fn ends_at(alloc: Global, history: &str, places: &[usize]) -> Option<bool> {
+    let ops = ops_of(alloc, history)?;
+    let calls = pair(alloc, &ops).ok()?;
+    Some(read_ends(alloc, &ops, &calls).ok()?.as_slice() == places)
+}
+
+#[test]
+fn knows_where_reads_end(rt: HostRuntime) {
+    let history = "1 :invoke :read; 2 :invoke :read; 2 :ok :read 4; 3 :invoke :read; 1 :ok :read 0";
+    assert!(rt; ends_at(rt.alloc(), history, &[2, 4]) != Some(false));
+}
+
+/// Whether integers that are put in order have 2 among them, and not 4. None: memory was refused.
+fn are_found_in_order(alloc: Global) -> Option<bool> {
+    let values = vec![in alloc; Value::Int(3), Value::Int(1), Value::Int(2)].ok()?;
+    let sorted = in_normal_order(values).ok()?;
+    Some(is_among(&sorted, &Value::Int(2)) && !is_among(&sorted, &Value::Int(4)))
+}
+
+#[test]
+fn finds_values_in_order(rt: HostRuntime) {
+    assert!(rt; are_found_in_order(rt.alloc()) != Some(false));
 }
