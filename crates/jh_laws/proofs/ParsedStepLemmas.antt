@@ -29,7 +29,7 @@ use Rattle.jh_nemesis.specs.declared.steps.Step.TheVariants.{Withdraw, WithdrawA
 use Rattle.jh_step_texts.specs.declared.steps.StepTextError.{StepTextError}
 use Rattle.jh_step_texts.specs.declared.steps.StepTextError.TheVariants.{BadStep, BadId, UnknownNode, SelfLink, BadAmount}
 use Rattle.jh_step_texts.specs.declared.shapes.Named.{Named}
-use Rattle.jh_step_texts.proofs.FaultTextLemmas.{bumps_right}
+use Rattle.jh_env.proofs.BumpLemmas.{bumps_right}
 use Rattle.jh_step_texts.proofs.GrudgeLemmas.{made_crossing, places_apart, order_distinct}
 use Rattle.jh_step_texts.proofs.LinkLemmas.{some_of_any, in_range, in_links}
 use Rattle.jh_laws.specs.StepLines.{IsFaultOn, IsStepOver}

@@ -3,18 +3,18 @@ use Rattle.std.proofs.Common.{◌≡◌, ℕ, ◌<◌, ◌≤◌, true, false, L
 use Rattle.std.specs.Prelude.{◌≢◌, if◌then◌else◌, ℤ, Bool, map, IsPermutation, IfErr, IfOk, MatchResult, Result, Ok, Err}
 use lib.Seq.{length-take-le}
 use Rattle.std.specs.List.{All, AllPairs, Contains, list_any}
+use Rattle.std.proofs.lemmas.Grind.{common_steps}
 use Rattle.std.proofs.lemmas.Bool.{both_ways as differ, eqb-true, or_from, or_parts}
 use Rattle.std.proofs.lemmas.List.{get_or-map, get_or-take, length-map, take-append-drop}
 use Rattle.std.proofs.lemmas.List.Elements.{All-nil, All-cons, All-append, All-map, All-take, All-contains, Contains-append_left, Contains-append_right}
 use Rattle.std.proofs.lemmas.List.Folds.{list_any-append}
-use Rattle.jh_env.specs.Faults.{FaultValue, AreApart, kept_list, kept_links, is_self_link, is_same_link, IsBumpAmount, RefusesBumps, RefusesLinks, RefusesNodes, is_unknown_bump, is_unknown_node, is_same_bumped}
+use Rattle.jh_env.specs.Faults.{FaultValue, AreApart, kept_list, kept_links, is_self_link, is_same_link, IsBumpAmount, RefusesBumps, RefusesLinks, RefusesNodes, is_unknown_bump, is_unknown_link, is_unknown_node, is_same_bumped}
 use Rattle.jh_env.specs.declared.faults.FaultError.TheVariants as FaultError
 use Rattle.jh_env.proofs.FaultLemmas.{known_bumps, known_nodes}
 use Rattle.jh_grudge.specs.Grudges.{JoinsTwoOf}
 use Rattle.jh_grudge.specs.Lists.{AreDistinct}
 use Rattle.jh_env.specs.Names.{node_places}
 use Rattle.jh_step_texts.specs.NamedFaults.{AreLinksAmong}
-use Rattle.jh_step_texts.proofs.FaultTextLemmas.{cut_refused}
 use Rattle.jh_step_texts.proofs.LinkLemmas.{all_pairs_head, all_pairs_tail, contains_cons, contains_head, contains_none, contains_tail, some_of_any}
 use Rattle.jh_step_texts.proofs.GrudgeLemmas.{made_among, order_below, order_distinct, order_long}
 use Rattle.jh_laws.specs.StepLines.{links_of}
@@ -82,8 +82,15 @@ joined_among order n below links joins = made_among {E = ℕ} (Ok links) order n
 
 pub links_refused : (n : ℕ) (links : List (ℕ × ℕ)) (amount : Type 0) (e : FaultError.the_data) → AreLinksAmong n links → amount
     → RefusesLinks n links amount e → e ≡ FaultError.OutOfMemory
-links_refused n links amount FaultError.UnknownNode among right refused = cut_refused n links FaultError.UnknownNode among refused
-links_refused n links amount FaultError.SelfLink among right refused = cut_refused n links FaultError.SelfLink among refused
+links_refused n links amount FaultError.UnknownNode among right refused =
+    let (l, has, hit) = some_of_any (is_unknown_link n) links refused in
+    let (from, to, apart) = All-contains (λ l. (l.0 < n) × (l.1 < n) × (l.0 ≢ l.1)) links l among has in
+    let known : is_unknown_link n l ≡ false = grind (arith, common_steps) in
+    absurd (differ (is_unknown_link n l) known hit)
+links_refused n links amount FaultError.SelfLink among right refused =
+    let (l, has, hit) = some_of_any is_self_link links refused.1 in
+    let (from, to, apart) = All-contains (λ l. (l.0 < n) × (l.1 < n) × (l.0 ≢ l.1)) links l among has in
+    absurd (apart (eqb-true l.0 l.1 hit))
 links_refused n links amount FaultError.BadAmount among right refused = absurd (refused.1 right)
 links_refused n links amount FaultError.OutOfMemory among right refused = refl
 
