@@ -9,7 +9,6 @@ mod faults;
 mod grudge;
 mod largest;
 mod names;
-mod naming;
 mod rows;
 mod same_grudges;
 mod starting;
