@@ -130,7 +130,7 @@ All 4 records.
 <pre>{:valid? false, :stuck {:index 3, :type :ok, :process 1, :f :read, :value 0}, :order [0], :value 1, :pending [1]}</pre>
 <g class="marks">
 <svg class="placed" x="240" y="0"
-<svg class="stuck" x="240" y="32" width="232" height="32">
+<svg class="stuck" id="found-0-1" x="240" y="32" width="232" height="32">
 >stuck</text>
 !<svg
 § set - - -
@@ -239,7 +239,7 @@ fn keys_have_sections_of_their_own(rt: HostRuntime) {
 <p>All 4 records.</p>
 <li>process 1 0</li>
  add 3</text>
-<svg class="lost" x="240" y="0" width="232" height="32">
+<svg class="lost" id="found-0-0" x="240" y="0" width="232" height="32">
 <h2 id="part-1">Key :b: unknown</h2>
 <p>All 2 records.</p>
  add 2</text>
@@ -375,7 +375,7 @@ fn is_long_row_right(alloc: Global, workload: &str, before: u32, behind: u32, pa
 #[test]
 fn long_histories_are_shown_around_what_is_found(rt: HostRuntime) {
     let shown = "1\nRecords 1001 to 2000 of 2504; --from and --to choose others.\n\
-        <svg class=\"repeated\" x=\"240\" y=\"7984\"\n";
+        <svg class=\"repeated\" id=\"found-0-0\" x=\"240\" y=\"7984\"\n";
     assert!(rt; is_long_row_right(rt.alloc(), "unique-ids", 1_500, 1_000, shown));
     let near = "1\nRecords 0 to 999 of 2054;\n";
     assert!(rt; is_long_row_right(rt.alloc(), "unique-ids", 50, 2_000, near));

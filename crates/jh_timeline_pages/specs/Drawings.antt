@@ -1,5 +1,6 @@
 -- The picture of a history, byte for byte (this project's own; SVG within HTML that is XML too).
-use Rattle.std.specs.Prelude.{ℕ, List, [], ◌++◌, codes, min, slice_get, vec_len, Option, Some, None}
+use Rattle.std.specs.Prelude.{ℕ, ◌-◌, ◌==◌, Bool, true, false, List, [], ◌++◌, codes, min}
+use Rattle.std.specs.Prelude.{if◌then◌else◌, slice_get, vec_len, Option, Some, None}
 use Rattle.std.specs.Prelude.{option_map, option_and_then}
 use Rattle.std.specs.Fmt.{decimal}
 use Rattle.std.specs.List.{flat_map}
@@ -7,12 +8,11 @@ use Rattle.jh_edn.specs.Edn.{Edn}
 use Rattle.jh_ops.specs.Operation.{Operation, operations}
 use Rattle.jh_ops.specs.declared.operation.Kind.{Kind}
 use Rattle.jh_timeline_pages.specs.Labels.{answered_text, asked_text, label_text, record_text}
-use Rattle.jh_timeline_pages.specs.Marks.{class_of, meaning_text, note_text}
+use Rattle.jh_timeline_pages.specs.Marks.{class_of, is_pointer, meaning_text, note_text}
 use Rattle.jh_timeline_pages.specs.Markup.{short_bytes}
-use Rattle.jh_timeline_pages.specs.Pixels.{height_of, left_of, top_of}
+use Rattle.jh_timeline_pages.specs.Pixels.{bar_end, height_of, lane_width, left_of, middle_of, top_of}
 use Rattle.jh_timeline_pages.specs.declared.section.Section.{Section}
 use Rattle.jh_timeline.specs.declared.marks.Mark.{Mark}
-use Rattle.jh_timeline.specs.declared.marks.Note.{Note}
 use Rattle.jh_timeline.specs.declared.picture.Bar.{Bar}
 use Rattle.jh_timeline.specs.declared.picture.Window.{Window}
 
@@ -65,11 +65,14 @@ place_text left top height =
     ++ (codes "\" width=\"232\" height=\""
     ++ (decimal height ++ codes "\"><rect width=\"100%\" height=\"100%\"/>")))))
 
--- the box of a bar, of a class in the style: in its lane, from its first row to its last
+-- the place of a bar: in its lane, from its first row to its last
+abbrev pub bar_place : Window → Bar → List ℕ
+bar_place window bar =
+    place_text (left_of bar.lane) (top_of window bar.call.invoke) (height_of window bar.call)
+
+-- the box of a bar, of a class in the style
 abbrev pub box_text : List ℕ → Window → Bar → List ℕ
-box_text class window bar =
-    codes "<svg class=\"" ++ class
-    ++ place_text (left_of bar.lane) (top_of window bar.call.invoke) (height_of window bar.call)
+box_text class window bar = codes "<svg class=\"" ++ class ++ bar_place window bar
 
 -- an operation: its box, its records, and its label behind a sign; nothing where there is no
 -- invocation
@@ -86,6 +89,43 @@ abbrev pub drawn_bar : Section → Bar → List ℕ
 drawn_bar section bar =
     bar_text section.window bar (section_record section bar.call.invoke)
     (option_and_then (λ index. section_record section index) bar.call.completion)
+
+-- ---- what is not known
+
+-- the index before which records are drawn
+abbrev pub end_in : Window → ℕ → ℕ
+end_in window total = min window.to total
+
+-- how far down the records that are drawn end
+abbrev pub bottom_of : Section → ℕ
+bottom_of section = top_of section.window (end_in section.window (vec_len section.history))
+
+-- It is not known whether an operation that ended so took effect, nor when (jepsen.history: `:info` is
+-- indeterminate, and so is what has no completion).
+abbrev pub may_happen_later : Option Kind → Bool
+may_happen_later None = true
+may_happen_later (Some Kind.Info) = true
+may_happen_later ending = false
+
+-- a line from the end of a bar down to the bottom
+abbrev pub tail_text : Window → Bar → ℕ → List ℕ
+tail_text window bar bottom =
+    codes "<path class=\"tail\" d=\"M" ++ (decimal (middle_of bar.lane) ++ (codes " "
+    ++ (decimal (bar_end window bar) ++ (codes "V"
+    ++ (decimal bottom ++ codes "\"/>\n")))))
+
+-- what becomes of an operation behind its bar: it may take effect at any later time where its outcome is
+-- not known; nothing where there is no invocation
+abbrev pub outcome_text : Section → Bar → Option Operation → Option Kind → List ℕ
+outcome_text section bar None ending = []
+outcome_text section bar (Some invocation) ending =
+    if may_happen_later ending then tail_text section.window bar (bottom_of section) else []
+
+-- the same of a bar, with the records that it has in the history
+abbrev pub drawn_tail : Section → Bar → List ℕ
+drawn_tail section bar =
+    outcome_text section bar (section_record section bar.call.invoke)
+    (ending_of (option_and_then (λ index. section_record section index) bar.call.completion))
 
 -- ---- faults
 
@@ -108,51 +148,63 @@ drawn_fault section index = fault_text section.window index (section_record sect
 
 -- ---- marks
 
+-- the name of a mark, to which a link may lead: the numbers of its section and of its bar
+abbrev pub mark_name : ℕ → ℕ → List ℕ
+mark_name number bar = codes "found-" ++ (decimal number ++ (codes "-" ++ decimal bar))
+
+-- a mark that points at something has its name
+abbrev pub named_text : ℕ → Mark → List ℕ
+named_text number mark =
+    if is_pointer mark.note then codes "\" id=\"" ++ mark_name number mark.bar else []
+
 -- a mark, which says what it means, with its text at the right end of a bar; nothing where there is
 -- no bar
-abbrev pub mark_text : Window → Note → Option Bar → List ℕ
-mark_text window note None = []
-mark_text window note (Some bar) =
-    box_text (class_of note) window bar ++ codes "<title>" ++ meaning_text note
-    ++ codes "</title><text x=\"228\" y=\"12\">" ++ note_text note ++ codes "</text></svg>\n"
+abbrev pub mark_text : ℕ → Window → Mark → Option Bar → List ℕ
+mark_text number window mark None = []
+mark_text number window mark (Some bar) =
+    codes "<svg class=\"" ++ class_of mark.note ++ named_text number mark ++ bar_place window bar
+    ++ codes "<title>" ++ meaning_text mark.note
+    ++ codes "</title><text x=\"228\" y=\"12\">" ++ note_text mark.note ++ codes "</text></svg>\n"
 
--- a mark at the bar that it names
-abbrev pub drawn_mark : Section → Mark → List ℕ
-drawn_mark section mark =
-    mark_text section.window mark.note (slice_get section.picture.bars.items mark.bar)
+-- a mark at the bar that it names, in the section of a number
+abbrev pub drawn_mark : ℕ → Section → Mark → List ℕ
+drawn_mark number section mark =
+    mark_text number section.window mark (slice_get section.picture.bars.items mark.bar)
 
 -- ---- the picture
-
--- the index before which records are drawn
-abbrev pub end_in : Window → ℕ → ℕ
-end_in window total = min window.to total
 
 -- so wide and so high, on a screen
 abbrev pub sides_text : ℕ → ℕ → List ℕ
 sides_text width height =
     codes " width=\"" ++ (decimal width ++ (codes "\" height=\"" ++ (decimal height ++ codes "\"")))
 
--- the same, whatever it is made as wide as
-abbrev pub view_text : ℕ → ℕ → List ℕ
-view_text width height =
-    codes " viewBox=\"0 0 " ++ (decimal width ++ (codes " " ++ (decimal height ++ codes "\">\n")))
+-- the same, whatever it is made as wide as, and how far to the right it begins
+abbrev pub view_text : ℕ → ℕ → ℕ → List ℕ
+view_text left width height =
+    codes " viewBox=\"" ++ (decimal left ++ (codes " 0 " ++ (decimal width ++ (codes " "
+    ++ (decimal height ++ codes "\">\n")))))
 
--- the opening of a picture of this size
-abbrev pub opening_text : ℕ → ℕ → List ℕ
-opening_text width height =
+-- the opening of a picture of this size, which begins so far to the right
+abbrev pub opening_text : ℕ → ℕ → ℕ → List ℕ
+opening_text left width height =
     codes "<div class=\"picture\">\n<svg xmlns=\"http://www.w3.org/2000/svg\""
-    ++ sides_text width height ++ view_text width height
+    ++ sides_text width height ++ view_text left width height
 
--- the opening of the picture: as wide as its lanes, with the one of the nemesis, and as high as the
--- records that are drawn
+-- how much is not shown at the left: the lane of the nemesis, where it did nothing
+abbrev pub left_out : Section → ℕ
+left_out section = if vec_len section.picture.faults == 0 then lane_width else 0
+
+-- the opening of the picture: as wide as its lanes, with the one of the nemesis where that is shown, and
+-- as high as the records that are drawn
 abbrev pub picture_head : Section → List ℕ
 picture_head section =
-    opening_text (left_of (vec_len section.picture.lanes))
-    (top_of section.window (end_in section.window (vec_len section.history)))
+    opening_text (left_out section) (left_of (vec_len section.picture.lanes) - left_out section)
+    (bottom_of section)
 
--- faults below bars, and bars below marks
-abbrev pub picture_text : Section → List ℕ
-picture_text section =
+-- of the section of a number: faults below what is not known, that below bars, and bars below marks
+abbrev pub picture_text : ℕ → Section → List ℕ
+picture_text number section =
     picture_head section ++ flat_map (drawn_fault section) section.picture.faults.items
+    ++ flat_map (drawn_tail section) section.picture.bars.items
     ++ flat_map (drawn_bar section) section.picture.bars.items ++ codes "<g class=\"marks\">\n"
-    ++ flat_map (drawn_mark section) section.marks.items ++ codes "</g>\n</svg>\n</div>\n"
+    ++ flat_map (drawn_mark number section) section.marks.items ++ codes "</g>\n</svg>\n</div>\n"

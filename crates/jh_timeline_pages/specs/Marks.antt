@@ -1,7 +1,8 @@
 -- What a mark says of an operation (what each says is the checkers'; how it is said is this
 -- project's own).
-use Rattle.std.specs.Prelude.{ℕ, List, [], ◌++◌, codes, Some, None}
+use Rattle.std.specs.Prelude.{ℕ, Bool, true, false, List, [], ◌++◌, codes, find, Option, Some, None}
 use Rattle.std.specs.Fmt.{decimal, signed_decimal}
+use Rattle.jh_timeline.specs.declared.marks.Mark.{Mark}
 use Rattle.jh_timeline.specs.declared.marks.Note.{Note}
 use Rattle.jh_timeline.specs.declared.marks.Note.TheVariants.{Placed, Stuck, Pending, Lost}
 use Rattle.jh_timeline.specs.declared.marks.Note.TheVariants.{Recovered, Unexpected, Repeated}
@@ -10,6 +11,16 @@ use Rattle.jh_timeline.specs.declared.marks.StepKind.{StepKind}
 use Rattle.jh_timeline.specs.declared.marks.StepKind.TheVariants.{WriteRead, WriteWrite}
 use Rattle.jh_timeline.specs.declared.marks.StepKind.TheVariants.{FirstCommitter, ReadWrite}
 use Rattle.jh_timeline.specs.declared.marks.StepKind.TheVariants.{RealTime}
+
+-- A note that points at something: any but a place in an order, and that an operation is pending.
+abbrev pub is_pointer : Note → Bool
+is_pointer (Placed number) = false
+is_pointer (Pending number) = false
+is_pointer note = true
+
+-- the first mark that points at something
+abbrev pub first_pointer : List Mark → Option Mark
+first_pointer marks = find (λ mark. is_pointer mark.note) marks
 
 -- the class of a note in the style, which is its name too
 abbrev pub class_of : Note → List ℕ

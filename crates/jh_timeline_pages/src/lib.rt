@@ -15,6 +15,7 @@ mod top;
 
 pub use error::PageError;
 pub use label::call_text;
+pub use marks::first_pointer;
 pub use markup::{escaped_text_is_inert, write_escaped};
 pub use page::write_page;
 pub use pixels::{LANE_WIDTH, ROW_HEIGHT};

@@ -1,6 +1,6 @@
 //! What marks say. `specs/Marks.antt` has the rule.
 
-ghost use Rattle.std.specs.Prelude.{◌≡◌, IfErr, OnOk};
+ghost use Rattle.std.specs.Prelude.{◌≡◌, IfErr, OnOk, option_map};
 ghost use Rattle.std.specs.Io.KnownBytes.{Appends};
 ghost use Rattle.jh_timeline_pages.specs.Marks as rule;
 ghost use Rattle.jh_timeline_pages.specs.Marks.{meaning_text, note_text, step_text};
@@ -8,8 +8,26 @@ ghost use Rattle.jh_timeline.specs.declared.marks.Note.{Note};
 
 use crate::error::PageError;
 use crate::markup::put;
-use jh_timeline::{Note, StepKind};
+use jh_timeline::{Mark, Note, StepKind};
 use std::io::Write;
+
+/// Whether a note points at something.
+pub(crate) fn is_pointer(note: Note) -> bool
+    ensures { result ≡ rule.is_pointer note }
+{
+    match note {
+        Note::Placed(_) | Note::Pending(_) => false,
+        _ => true,
+    }
+}
+
+/// The first mark that points at something: one that says more than a number in an order, or that an
+/// operation is pending. There the page is looked at first.
+pub fn first_pointer(marks: &[Mark]) -> Option<&Mark>
+    ensures { option_map (λ mark. mark.now) result ≡ rule.first_pointer marks.now }
+{
+    marks.iter().find(|mark| is_pointer(mark.note))
+}
 
 /// The class of a note in the style.
 pub(crate) fn class_of(note: Note) -> &'static str

@@ -1,6 +1,6 @@
 //! The page of histories. `specs/Page.antt` has the rule.
 
-ghost use Rattle.std.specs.Prelude.{◌≡◌, All, OnOk};
+ghost use Rattle.std.specs.Prelude.{◌≡◌, All, OnOk, option_map};
 ghost use Rattle.std.specs.Io.KnownBytes.{Appends};
 ghost use Rattle.std.specs.List.{enumerate_from, flat_map};
 ghost use Rattle.jh_ops.specs.OperationWritten.{IsWritable};
@@ -8,14 +8,15 @@ ghost use Rattle.jh_timeline_pages.specs.Page as rule;
 ghost use Rattle.jh_timeline_pages.specs.Page.{below_text, client_text, contents_text, heading_text};
 ghost use Rattle.jh_timeline_pages.specs.Page.{lane_text, section_link_text};
 ghost use Rattle.jh_timeline_pages.specs.Page.{anchor_text, page_text, drawn_records_text, section_text};
-ghost use Rattle.jh_timeline_pages.specs.Page.{window_text};
+ghost use Rattle.jh_timeline_pages.specs.Page.{jump_text, window_text};
 
-use crate::drawing::{end_in, write_picture};
+use crate::drawing::{end_in, write_mark_name, write_picture};
 use crate::error::PageError;
+use crate::marks::first_pointer;
 use crate::markup::{put, write_escaped_bytes};
 use crate::section::Section;
 use crate::top::{Top, write_top};
-use jh_timeline::{Lane, Window};
+use jh_timeline::{Lane, Mark, Window};
 use std::alloc::Global;
 use std::io::Write;
 
@@ -90,6 +91,22 @@ fn write_window<W: Write>(window: Window, total: usize, writer: &mut W) -> Resul
     }
 }
 
+/// Writes a link to a mark, if there is one.
+fn write_jump<W: Write>(number: usize, mark: Option<&Mark>, writer: &mut W) -> Result<(), PageError>
+    ensures { OnOk result
+        (Appends (W.contents writer.old) (W.contents writer.new)
+        (jump_text number (option_map (λ mark. mark.now) mark.entry))) }
+{
+    match mark {
+        Some(mark) => {
+            put(b"<p><a href=\"#", writer)?;
+            write_mark_name(number, mark.bar, writer)?;
+            put(b"\">Go to what was found</a></p>\n", writer)
+        }
+        None => Ok(()),
+    }
+}
+
 /// Writes the processes that a lane had.
 fn write_clients<W: Write>(lane: &Lane, writer: &mut W) -> Result<(), PageError>
     ensures { OnOk result (Appends (W.contents writer.old) (W.contents writer.new)
@@ -137,10 +154,11 @@ fn write_section<W: Write>(
     put(b"<section>\n", writer)?;
     write_heading(alloc, number, section.heading.as_slice(), writer)?;
     write_window(section.window, section.history.len(), writer)?;
+    write_jump(number, first_pointer(section.marks.as_slice()), writer)?;
     put(b"<ol class=\"lanes\">\n", writer)?;
     write_lanes(section.picture.lanes.as_slice(), writer)?;
     put(b"</ol>\n", writer)?;
-    write_picture(alloc, section, writer)?;
+    write_picture(alloc, number, section, writer)?;
     put(b"</section>\n", writer)
 }
 

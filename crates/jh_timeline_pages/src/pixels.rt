@@ -5,7 +5,7 @@
 ghost use Rattle.std.specs.Prelude.{◌≡◌};
 ghost use Rattle.jh_timeline_pages.specs.Pixels as rule;
 
-use jh_timeline::{Call, Window};
+use jh_timeline::{Bar, Call, Window};
 
 /// How wide a lane is, in pixels.
 pub const LANE_WIDTH: u128 = 240;
@@ -18,6 +18,13 @@ pub(crate) fn left_of(lane: usize) -> u128
     ensures { result ≡ rule.left_of lane }
 {
     (lane as u128 + 1) * LANE_WIDTH
+}
+
+/// How far to the right the middle of a lane's bars is.
+pub(crate) fn middle_of(lane: usize) -> u128
+    ensures { result ≡ rule.middle_of lane }
+{
+    left_of(lane) + 116
 }
 
 /// How far down the row of an index begins.
@@ -35,6 +42,13 @@ fn end_of(window: Window, call: &Call) -> usize
         Some(completion) => completion.min(window.to.saturating_sub(1)),
         None => call.invoke,
     }
+}
+
+/// How far down a bar ends.
+pub(crate) fn bar_end(window: Window, bar: &Bar) -> u128
+    ensures { result ≡ rule.bar_end window bar.now }
+{
+    top_of(window, bar.call.invoke) + height_of(window, &bar.call)
 }
 
 /// How high a bar is.

@@ -44,6 +44,8 @@ const HEAD: &[u8] =
     .fail rect { fill: var(--fail) }\n.info rect { fill: var(--info) }\n\
     .info rect, .open rect { stroke-dasharray: 4 2 }\n\
     .fault line { stroke: var(--fault); stroke-width: 2 }\n.fault text { fill: var(--fault) }\n\
+    .tail { fill: none; stroke: var(--ink); stroke-opacity: 0.5; stroke-dasharray: 2 3 }\n\
+    .marks > svg { scroll-margin-top: 6em }\n\
     .marks rect { fill: none; stroke: var(--mark); stroke-width: 4; pointer-events: none }\n\
     .marks text { fill: var(--mark); font-weight: bold; text-anchor: end }\n\
     .marks .pending rect { stroke: var(--pending); stroke-dasharray: 8 4 }\n\
@@ -67,7 +69,8 @@ const LEGEND: &[u8] = b"<p class=\"legend\"><span class=\"ok\">&#10003; ok</span
     <span class=\"fail\">&#10007; fail</span> <span class=\"info\">? info</span> \
     <span class=\"open\">&#8230; no completion</span> <span class=\"marked\">mark</span> \
     <span class=\"waits\">pending</span> <b>12</b> number in an order. Time goes down, and a line \
-    across is a fault. Point at a bar or a line to see its records, at a mark to see what it means.</p>\n";
+    across is a fault. A dotted line goes on below a bar whose outcome is unknown: it may take effect \
+    at any later time. Point at a bar or a line to see its records, at a mark to see what it means.</p>\n";
 
 /// Writes a sentence below the heading, if there is one.
 fn write_notice<W: Write>(alloc: Global, notice: &[u8], writer: &mut W) -> Result<(), PageError>

@@ -1,15 +1,14 @@
 -- Which records of a history a section shows (this project's own). Indexes count the records of the
 -- whole history from 0.
-use Rattle.std.specs.Prelude.{ℕ, ◌+◌, ◌-◌, Bool, true, false, ◌&&◌, List, find, if◌then◌else◌}
+use Rattle.std.specs.Prelude.{ℕ, ◌+◌, ◌-◌, Bool, ◌&&◌, List, if◌then◌else◌}
 use Rattle.std.specs.Prelude.{is_none, min, nat_lt, option_and_then, option_map, slice_get, Option}
 use Rattle.std.specs.Prelude.{unwrap_or}
 use Rattle.jh_timeline_sections.specs.declared.window.Choice.{Choice}
 use Rattle.jh_timeline.specs.Lanes.{call_end}
 use Rattle.jh_timeline.specs.declared.marks.Mark.{Mark}
-use Rattle.jh_timeline.specs.declared.marks.Note.{Note}
-use Rattle.jh_timeline.specs.declared.marks.Note.TheVariants.{Placed, Pending}
 use Rattle.jh_timeline.specs.declared.picture.Bar.{Bar}
 use Rattle.jh_timeline.specs.declared.picture.Window.{Window}
+use Rattle.jh_timeline_pages.specs.Marks.{first_pointer}
 
 -- of so many records all are shown where none are chosen
 abbrev pub max_whole : ℕ
@@ -23,17 +22,11 @@ shown_around = 1000
 abbrev pub shown_before : ℕ
 shown_before = 500
 
--- A note that points at something: any but a place in an order, and that an operation is pending.
-abbrev pub is_pointer : Note → Bool
-is_pointer (Placed number) = false
-is_pointer (Pending number) = false
-is_pointer note = true
-
 -- the index at which the first bar ends that something points at
 abbrev pub focus_of : List Bar → List Mark → Option ℕ
 focus_of bars marks =
     option_and_then (λ mark. option_map (λ bar. call_end bar.call) (slice_get bars mark.bar))
-    (find (λ mark. is_pointer mark.note) marks)
+    (first_pointer marks)
 
 -- no records are chosen, and there are too many to show all
 abbrev pub is_open : Choice → ℕ → Bool

@@ -1,11 +1,11 @@
 //! Which records of a history are shown. `specs/Windows.antt` has the rule.
 
-ghost use Rattle.std.specs.Prelude.{◌≡◌, find, option_map, slice_get};
+ghost use Rattle.std.specs.Prelude.{◌≡◌, option_map, slice_get};
 ghost use Rattle.jh_timeline_sections.specs.Windows as rule;
-ghost use Rattle.jh_timeline_sections.specs.Windows.{is_pointer};
 ghost use Rattle.jh_timeline.specs.Lanes as lanes;
 
-use jh_timeline::{Bar, Call, Mark, Note, Window};
+use jh_timeline::{Bar, Call, Mark, Window};
+use jh_timeline_pages::first_pointer;
 
 /// How many records are shown where none are chosen, and all of them.
 pub const MAX_SHOWN: usize = 2_000;
@@ -51,28 +51,11 @@ pub(crate) fn around(focus: Option<usize>, total: usize) -> Window
     }
 }
 
-/// Whether a note points at something.
-fn is_pointer(note: Note) -> bool
-    ensures { result ≡ is_pointer note }
-{
-    match note {
-        Note::Placed(_) | Note::Pending(_) => false,
-        _ => true,
-    }
-}
-
 /// The index at which a call ends.
 fn ends_at(call: Call) -> usize
     ensures { result ≡ lanes.call_end call }
 {
     call.completion.unwrap_or(call.invoke)
-}
-
-/// The first mark that points at something.
-fn first_pointer(marks: &[Mark]) -> Option<&Mark>
-    ensures { option_map (λ mark. mark.now) result ≡ find (λ mark. is_pointer mark.note) marks.now }
-{
-    marks.iter().find(|mark| is_pointer(mark.note))
 }
 
 /// The index at which a bar ends, if there is one.

@@ -55,7 +55,7 @@ in two lines</pre>
 <ol class="lanes">
 </ol>
 <div class="picture">
-<svg xmlns="http://www.w3.org/2000/svg" width="240" height="0" viewBox="0 0 240 0">
+<svg xmlns="http://www.w3.org/2000/svg" width="0" height="0" viewBox="240 0 0 0">
 <g class="marks">
 </g>
 </svg>
@@ -78,7 +78,7 @@ in two lines</pre>
 <li>process 0</li>
 </ol>
 <div class="picture">
-<svg xmlns="http://www.w3.org/2000/svg" width="480" height="32" viewBox="0 0 480 32">
+<svg xmlns="http://www.w3.org/2000/svg" width="240" height="32" viewBox="240 0 240 32">
 <svg class="ok" x="240" y="0" width="232" height="32"><rect width="100%" height="100%"/><title>{:type :invoke, :process 0, :f :write, :value 5}
 {:type :ok, :process 0, :f :write, :value 5}</title><text x="4" y="12">&#10003; write 5</text></svg>
 <g class="marks">
@@ -116,7 +116,7 @@ in two lines</pre>
 <li>process 0</li>
 </ol>
 <div class="picture">
-<svg xmlns="http://www.w3.org/2000/svg" width="480" height="32" viewBox="0 0 480 32">
+<svg xmlns="http://www.w3.org/2000/svg" width="240" height="32" viewBox="240 0 240 32">
 <svg class="ok" x="240" y="0" width="232" height="32"><rect width="100%" height="100%"/><title>{:type :invoke, :process 0, :f :read, :value nil}
 {:type :ok, :process 0, :f :read, :value 7}</title><text x="4" y="12">&#10003; read 7</text></svg>
 <g class="marks">
@@ -126,15 +126,16 @@ in two lines</pre>
 </section>
 <section>
 <p id="part-1">All 2 records.</p>
+<p><a href="#found-1-0">Go to what was found</a></p>
 <ol class="lanes">
 <li>process 1</li>
 </ol>
 <div class="picture">
-<svg xmlns="http://www.w3.org/2000/svg" width="480" height="32" viewBox="0 0 480 32">
+<svg xmlns="http://www.w3.org/2000/svg" width="240" height="32" viewBox="240 0 240 32">
 <svg class="fail" x="240" y="0" width="232" height="32"><rect width="100%" height="100%"/><title>{:type :invoke, :process 1, :f :read, :value nil}
 {:type :fail, :process 1, :f :read, :value nil}</title><text x="4" y="12">&#10007; read</text></svg>
 <g class="marks">
-<svg class="stuck" x="240" y="0" width="232" height="32"><rect width="100%" height="100%"/><title>stuck: no order has room for this operation</title><text x="228" y="12">stuck</text></svg>
+<svg class="stuck" id="found-1-0" x="240" y="0" width="232" height="32"><rect width="100%" height="100%"/><title>stuck: no order has room for this operation</title><text x="228" y="12">stuck</text></svg>
 </g>
 </svg>
 </div>
@@ -145,7 +146,7 @@ in two lines</pre>
 <ol class="lanes">
 </ol>
 <div class="picture">
-<svg xmlns="http://www.w3.org/2000/svg" width="240" height="0" viewBox="0 0 240 0">
+<svg xmlns="http://www.w3.org/2000/svg" width="0" height="0" viewBox="240 0 0 0">
 <g class="marks">
 </g>
 </svg>
@@ -177,7 +178,7 @@ fn draws_operations(rt: HostRuntime) -> Result<(), Fail> {
 <li>process 0</li>
 </ol>
 <div class="picture">
-<svg xmlns="http://www.w3.org/2000/svg" width="480" height="96" viewBox="0 0 480 96">
+<svg xmlns="http://www.w3.org/2000/svg" width="240" height="96" viewBox="240 0 240 96">
 <svg class="ok" x="240" y="0" width="232" height="32"><rect width="100%" height="100%"/><title>{:type :invoke, :process 0, :f :read, :value nil}
 {:type :ok, :process 0, :f :read, :value nil}</title><text x="4" y="12">&#10003; read nil</text></svg>
 <svg class="ok" x="240" y="32" width="232" height="32"><rect width="100%" height="100%"/><title>{:type :invoke, :process 0, :f :read, :value nil}
@@ -205,7 +206,7 @@ fn draws_operations(rt: HostRuntime) -> Result<(), Fail> {
 <li>process 0</li>
 </ol>
 <div class="picture">
-<svg xmlns="http://www.w3.org/2000/svg" width="480" height="32" viewBox="0 0 480 32">
+<svg xmlns="http://www.w3.org/2000/svg" width="240" height="32" viewBox="240 0 240 32">
 <svg class="ok" x="240" y="0" width="232" height="32"><rect width="100%" height="100%"/><title>{:type :invoke, :process 0, :f :write, :value 5}
 {:type :ok, :process 0, :f :write, :value 5}</title><text x="4" y="12">&#10003; write 5</text></svg>
 <g class="marks">
@@ -233,7 +234,8 @@ fn draws_operations(rt: HostRuntime) -> Result<(), Fail> {
 <li>process 1</li>
 </ol>
 <div class="picture">
-<svg xmlns="http://www.w3.org/2000/svg" width="720" height="64" viewBox="0 0 720 64">
+<svg xmlns="http://www.w3.org/2000/svg" width="480" height="64" viewBox="240 0 480 64">
+<path class="tail" d="M596 64V64"/>
 <svg class="fail" x="240" y="0" width="232" height="48"><rect width="100%" height="100%"/><title>{:type :invoke, :process 0, :f :cas, :value [0 1]}
 {:type :fail, :process 0, :f :cas, :value [0 1]}</title><text x="4" y="12">&#10007; cas [0 1]</text></svg>
 <svg class="info" x="480" y="16" width="232" height="48"><rect width="100%" height="100%"/><title>{:type :invoke, :process 1, :f :write, :value 2}
@@ -263,7 +265,8 @@ fn draws_operations(rt: HostRuntime) -> Result<(), Fail> {
 <li>process 0</li>
 </ol>
 <div class="picture">
-<svg xmlns="http://www.w3.org/2000/svg" width="480" height="96" viewBox="0 0 480 96">
+<svg xmlns="http://www.w3.org/2000/svg" width="240" height="96" viewBox="240 0 240 96">
+<path class="tail" d="M356 96V96"/>
 <svg class="ok" x="240" y="0" width="232" height="32"><rect width="100%" height="100%"/><title>{:type :invoke, :process 0, :f :read, :value nil}
 {:type :ok, :process 0, :f :read, :value [0 1 2 3 4 5]}</title><text x="4" y="12">&#10003; read [0 1 2 3 4 5]</text></svg>
 <svg class="ok" x="240" y="32" width="232" height="32"><rect width="100%" height="100%"/><title>{:type :invoke, :process 0, :f :read, :value nil}
@@ -302,7 +305,9 @@ fn draws_lanes_and_faults(rt: HostRuntime) -> Result<(), Fail> {
 <li>process 1</li>
 </ol>
 <div class="picture">
-<svg xmlns="http://www.w3.org/2000/svg" width="720" height="112" viewBox="0 0 720 112">
+<svg xmlns="http://www.w3.org/2000/svg" width="480" height="112" viewBox="240 0 480 112">
+<path class="tail" d="M356 48V112"/>
+<path class="tail" d="M596 112V112"/>
 <svg class="info" x="240" y="0" width="232" height="48"><rect width="100%" height="100%"/><title>{:type :invoke, :process 0, :f :read, :value nil}
 {:type :info, :process 0, :f :read, :value nil}</title><text x="4" y="12">? read</text></svg>
 <svg class="ok" x="480" y="16" width="232" height="64"><rect width="100%" height="100%"/><title>{:type :invoke, :process 1, :f :add, :value 7}
@@ -370,7 +375,7 @@ fn cuts_at_a_window(rt: HostRuntime) -> Result<(), Fail> {
 <li>process 4</li>
 </ol>
 <div class="picture">
-<svg xmlns="http://www.w3.org/2000/svg" width="720" height="48" viewBox="0 0 720 48">
+<svg xmlns="http://www.w3.org/2000/svg" width="480" height="48" viewBox="240 0 480 48">
 <svg class="ok" x="240" y="0" width="232" height="48"><rect width="100%" height="100%"/><title>{:type :invoke, :process 1, :f :add, :value 7}
 {:type :ok, :process 1, :f :add, :value 7}</title><text x="4" y="12">&#10003; add 7</text></svg>
 <svg class="ok" x="480" y="32" width="232" height="16"><rect width="100%" height="100%"/><title>{:type :invoke, :process 4, :f :read, :value nil}
@@ -397,7 +402,7 @@ fn cuts_at_a_window(rt: HostRuntime) -> Result<(), Fail> {
 <ol class="lanes">
 </ol>
 <div class="picture">
-<svg xmlns="http://www.w3.org/2000/svg" width="240" height="0" viewBox="0 0 240 0">
+<svg xmlns="http://www.w3.org/2000/svg" width="0" height="0" viewBox="240 0 0 0">
 <g class="marks">
 </g>
 </svg>
@@ -420,16 +425,18 @@ fn cuts_at_a_window(rt: HostRuntime) -> Result<(), Fail> {
 <h1>{:valid? true}</h1>
 <section>
 <p id="part-0">Records 2 to 6 of 7; --from and --to choose others.</p>
+<p><a href="#found-0-0">Go to what was found</a></p>
 <ol class="lanes">
 <li>process 4 1</li>
 </ol>
 <div class="picture">
-<svg xmlns="http://www.w3.org/2000/svg" width="480" height="80" viewBox="0 0 480 80">
+<svg xmlns="http://www.w3.org/2000/svg" width="240" height="80" viewBox="240 0 240 80">
+<path class="tail" d="M356 80V80"/>
 <svg class="ok" x="240" y="16" width="232" height="48"><rect width="100%" height="100%"/><title>{:type :invoke, :process 4, :f :read, :value nil}
 {:type :ok, :process 4, :f :read, :value 3}</title><text x="4" y="12">&#10003; read 3</text></svg>
 <svg class="open" x="240" y="64" width="232" height="16"><rect width="100%" height="100%"/><title>{:type :invoke, :process 1, :f :add, :value 8}</title><text x="4" y="12">&#8230; add 8</text></svg>
 <g class="marks">
-<svg class="stuck" x="240" y="16" width="232" height="48"><rect width="100%" height="100%"/><title>stuck: no order has room for this operation</title><text x="228" y="12">stuck</text></svg>
+<svg class="stuck" id="found-0-0" x="240" y="16" width="232" height="48"><rect width="100%" height="100%"/><title>stuck: no order has room for this operation</title><text x="228" y="12">stuck</text></svg>
 <svg class="pending" x="240" y="64" width="232" height="16"><rect width="100%" height="100%"/><title>pending: it was not over where the history is stuck</title><text x="228" y="12">pending</text></svg>
 </g>
 </svg>
@@ -464,7 +471,7 @@ fn cuts_at_a_window(rt: HostRuntime) -> Result<(), Fail> {
 <li>process 0</li>
 </ol>
 <div class="picture">
-<svg xmlns="http://www.w3.org/2000/svg" width="480" height="16" viewBox="0 0 480 16">
+<svg xmlns="http://www.w3.org/2000/svg" width="240" height="16" viewBox="240 0 240 16">
 <svg class="ok" x="240" y="0" width="232" height="16"><rect width="100%" height="100%"/><title>{:type :invoke, :process 0, :f :add, :value 1}
 {:type :ok, :process 0, :f :add, :value 1}</title><text x="4" y="12">&#10003; add 1</text></svg>
 <g class="marks">
@@ -478,7 +485,7 @@ fn cuts_at_a_window(rt: HostRuntime) -> Result<(), Fail> {
 <ol class="lanes">
 </ol>
 <div class="picture">
-<svg xmlns="http://www.w3.org/2000/svg" width="240" height="0" viewBox="0 0 240 0">
+<svg xmlns="http://www.w3.org/2000/svg" width="0" height="0" viewBox="240 0 0 0">
 <g class="marks">
 </g>
 </svg>
@@ -490,7 +497,7 @@ fn cuts_at_a_window(rt: HostRuntime) -> Result<(), Fail> {
 <ol class="lanes">
 </ol>
 <div class="picture">
-<svg xmlns="http://www.w3.org/2000/svg" width="240" height="16" viewBox="0 0 240 16">
+<svg xmlns="http://www.w3.org/2000/svg" width="0" height="16" viewBox="240 0 0 16">
 <g class="marks">
 </g>
 </svg>
@@ -515,33 +522,34 @@ fn marks_bars(rt: HostRuntime) -> Result<(), Fail> {
 <h1>{:valid? false}</h1>
 <section>
 <p id="part-0">All 4 records.</p>
+<p><a href="#found-0-1">Go to what was found</a></p>
 <ol class="lanes">
 <li>process 0</li>
 <li>process 1</li>
 </ol>
 <div class="picture">
-<svg xmlns="http://www.w3.org/2000/svg" width="720" height="64" viewBox="0 0 720 64">
+<svg xmlns="http://www.w3.org/2000/svg" width="480" height="64" viewBox="240 0 480 64">
 <svg class="ok" x="240" y="0" width="232" height="48"><rect width="100%" height="100%"/><title>{:type :invoke, :process 0, :f :read, :value nil}
 {:type :ok, :process 0, :f :read, :value 3}</title><text x="4" y="12">&#10003; read 3</text></svg>
 <svg class="ok" x="480" y="16" width="232" height="48"><rect width="100%" height="100%"/><title>{:type :invoke, :process 1, :f :read, :value nil}
 {:type :ok, :process 1, :f :read, :value 4}</title><text x="4" y="12">&#10003; read 4</text></svg>
 <g class="marks">
 <svg class="placed" x="240" y="0" width="232" height="48"><rect width="100%" height="100%"/><title>number 12 in the order that was found</title><text x="228" y="12">12</text></svg>
-<svg class="stuck" x="480" y="16" width="232" height="48"><rect width="100%" height="100%"/><title>stuck: no order has room for this operation</title><text x="228" y="12">stuck</text></svg>
+<svg class="stuck" id="found-0-1" x="480" y="16" width="232" height="48"><rect width="100%" height="100%"/><title>stuck: no order has room for this operation</title><text x="228" y="12">stuck</text></svg>
 <svg class="pending" x="240" y="0" width="232" height="48"><rect width="100%" height="100%"/><title>pending: it was not over where the history is stuck</title><text x="228" y="12">pending</text></svg>
-<svg class="lost" x="480" y="16" width="232" height="48"><rect width="100%" height="100%"/><title>lost: it was added, and the last read does not show it</title><text x="228" y="12">lost</text></svg>
-<svg class="recovered" x="240" y="0" width="232" height="48"><rect width="100%" height="100%"/><title>recovered: the last read shows it, and it was not known to be added</title><text x="228" y="12">recovered</text></svg>
-<svg class="unexpected" x="480" y="16" width="232" height="48"><rect width="100%" height="100%"/><title>unexpected: this read shows what nobody tried to add</title><text x="228" y="12">unexpected</text></svg>
-<svg class="repeated" x="240" y="0" width="232" height="48"><rect width="100%" height="100%"/><title>repeated: this id was given more than once</title><text x="228" y="12">repeated</text></svg>
-<svg class="outside" x="480" y="16" width="232" height="48"><rect width="100%" height="100%"/><title>outside its bounds: -3 to 170141183460469231731687303715884105727</title><text x="228" y="12">[-3 170141183460469231731687303715884105727]</text></svg>
+<svg class="lost" id="found-0-1" x="480" y="16" width="232" height="48"><rect width="100%" height="100%"/><title>lost: it was added, and the last read does not show it</title><text x="228" y="12">lost</text></svg>
+<svg class="recovered" id="found-0-0" x="240" y="0" width="232" height="48"><rect width="100%" height="100%"/><title>recovered: the last read shows it, and it was not known to be added</title><text x="228" y="12">recovered</text></svg>
+<svg class="unexpected" id="found-0-1" x="480" y="16" width="232" height="48"><rect width="100%" height="100%"/><title>unexpected: this read shows what nobody tried to add</title><text x="228" y="12">unexpected</text></svg>
+<svg class="repeated" id="found-0-0" x="240" y="0" width="232" height="48"><rect width="100%" height="100%"/><title>repeated: this id was given more than once</title><text x="228" y="12">repeated</text></svg>
+<svg class="outside" id="found-0-1" x="480" y="16" width="232" height="48"><rect width="100%" height="100%"/><title>outside its bounds: -3 to 170141183460469231731687303715884105727</title><text x="228" y="12">[-3 170141183460469231731687303715884105727]</text></svg>
 <svg class="pending" x="240" y="0" width="232" height="48"><rect width="100%" height="100%"/><title>pending: it was not over where the history is stuck; number 0 in the order that was found</title><text x="228" y="12">pending 0</text></svg>
 <svg class="pending" x="480" y="16" width="232" height="48"><rect width="100%" height="100%"/><title>pending: it was not over where the history is stuck; number 18446744073709551615 in the order that was found</title><text x="228" y="12">pending 18446744073709551615</text></svg>
-<svg class="step" x="240" y="0" width="232" height="48"><rect width="100%" height="100%"/><title>transaction 3, with its step to the next one of the cycle</title><text x="228" y="12">3 :rw</text></svg>
-<svg class="step" x="480" y="16" width="232" height="48"><rect width="100%" height="100%"/><title>transaction 0, with its step to the next one of the cycle</title><text x="228" y="12">0 :fcw</text></svg>
-<svg class="step" x="240" y="0" width="232" height="48"><rect width="100%" height="100%"/><title>transaction 1, with its step to the next one of the cycle</title><text x="228" y="12">1 :wr</text></svg>
-<svg class="step" x="480" y="16" width="232" height="48"><rect width="100%" height="100%"/><title>transaction 2, with its step to the next one of the cycle</title><text x="228" y="12">2 :ww</text></svg>
-<svg class="step" x="240" y="0" width="232" height="48"><rect width="100%" height="100%"/><title>transaction 4, with its step to the next one of the cycle</title><text x="228" y="12">4 :rt</text></svg>
-<svg class="bad-read" x="480" y="16" width="232" height="48"><rect width="100%" height="100%"/><title>bad read: no order explains it</title><text x="228" y="12">bad read</text></svg>
+<svg class="step" id="found-0-0" x="240" y="0" width="232" height="48"><rect width="100%" height="100%"/><title>transaction 3, with its step to the next one of the cycle</title><text x="228" y="12">3 :rw</text></svg>
+<svg class="step" id="found-0-1" x="480" y="16" width="232" height="48"><rect width="100%" height="100%"/><title>transaction 0, with its step to the next one of the cycle</title><text x="228" y="12">0 :fcw</text></svg>
+<svg class="step" id="found-0-0" x="240" y="0" width="232" height="48"><rect width="100%" height="100%"/><title>transaction 1, with its step to the next one of the cycle</title><text x="228" y="12">1 :wr</text></svg>
+<svg class="step" id="found-0-1" x="480" y="16" width="232" height="48"><rect width="100%" height="100%"/><title>transaction 2, with its step to the next one of the cycle</title><text x="228" y="12">2 :ww</text></svg>
+<svg class="step" id="found-0-0" x="240" y="0" width="232" height="48"><rect width="100%" height="100%"/><title>transaction 4, with its step to the next one of the cycle</title><text x="228" y="12">4 :rt</text></svg>
+<svg class="bad-read" id="found-0-1" x="480" y="16" width="232" height="48"><rect width="100%" height="100%"/><title>bad read: no order explains it</title><text x="228" y="12">bad read</text></svg>
 </g>
 </svg>
 </div>

@@ -7,4 +7,4 @@ use Rattle.jh_timeline_pages.proofs.drawing.draw_marks.Given as goal
 abbrev pub invariant-loop-mark : goal.invariant-loop-mark
 invariant-loop-mark g l =
     let contents = g.W.Write.contents in
-    Appends (contents l.fn.writer) (contents l.writer) (flat_map (drawn_mark l.section) (take l.mark-index l.mark-items))
+    Appends (contents l.fn.writer) (contents l.writer) (flat_map (drawn_mark l.number l.section) (take l.mark-index l.mark-items))

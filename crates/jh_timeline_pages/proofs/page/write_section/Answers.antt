@@ -1,9 +1,10 @@
-use Rattle.std.proofs.Common.{subst}
+use Rattle.std.proofs.Common.{◌∙◌, ap, subst}
 use Rattle.std.proofs.lemmas.Result.{on_ok_weaker}
 use Rattle.std.specs.Io.KnownBytes.{Appends}
 use Rattle.std.specs.List.{flat_map}
 use Rattle.jh_edn.proofs.CitedLemmas.{appends_then}
-use Rattle.jh_timeline_pages.specs.Page.{heading_text, lane_text, window_text}
+use Rattle.jh_timeline_pages.specs.Marks.{first_pointer}
+use Rattle.jh_timeline_pages.specs.Page.{heading_text, jump_text, lane_text, window_text}
 use Rattle.jh_timeline_pages.proofs.page.write_section.Goals as goal
 
 pub returns : goal.returns
@@ -17,10 +18,14 @@ returns g c =
     c.len.ensures c.in_ok-write_window.ensures in
     let lanes =
     subst (λ ls. Appends (contents c.put-2.new.writer) (contents c.write_lanes.new.writer) (flat_map lane_text ls))
-    c.as_slice-2.ensures.value c.in_ok-write_lanes.ensures in
+    c.as_slice-3.ensures.value c.in_ok-write_lanes.ensures in
     let one = appends_then start (contents c.put.new.writer) (contents c.write_heading.new.writer) _ _ c.in_ok-put.ensures.bytes heading in
     let two = appends_then start (contents c.write_heading.new.writer) (contents c.write_window.new.writer) _ _ one window in
-    let three = appends_then start (contents c.write_window.new.writer) (contents c.put-2.new.writer) _ _ two c.in_ok-put-2.ensures.bytes in
+    let jump =
+    subst (λ mark. Appends (contents c.write_window.new.writer) (contents c.write_jump.new.writer) (jump_text c.args.number mark))
+    (c.first_pointer.ensures ∙ ap first_pointer c.as_slice-2.ensures.value) c.in_ok-write_jump.ensures in
+    let jumped = appends_then start (contents c.write_window.new.writer) (contents c.write_jump.new.writer) _ _ two jump in
+    let three = appends_then start (contents c.write_jump.new.writer) (contents c.put-2.new.writer) _ _ jumped c.in_ok-put-2.ensures.bytes in
     let four = appends_then start (contents c.put-2.new.writer) (contents c.write_lanes.new.writer) _ _ three lanes in
     let five = appends_then start (contents c.write_lanes.new.writer) (contents c.put-3.new.writer) _ _ four c.in_ok-put-3.ensures.bytes in
     let six = appends_then start (contents c.put-3.new.writer) (contents c.write_picture.new.writer) _ _ five c.in_ok-write_picture.ensures in
