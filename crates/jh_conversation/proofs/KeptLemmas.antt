@@ -42,7 +42,7 @@ use Rattle.jh_conversation.specs.declared.phase.Phase.TheVariants.{Main, Heal, R
 
 -- what a thread is told
 pub record IsKeptByAnswers (t : TestValue) (P : Machine → Type 0) : Type 0 where
-  pub asks : (m : Machine) (driver : DriverState) (words : Lcg) → P m → P (record m { driver = driver; words = words })
+  pub asks : (m : Machine) (driver : DriverState) (random_numbers : Lcg) → P m → P (record m { driver = driver; random_numbers = random_numbers })
   pub spends : (m : Machine) → P m → P (record m { has_spent = true })
   pub invokes : (m : Machine) (thread : ℕ) (request : Request) → thread < t.clients → (caller_of m thread).call ≡ None → may_call t m ≡ true → P m → P (invoke t thread request m)
 
@@ -53,9 +53,9 @@ pub record IsKeptByCalls (t : TestValue) (P : Machine → Type 0) : Type 0 where
 pub by_answers : (t : TestValue) (P : Machine → Type 0) → IsKeptByAnswers t P → IsKeptByCalls t P
 by_answers t P k = record {
   visits = λ m thread within idle may h.
-      let word = pcg64 m.words in
+      let word = pcg64 m.random_numbers in
       let answer = answer_to m.driver thread word.0 in
-      go (record m { driver = answer.1; words = word.1 }) thread answer.0 within idle may (k.asks m answer.1 word.1 h);
+      go (record m { driver = answer.1; random_numbers = word.1 }) thread answer.0 within idle may (k.asks m answer.1 word.1 h);
 }
   where
     go : (m : Machine) (thread : ℕ) (answer : GenAnswer) → thread < t.clients → (caller_of m thread).call ≡ None → may_call t m ≡ true → P m → P (told t thread answer m)

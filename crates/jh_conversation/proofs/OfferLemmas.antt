@@ -192,11 +192,11 @@ module _ (asked_answers : AskedAnswers) (end_keeps : EndKeepsGenerator) (t : Tes
   offered_in_turn = record {
     calls = record {
       visits = λ m n within idle may h.
-          let word = pcg64 m.words in
+          let word = pcg64 m.random_numbers in
           let answer = answer_to m.driver n word.0 in
           let both = and_parts (not m.has_spent) (may_call_in m.phase t m.stops m.given m.clock) may in
           let unspent : m.has_spent ≡ false = not-true m.has_spent both.0 in
-          told_offers (record m { driver = answer.1; words = word.1 }) n within unspent answer.0
+          told_offers (record m { driver = answer.1; random_numbers = word.1 }) n within unspent answer.0
           (part_after m.phase m.stops m.given m.clock m.driver m.last (given_calls t m.history) n word.0 both.1 h.0 within
           (subst (λ b. Part m.phase b m.driver m.last (given_calls t m.history)) unspent h.1));
     };

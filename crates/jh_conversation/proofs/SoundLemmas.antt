@@ -218,8 +218,8 @@ small_counts t m h = record {
 }
 
 -- also behind an answer of the driver
-pub small_counts_asked : (t : TestValue) (m : Machine) (d : DriverState) (words : Lcg) → HasSmallCounts t m → HasSmallCounts t (record m { driver = d; words = words })
-small_counts_asked t m d words h = record { wide = h.wide; crashes = h.crashes; given = h.given; groups = h.groups }
+pub small_counts_asked : (t : TestValue) (m : Machine) (d : DriverState) (random_numbers : Lcg) → HasSmallCounts t m → HasSmallCounts t (record m { driver = d; random_numbers = random_numbers })
+small_counts_asked t m d random_numbers h = record { wide = h.wide; crashes = h.crashes; given = h.given; groups = h.groups }
 
 pub small_process : (t : TestValue) (m : Machine) (thread : ℕ) → IsFitTest t → HasSmallCounts t m → thread < t.clients → caller_process t m thread < 2 ^ 26
 small_process t m thread fit h within =
@@ -278,16 +278,16 @@ names_stay s step = elim (is_ok (answer_of s step)) as (λ b. (if b then moved_s
 
 -- Calls.
 
-module _ (t : TestValue) (fit : IsFitTest t) (m : Machine) (n : ℕ) (words : Lcg) (within : n < t.clients) (idle : is_idle m.callers n ≡ true) (may : may_call t m ≡ true) (h : IsSoundMachine t m) where
-  sound_same : (e : DriverState) → e ≡ m.driver → IsSoundMachine t (record m { driver = e; words = words })
-  sound_same e is = subst (λ d. IsSoundMachine t (record m { driver = d; words = words })) (sym is) h
+module _ (t : TestValue) (fit : IsFitTest t) (m : Machine) (n : ℕ) (random_numbers : Lcg) (within : n < t.clients) (idle : is_idle m.callers n ≡ true) (may : may_call t m ≡ true) (h : IsSoundMachine t m) where
+  sound_same : (e : DriverState) → e ≡ m.driver → IsSoundMachine t (record m { driver = e; random_numbers = random_numbers })
+  sound_same e is = subst (λ d. IsSoundMachine t (record m { driver = d; random_numbers = random_numbers })) (sym is) h
 
-  sound_spent : (e : DriverState) → e ≡ m.driver → IsSoundMachine t (record m { driver = e; words = words; has_spent = true })
-  sound_spent e is = subst (λ d. IsSoundMachine t (record m { driver = d; words = words; has_spent = true })) (sym is) (tied_spent t.clients m.driver m.has_spent m.callers h.0, h.1, h.2, h.3, h.4, h.5, h.6, h.7)
+  sound_spent : (e : DriverState) → e ≡ m.driver → IsSoundMachine t (record m { driver = e; random_numbers = random_numbers; has_spent = true })
+  sound_spent e is = subst (λ d. IsSoundMachine t (record m { driver = d; random_numbers = random_numbers; has_spent = true })) (sym is) (tied_spent t.clients m.driver m.has_spent m.callers h.0, h.1, h.2, h.3, h.4, h.5, h.6, h.7)
 
   -- a step ends the calls, though its thread is busy for the driver
   sound_stepped : (e : DriverState) → (e.clients ≡ m.driver.clients) × (e.given ≡ m.driver.given + 1) × (e.busy ≡ set m.driver.busy (n + 1) true) × (m.driver.given < max_calls)
-      → IsSoundMachine t (record m { driver = e; words = words; has_spent = true })
+      → IsSoundMachine t (record m { driver = e; random_numbers = random_numbers; has_spent = true })
   sound_stepped e g = (
     record {
       clients_is = g.0 ∙ h.0.clients_is;
@@ -310,7 +310,7 @@ module _ (t : TestValue) (fit : IsFitTest t) (m : Machine) (n : ℕ) (words : Lc
       go k hk is (inr ne) = ap (λ l. slice_index_or l (k + 1) false) g.2 ∙ busy_there m.driver.busy n k true ne ∙ h.0.busy k hk is
 
   sound_called : (e : DriverState) (request : Request) → (e.clients ≡ m.driver.clients) × (e.given ≡ m.driver.given + 1) × (e.busy ≡ set m.driver.busy (n + 1) true) × (m.driver.given < max_calls)
-      → IsSoundMachine t (invoke t n request (record m { driver = e; words = words }))
+      → IsSoundMachine t (invoke t n request (record m { driver = e; random_numbers = random_numbers }))
   sound_called e request g =
       let made = call_made t m n request in
       let crashes = (get_or m.callers n no_caller).crashes in
@@ -335,7 +335,7 @@ module _ (t : TestValue) (fit : IsFitTest t) (m : Machine) (n : ℕ) (words : Lc
         },
       )
 
-  pub sound_told : (x : GenAnswer × DriverState) → HasAsked m.driver n x → IsSoundMachine t (told t n x.0 (record m { driver = x.1; words = words }))
+  pub sound_told : (x : GenAnswer × DriverState) → HasAsked m.driver n x → IsSoundMachine t (told t n x.0 (record m { driver = x.1; random_numbers = random_numbers }))
   sound_told (Pending, e) is = sound_same e is
   sound_told (Done, e) is = sound_spent e is
   sound_told (Call p (call.Step place), e) is = sound_stepped e is
@@ -347,7 +347,7 @@ idle_is callers k e = ap has_no_call e
 pub sound_by_calls : (t : TestValue) → IsFitTest t → IsKeptByCalls t (IsSoundMachine t)
 sound_by_calls t fit = record {
   visits = λ m n within none may h.
-      let word = pcg64 m.words in
+      let word = pcg64 m.random_numbers in
       sound_told t fit m n word.1 within (idle_is m.callers n none) may h (answer_to m.driver n word.0) (has_asked m.driver n word.0);
 }
 

@@ -364,7 +364,7 @@ pub data Waits (t : TestValue) (m : Machine) : Type 0 where
   -- one more call would be faster than the rate
   ForRate : m.phase ≡ Main → keeps_rate t.rate m.given m.clock ≡ false → Waits t m
   -- the time of recovery has not passed
-  ForRecovery : m.phase ≡ Rest → m.clock < m.rested + t.recovery * millisecond → Waits t m
+  ForRecovery : m.phase ≡ Rest → m.clock < m.rest_began + t.recovery * millisecond → Waits t m
   -- in the last round the generator gave no call, though none is open and one may be given
   ForGenerator : (last : Machine) → m ≡ round t last → m.given ≡ last.given
       → are_free m.callers ≡ true → may_call t m ≡ true → Waits t m

@@ -22,7 +22,7 @@ pub record Machine : Type 0 where
   pub driver : DriverState
   pub last : Option DriverState
   pub has_spent : Bool
-  pub words : Lcg
+  pub random_numbers : Lcg
   -- the transactions to come, and how many calls each group of threads was given
   pub transactions : TransactionSource
   pub calls_by_group : List ℕ
@@ -39,7 +39,7 @@ pub record Machine : Type 0 where
   pub stops : ℕ
   -- the greatest time that was told, and that at which *rest* began, in nanoseconds
   pub clock : ℕ
-  pub rested : ℕ
+  pub rest_began : ℕ
   -- how many lines were read, and the first one that is no reply
   pub read : ℕ
   pub bad : Option (ℕ × Complaint)

@@ -186,9 +186,9 @@ answer_to d number random_number =
 
 abbrev pub ask : TestValue → ℕ → Machine → Machine
 ask t number m =
-    let word = pcg64 m.words in
+    let word = pcg64 m.random_numbers in
     let answer = answer_to m.driver number word.0 in
-    told t number answer.0 (record m { driver = answer.1; words = word.1 })
+    told t number answer.0 (record m { driver = answer.1; random_numbers = word.1 })
 
 abbrev pub visit : TestValue → ℕ → Machine → Machine
 visit t number m =
@@ -218,7 +218,7 @@ abbrev pub heal : Machine → Machine
 heal m = record m { phase = Heal }
 
 abbrev pub rest : Machine → Machine
-rest m = record m { phase = Rest; rested = m.clock }
+rest m = record m { phase = Rest; rest_began = m.clock }
 
 abbrev pub end : Machine → Machine
 end m = record m { phase = Over }
@@ -241,7 +241,7 @@ has_healed m None = is_empty m.nemesis.active
 has_healed m (Some step) = false
 
 abbrev pub has_recovered : TestValue → Machine → Bool
-has_recovered t m = nat_le (m.rested + t.recovery * millisecond) m.clock
+has_recovered t m = nat_le (m.rest_began + t.recovery * millisecond) m.clock
 
 -- *rest* goes over to *final*, which a driver is there for, or to the end
 abbrev pub after_rest : TestValue → Option DriverState → Machine → Option Machine

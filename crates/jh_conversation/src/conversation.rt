@@ -64,7 +64,7 @@ fn driver_of(alloc: Global, test: &Test, generator: &Gen) -> Result<Driver, Allo
 fn first_driver(alloc: Global, test: &Test) -> Result<Driver, AllocError>
     ensures { IfOk result (IsDriverAtFirst test.now test.now.generator) }
 {
-    // That the test is one that can be made.
+    // The answer is not used: this call's contract says that the test can be made.
     let _clients = test.clients();
     driver_of(alloc, test, test.generator())
 }
@@ -73,7 +73,7 @@ fn first_driver(alloc: Global, test: &Test) -> Result<Driver, AllocError>
 fn last_driver(alloc: Global, test: &Test) -> Result<Option<Driver>, AllocError>
     ensures { IfOk result (IsLastDriver test.now test.now.final) }
 {
-    // That the test is one that can be made.
+    // The answer is not used: this call's contract says that the test can be made.
     let _clients = test.clients();
     match test.last() {
         None => Ok(None),
@@ -88,7 +88,7 @@ impl Conversation {
     pub fn begin(alloc: Global, test: Test) -> Result<Conversation, AllocError>
         ensures { IfOk result (IsTestBegun test) }
     {
-        // That the test is one that can be made.
+        // The answer is not used: this call's contract says that the test can be made.
         let _clients = test.clients();
         let driver = first_driver(alloc, &test)?;
         let last = last_driver(alloc, &test)?;
@@ -185,7 +185,7 @@ impl jh_lines::Machine for Conversation {
         if self.has_failed {
             return Err(AllocError);
         }
-        // That the test is one that can be made.
+        // The answer is not used: this call's contract says that the test can be made.
         let _clients = self.test.clients();
         let was_over = self.machine.is_over();
         self.has_failed = true;

@@ -302,7 +302,7 @@ impl Machine {
         requires { IsSoundMachine test.now self.old }
         ensures { OnOk result (self.new ≡ rule.reply test.now self.old line.now) }
     {
-        // That the test is one that can be made.
+        // The answer is not used: this call's contract says that the test can be made.
         let _clients = test.clients();
         self.listen()?;
         if self.is_over() {

@@ -200,7 +200,7 @@ impl Machine {
         if self.step.is_some() {
             return Ok(());
         }
-        // That the test is one that can be made.
+        // The answer is not used: this call's contract says that the test can be made.
         let _clients = test.clients();
         match self.due(alloc, test)? {
             None => Ok(()),
@@ -317,7 +317,7 @@ impl Machine {
         requires may { rule.may_call test.now self.old ≡ true }
         ensures { OnOk result (self.new ≡ rule.ask test.now thread self.old) }
     {
-        let random_number = self.words.next_word();
+        let random_number = self.random_numbers.next_word();
         match self.driver.ask(Thread::Client(thread), random_number) {
             Ok(GenAnswer::Call(_, Call::Client(request))) => {
                 self.invoke(alloc, test, thread, request)
@@ -400,7 +400,7 @@ impl Machine {
         ensures { result ≡ rule.has_recovered test.now self.now }
     {
         let recovery = u128::from(u64::from(test.recovery()) * NANOSECONDS_A_MILLISECOND);
-        u128::from(self.rested) + recovery <= u128::from(self.clock)
+        u128::from(self.rest_began) + recovery <= u128::from(self.clock)
     }
 
     /// Begins *final*, with this driver: all threads begin anew.
@@ -457,7 +457,7 @@ impl Machine {
                     return Ok(false);
                 }
                 self.phase = Phase::Rest;
-                self.rested = self.clock;
+                self.rest_began = self.clock;
                 Ok(true)
             }
             Phase::Rest => self.end_rest(alloc, test),
@@ -478,7 +478,7 @@ impl Machine {
         requires { IsSoundMachine test.now self.old }
         ensures { OnOk result (self.new ≡ rule.turn test.now self.old) }
     {
-        // That the test is one that can be made.
+        // The answer is not used: this call's contract says that the test can be made.
         let _clients = test.clients();
         for _pass in 0..5usize {
             self.step(alloc, test)?;

@@ -274,8 +274,8 @@ fn settings_in(alloc: Global, table: &Table) -> Result<DriveSettings, SettingsEr
 /// `drive_keys`; `Missing` with the first needed key that does not stand there; `BadValue` with the
 /// first key, in their order, whose value is bad by itself; `Missing` with `ThreadsPerKey` or
 /// `OpsPerKey` where only the other one stands there; `BadValue` with `ThreadsPerKey` where it does
-/// not divide the clients, with `Generator` and then with `Final` where it does not suit what is
-/// checker and the number of clients (`Gen::suits`), and with `Final` also where keys are independent;
+/// not divide the clients, with `Generator` and then with `Final` where it does not suit the checker
+/// and the number of clients (`Gen::suits`), and with `Final` also where keys are independent;
 /// `OutOfMemory` where memory was refused before another error was found.
 pub fn drive_settings_of(alloc: Global, bytes: &[u8]) -> Result<DriveSettings, SettingsError>
     ensures { MatchResult result
