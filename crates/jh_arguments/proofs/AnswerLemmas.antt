@@ -9,7 +9,7 @@ use Rattle.jh_cli.specs.Outputs.{OnInput, WritesOutput}
 use Rattle.jh_cli.specs.TimelineText.{TakesInitialBy, TakesModelBy}
 use Rattle.jh_cli.specs.declared.error.CliError.{CliError}
 use Rattle.jh_cli.specs.declared.error.CliError.TheVariants.{OnlyForRegister, OnlyForListAppend, BadPalette, Write}
-use Rattle.jh_cli.specs.declared.check_command.Question.{Question}
+use Rattle.jh_cli.specs.declared.check_command.CheckQuestion.{CheckQuestion}
 use Rattle.jh_cli.specs.declared.search_command.SearchQuestion.{SearchQuestion}
 use Rattle.jh_cli.specs.declared.timeline_command.TimelineQuestion.{TimelineQuestion}
 use Rattle.jh_drive.specs.Drive.{IsDriven}
@@ -32,12 +32,12 @@ asked_test_by arguments matches path (app, line, fault, rows, found) asks = (app
 
 -- what `run` says of the options of a command
 pub record SaysOfOptions {R : Type 0} (command : Command) (r : Result ℕ CliError) (old new : R) : Type 0 where
-  pub asked : (question : Question) → command ≡ Check question → IsErrOf r OnlyForRegister ↔ (TakesInitial question.judging.checker question.judging.initial → ⊥)
-  pub unread : (question : Question) → command ≡ Check question → IsErrOf r OnlyForRegister → new ≡ old
-  pub asked_model : (question : Question) → command ≡ Check question
+  pub asked : (question : CheckQuestion) → command ≡ Check question → IsErrOf r OnlyForRegister ↔ (TakesInitial question.judging.checker question.judging.initial → ⊥)
+  pub unread : (question : CheckQuestion) → command ≡ Check question → IsErrOf r OnlyForRegister → new ≡ old
+  pub asked_model : (question : CheckQuestion) → command ≡ Check question
       → IsErrOf r OnlyForListAppend
       ↔ (TakesInitial question.judging.checker question.judging.initial × (TakesModel question.judging.checker question.judging.model → ⊥))
-  pub unread_model : (question : Question) → command ≡ Check question → IsErrOf r OnlyForListAppend → new ≡ old
+  pub unread_model : (question : CheckQuestion) → command ≡ Check question → IsErrOf r OnlyForListAppend → new ≡ old
   pub timeline_asked : (question : TimelineQuestion) → command ≡ Timeline question → IsErrOf r OnlyForRegister ↔ (TakesInitialBy question.judging → ⊥)
   pub timeline_unread : (question : TimelineQuestion) → command ≡ Timeline question → IsErrOf r OnlyForRegister → new ≡ old
   pub timeline_model : (question : TimelineQuestion) → command ≡ Timeline question

@@ -26,7 +26,8 @@ use Rattle.jh_checkers.specs.Checkers.{checker_name, checker_names}
 use Rattle.jh_checkers.specs.Models.{model_named}
 use Rattle.jh_arguments.specs.Palettes.{palette_named}
 use Rattle.jh_arguments.specs.Line.{IsCommandLine, check, drive, jeprun, search, shrink, timeline}
-use Rattle.jh_arguments.specs.Commands.{AsksForAny, AsksCheck, AsksDrive, AsksFor, AsksSearch, AsksTimeline, IsFlag, IsGivenWithin, IsIndex, IsInitial, IsJudging, IsJudgingBy, IsNumberWithin, IsShow, max_candidates, max_spread_ms}
+use Rattle.jh_arguments.specs.Commands.{AsksForAny, AsksCheck, AsksDrive, AsksFor, AsksSearch, AsksTimeline, IsFlag, IsGivenWithin, IsIndex, IsInitial, IsJudging, IsJudgingBy, IsNumberWithin, IsShow}
+use Rattle.jh_arguments.specs.Limits.{max_candidates, max_spread_ms}
 use Rattle.jh_checkers.specs.declared.checker.Checker.{Checker}
 use Rattle.jh_checkers.specs.declared.checker.Checker.TheVariants.{Register, Set, Counter, Ids, ListAppend}
 use Rattle.jh_checkers.specs.declared.finding.Judging.{Judging}

@@ -7,11 +7,12 @@ use Rattle.clap.specs.declared.builder.value_parser.ValueParser.TheVariants as v
 use Rattle.jh_arguments.proofs.PassedTexts.{HasNoText, HasText}
 use Rattle.jh_arguments.proofs.OptionLemmas.{number_one}
 use Rattle.jh_checkers.specs.Checkers.{checker_name, checker_named}
-use Rattle.jh_arguments.specs.Commands.{AsksCheck, AsksFor, AsksSearch, AsksTimeline, IsFlag, IsGivenWithin, IsIndex, IsInitial, IsJudging, IsJudgingBy, IsNumberWithin, IsShow, max_candidates, max_spread_ms}
+use Rattle.jh_arguments.specs.Commands.{AsksCheck, AsksFor, AsksSearch, AsksTimeline, IsFlag, IsGivenWithin, IsIndex, IsInitial, IsJudging, IsJudgingBy, IsNumberWithin, IsShow}
+use Rattle.jh_arguments.specs.Limits.{max_candidates, max_spread_ms}
 use Rattle.jh_checkers.specs.declared.checker.Checker.{Checker}
 use Rattle.jh_checkers.specs.declared.checker.Checker.TheVariants.{Register, Set, Counter, Ids, ListAppend}
 use Rattle.jh_checkers.specs.declared.finding.Judging.{Judging}
-use Rattle.jh_cli.specs.declared.check_command.Question.{Question}
+use Rattle.jh_cli.specs.declared.check_command.CheckQuestion.{CheckQuestion}
 use Rattle.jh_cli.specs.declared.search_command.SearchQuestion.{SearchQuestion}
 use Rattle.jh_cli.specs.declared.search_command.Show.{Show}
 use Rattle.jh_cli.specs.declared.timeline_command.TimelineQuestion.{TimelineQuestion}
@@ -83,7 +84,7 @@ judging_once rows name m n a b explain =
     let model = a.model ∙ sym b.model in
     λ i. record { checker = checker i; initial = initial i; budget = budget i; explain = explain i; model = model i }
 
-check_once : (rows : List Row) → FlagOnce rows (codes "explain") → FlagOnce rows (codes "independent") → (m n : Question) → AsksCheck rows m → AsksCheck rows n → m ≡ n
+check_once : (rows : List Row) → FlagOnce rows (codes "explain") → FlagOnce rows (codes "independent") → (m n : CheckQuestion) → AsksCheck rows m → AsksCheck rows n → m ≡ n
 check_once rows explained split m n a b =
     let checker = checker_once m.judging.checker n.judging.checker (some_same _ _ (sym a.workload ∙ b.workload)) in
     let initial = initial_once (one_of (codes "initial") rows) m.judging.initial n.judging.initial a.initial b.initial in

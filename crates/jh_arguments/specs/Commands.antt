@@ -19,7 +19,7 @@ use Rattle.jh_cli.specs.ShrinkRefusals.{RefusesShrinking}
 use Rattle.jh_cli.specs.SearchRefusals.{RefusesSearch}
 use Rattle.jh_cli.specs.TimelineRefusals.{RefusesTimeline}
 use Rattle.jh_cli.specs.declared.error.CliError.{CliError}
-use Rattle.jh_cli.specs.declared.check_command.Question.{Question}
+use Rattle.jh_cli.specs.declared.check_command.CheckQuestion.{CheckQuestion}
 use Rattle.jh_cli.specs.declared.search_command.SearchQuestion.{SearchQuestion}
 use Rattle.jh_cli.specs.declared.search_command.Show.{Show}
 use Rattle.jh_cli.specs.declared.timeline_command.TimelineQuestion.{TimelineQuestion}
@@ -27,6 +27,7 @@ use Rattle.jh_arguments.specs.declared.commands.Command.{Command}
 use Rattle.jh_arguments.specs.declared.commands.Command.TheVariants.{Env, Check, Run, Shrink}
 use Rattle.jh_arguments.specs.declared.commands.Command.TheVariants.{Search, Timeline}
 use Rattle.jh_checkers.specs.Models.{model_named}
+use Rattle.jh_arguments.specs.Limits.{max_candidates, max_faults, max_spread_ms, max_threads}
 use Rattle.jh_arguments.specs.Palettes.{palette_named}
 use Rattle.jh_checkers.specs.Checkers.{checker_name}
 use Rattle.jh_checkers.specs.declared.finding.Judging.{Judging}
@@ -61,7 +62,7 @@ IsNumberWithin least most text number =
 
 -- how many threads an option gives
 abbrev pub IsThreads : Option Text → ℕ → Type 0
-IsThreads text threads = IsNumberWithin 1 16 text threads
+IsThreads text threads = IsNumberWithin 1 max_threads text threads
 
 -- whether a flag is there, which `clap` gives the text of yes or no
 abbrev pub IsFlag : Option Text → Bool → Type 0
@@ -77,7 +78,7 @@ IsIndex (Some text) (Some number) =
 IsIndex (Some text) None = WritesUnsigned text → ⊥
 
 -- the options of `check` ask this
-pub record AsksCheck (options : List Row) (question : Question) : Type 0 where
+pub record AsksCheck (options : List Row) (question : CheckQuestion) : Type 0 where
   pub workload : first_of (codes "workload") options
       ≡ Some (checker_name question.judging.checker)
   pub initial : IsInitial (one_of (codes "initial") options) question.judging.initial
@@ -117,14 +118,6 @@ IsGivenWithin least most (Some text) (Some number) =
 IsGivenWithin least most (Some text) None =
     (number : ℕ) → IsNumberWithin least most (Some text) number → ⊥
 
--- a number of candidates, or the number of one
-abbrev pub max_candidates : ℕ
-max_candidates = 9223372036854775807
-
--- the longest time over which calls are spread, in milliseconds: a day
-abbrev pub max_spread_ms : ℕ
-max_spread_ms = 86400000
-
 -- the candidate that is to be shown, if options name one; without one a time means nothing
 abbrev pub IsShow : List Row → Option Show → Type 0
 IsShow options None = IsGivenWithin 0 max_candidates (one_of (codes "show") options) None
@@ -136,10 +129,10 @@ IsShow options (Some show) =
 pub record AsksSearch (options : List Row) (question : SearchQuestion) : Type 0 where
   pub from : IsNumberWithin 0 max_candidates (one_of (codes "from") options) question.from
   pub runs : IsNumberWithin 1 max_candidates (one_of (codes "runs") options) question.runs
-  pub faults : IsNumberWithin 0 256 (one_of (codes "faults") options) question.faults
+  pub faults : IsNumberWithin 0 max_faults (one_of (codes "faults") options) question.faults
   pub palette : question.palette
       ≡ option_and_then palette_named (first_of (codes "palette") options)
-  pub threads : IsGivenWithin 1 16 (one_of (codes "threads") options) question.threads
+  pub threads : IsGivenWithin 1 max_threads (one_of (codes "threads") options) question.threads
   pub show : IsShow options question.show
 
 -- A subcommand with its options asks for the test that this file of settings sets.

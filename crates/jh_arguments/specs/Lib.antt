@@ -1,4 +1,5 @@
 pub mod Palettes
+pub mod Limits
 pub mod Line
 pub mod Commands
 pub mod Answers

@@ -15,6 +15,8 @@ use Rattle.clap.specs.declared.error.ErrorKind.TheVariants.{OutOfMemory}
 use Rattle.clap.specs.declared.parser.matches.ArgMatches.{ArgMatches}
 use Rattle.jh_checkers.specs.Checkers.{checker_names}
 use Rattle.jh_checkers.specs.Models.{model_names}
+use Rattle.jh_arguments.specs.Limits.{max_budget, max_candidates, max_faults, max_spread_ms}
+use Rattle.jh_arguments.specs.Limits.{max_threads}
 
 -- an option that takes one value
 abbrev pub option : Text → Rule
@@ -46,17 +48,17 @@ abbrev pub number_rule : Text → ValueParser → Text → Rule
 number_rule name parser default =
     record (option name) { parser = Some parser; defaults = default ∷ [] }
 
--- how much may be done: at most 10,000,000
+-- how much may be done
 abbrev pub budget : Text → Rule
-budget default = number_rule (codes "budget") (Unsigned 0 10000000) default
+budget default = number_rule (codes "budget") (Unsigned 0 max_budget) default
 
 -- an option that is there or not
 abbrev pub flag : Text → Rule
 flag name = record (new_rule name) { long = Some name; action = Some SetTrue }
 
--- by how many threads: from 1 to 16
+-- by how many threads keys are judged
 abbrev pub threads : Rule
-threads = number_rule (codes "threads") (Unsigned 1 16) (codes "1")
+threads = number_rule (codes "threads") (Unsigned 1 max_threads) (codes "1")
 
 abbrev pub check : Bor (List (Bor Text)) → Bor (List (Bor Text)) → App
 check names models =
@@ -88,25 +90,25 @@ palette =
 abbrev pub given_rule : Text → ValueParser → Rule
 given_rule name parser = record (option name) { parser = Some parser }
 
--- by how many threads, from 1 to 16
+-- by how many threads candidates are tried
 abbrev pub given_threads : Rule
-given_threads = given_rule (codes "threads") (Unsigned 1 16)
+given_threads = given_rule (codes "threads") (Unsigned 1 max_threads)
 
 -- which candidate is shown
 abbrev pub show : Rule
-show = given_rule (codes "show") (Unsigned 0 9223372036854775807)
+show = given_rule (codes "show") (Unsigned 0 max_candidates)
 
--- over how many milliseconds its calls are spread, at most a day
+-- over how many milliseconds its calls are spread
 abbrev pub spread : Rule
-spread = given_rule (codes "ms") (Unsigned 1 86400000)
+spread = given_rule (codes "ms") (Unsigned 1 max_spread_ms)
 
 abbrev pub search : App
 search =
     with_rule (with_rule (with_rule (with_rule
     (with_rule (with_rule (with_rule (new_app (codes "search"))
-    (number_rule (codes "runs") (Unsigned 1 9223372036854775807) (codes "10000")))
-    (number_rule (codes "faults") (Unsigned 0 256) (codes "8"))) palette)
-    (number_rule (codes "from") (Unsigned 0 9223372036854775807) (codes "0"))) given_threads)
+    (number_rule (codes "runs") (Unsigned 1 max_candidates) (codes "10000")))
+    (number_rule (codes "faults") (Unsigned 0 max_faults) (codes "8"))) palette)
+    (number_rule (codes "from") (Unsigned 0 max_candidates) (codes "0"))) given_threads)
     show) spread
 
 -- the file with the settings of a test, which is given by its place

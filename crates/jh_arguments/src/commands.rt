@@ -20,15 +20,16 @@ ghost use Rattle.jh_arguments.specs.declared.commands.Command.{Command};
 ghost use Rattle.jh_arguments.specs.declared.commands.Command.TheVariants.{Check, Search, Timeline};
 ghost use Rattle.jh_checkers.specs.Models.{model_named as model_of_name};
 ghost use Rattle.jh_arguments.specs.Palettes as rule;
-ghost use Rattle.jh_cli.specs.declared.check_command.Question.{Question};
+ghost use Rattle.jh_cli.specs.declared.check_command.CheckQuestion.{CheckQuestion};
 ghost use Rattle.jh_cli.specs.declared.search_command.SearchQuestion.{SearchQuestion};
 ghost use Rattle.jh_cli.specs.declared.timeline_command.TimelineQuestion.{TimelineQuestion};
 
+use crate::limits::{MAX_CANDIDATES, MAX_FAULTS, MAX_SPREAD_MS, MAX_THREADS};
 use crate::palettes::palette_named;
 use clap::ArgMatches;
 use jh_checkers::{Checker, Judging, model_named};
 use jh_cli::{
-    CliError, Question, SearchQuestion, Show, TimelineQuestion, check_run, env_run, run_run,
+    CliError, CheckQuestion, SearchQuestion, Show, TimelineQuestion, check_run, env_run, run_run,
     search_run, shrink_run_observed, timeline_run,
 };
 use jh_search::{Palette, SearchObserver};
@@ -40,22 +41,13 @@ use std::io::{Read, Write};
 use std::sync::Wait;
 use std::thread::Threads;
 
-/// The greatest number of a candidate, and the most candidates: two of them still fit 64 bits.
-const MAX_CANDIDATES: u64 = i64::MAX as u64;
-
-/// The most random faults of a candidate.
-const MAX_FAULTS: u64 = 256;
-
-/// The longest time over which calls are spread: a day.
-const MAX_SPREAD_MS: u32 = 86_400_000;
-
 /// What the arguments ask for.
 #[derive(Clone, Copy, Debug, PartialEq, Eq)]
 pub enum Command {
     /// Faults over an environment.
     Env,
     /// The judgement of a history.
-    Check(Question),
+    Check(CheckQuestion),
     /// A run of a simulated cluster.
     Run,
     /// The schedule of a run made small, by so many runs at most.
@@ -114,14 +106,14 @@ fn path_of<'a>(options: &ArgMatches<'a>) -> Option<&'a str>
 /// What the options of `check` ask for. `parse` has seen to it that the workload is one that a
 /// checker judges, that the model is one, that the budget is a number, and that the number of threads
 /// is from 1 to 16.
-pub fn question_of(options: &ArgMatches<'_>) -> Option<Question>
+pub fn question_of(options: &ArgMatches<'_>) -> Option<CheckQuestion>
     ensures parsed { IfSome result (AsksCheck (rows_of (found_of options.now))) }
-    ensures taken { IsNone result → (question : Question)
+    ensures taken { IsNone result → (question : CheckQuestion)
         → AsksCheck (rows_of (found_of options.now)) question → ⊥ }
 {
     let name = options.get_str("workload")?;
     let explain = flag_of(options, "explain");
-    Some(Question {
+    Some(CheckQuestion {
         judging: judging_by(options, name, explain)?,
         independent: flag_of(options, "independent"),
         threads: threads_of(options)?,
@@ -138,11 +130,11 @@ pub fn search_question_of(options: &ArgMatches<'_>) -> Option<SearchQuestion>
         → AsksSearch (rows_of (found_of options.now)) question → ⊥ }
 {
     Some(SearchQuestion {
-        from: number_within(options, "from", 0, MAX_CANDIDATES)?,
-        runs: number_within(options, "runs", 1, MAX_CANDIDATES)?,
-        faults: number_within(options, "faults", 0, MAX_FAULTS)? as u32,
+        from: number_within(options, "from", 0, MAX_CANDIDATES as u64)?,
+        runs: number_within(options, "runs", 1, MAX_CANDIDATES as u64)?,
+        faults: number_within(options, "faults", 0, MAX_FAULTS as u64)? as u32,
         palette: palette_of(options),
-        threads: given_within(options, "threads", 1, 16),
+        threads: given_within(options, "threads", 1, MAX_THREADS as u32),
         show: show_of(options),
     })
 }
@@ -257,7 +249,7 @@ fn threads_of(options: &ArgMatches<'_>) -> Option<u32>
     ensures taken { IsNone result → (threads : ℕ)
         → IsThreads (one_of (codes "threads") (rows_of (found_of options.now))) threads → ⊥ }
 {
-    let threads = number_within(options, "threads", 1, 16)?;
+    let threads = number_within(options, "threads", 1, MAX_THREADS as u64)?;
     Some(threads as u32)
 }
 
@@ -275,10 +267,10 @@ fn given_within(options: &ArgMatches<'_>, name: &str, least: u32, most: u32) -> 
 fn show_of(options: &ArgMatches<'_>) -> Option<Show>
     ensures { IsShow (rows_of (found_of options.now)) result }
 {
-    let number = number_within(options, "show", 0, MAX_CANDIDATES)?;
+    let number = number_within(options, "show", 0, MAX_CANDIDATES as u64)?;
     Some(Show {
         number,
-        milliseconds: given_within(options, "ms", 1, MAX_SPREAD_MS),
+        milliseconds: given_within(options, "ms", 1, MAX_SPREAD_MS as u32),
     })
 }
 
@@ -293,11 +285,15 @@ fn palette_of(options: &ArgMatches<'_>) -> Option<Palette>
     }
 }
 
-/// Does what a command does, and gives its exit status: 0 where its work is done and nothing was
-/// found, 1 and 2 where the history that it judges is not valid, or where that is not known, and
-/// likewise where a schedule that fails was made small, or the budget did not suffice for it; and
-/// where a search found a run that is not valid, or what comes of some is not known. The
-/// error has the status otherwise: 3 for an input that is refused, 4 for an error of the machine or
+/// Does what a command does, and gives its exit status:
+///
+/// | status | `check`, `run`, `timeline` | `shrink` | `search` | `env` |
+/// |---|---|---|---|---|
+/// | 0 | the history is valid, or is not judged | the run does not fail | no run found that fails | done |
+/// | 1 | the history is not valid | the schedule is minimal | a run found that fails | |
+/// | 2 | it is not known whether it is valid | the budget was used up | none found, and some are unknown | |
+///
+/// The error has the status otherwise: 3 for an input that is refused, 4 for an error of the machine or
 /// a run that was not completed. Nothing is written before any error but `Write`.
 ///
 /// The observer is told how far the work of `shrink` or `search` is. A run on threads, a search and
@@ -313,16 +309,16 @@ pub fn run<T: Threads + Wait + Sync, R: Read, W: Write, O: Observer + SearchObse
     requires { HasNumbersInRange command }
     ensures written { IfOk result (λ status. WritesOutput (R.remaining reader.old)
         (IsOutputOf command) status (W.contents writer.old) (W.contents writer.new)) }
-    ensures asked { (question : Question) → command ≡ Check question
+    ensures asked { (question : CheckQuestion) → command ≡ Check question
         → IsErrOf result CliError.OnlyForRegister
         ↔ (TakesInitial question.judging.checker question.judging.initial → ⊥) }
-    ensures unread { (question : Question) → command ≡ Check question
+    ensures unread { (question : CheckQuestion) → command ≡ Check question
         → IsErrOf result CliError.OnlyForRegister → reader.new ≡ reader.old }
-    ensures asked_model { (question : Question) → command ≡ Check question
+    ensures asked_model { (question : CheckQuestion) → command ≡ Check question
         → IsErrOf result CliError.OnlyForListAppend
         ↔ (TakesInitial question.judging.checker question.judging.initial
         × (TakesModel question.judging.checker question.judging.model → ⊥)) }
-    ensures unread_model { (question : Question) → command ≡ Check question
+    ensures unread_model { (question : CheckQuestion) → command ≡ Check question
         → IsErrOf result CliError.OnlyForListAppend → reader.new ≡ reader.old }
     ensures timeline_asked { (question : TimelineQuestion) → command ≡ Timeline question
         → IsErrOf result CliError.OnlyForRegister ↔ (TakesInitialBy question.judging → ⊥) }

@@ -1,15 +1,18 @@
 //! The arguments of the command line: which command they ask for, and what is done then.
 //!
-//! `line.rt` has the commands and their options as `clap` reads them, `commands.rt` what each
-//! command is and does, `answers.rt` the whole of it in one call, and `program.rt` the standard
-//! streams and what a terminal is told. A new command is a line of the first, and a case of
-//! `Command`, of `command_of` and of `run`.
+//! `line.rt` has the commands and their options as `clap` reads them, `help.rt` what stands at the end
+//! of their help, and `commands.rt` what each command is and does. `drive` is none of these: it has a
+//! file of settings, and `answers.rt` conducts its test. There the whole stands in one call, from the
+//! arguments to the exit status; `program.rt` has the standard streams and what a terminal is told.
+//! A new command is a line of the first and a text of the second, and a case of `Command`, of
+//! `command_of`, of `run`, and of `input_of` in `program.rt`.
 #![tactic(auto)]
 
 mod answers;
 mod commands;
 mod help;
 mod laws;
+mod limits;
 mod line;
 mod palettes;
 mod program;
@@ -19,10 +22,10 @@ pub use commands::{
     Command, command_of, question_of, run, search_question_of, settings_path_of,
     timeline_question_of,
 };
-pub use jh_cli::{CliError, Question, SearchQuestion, TimelineQuestion};
+pub use jh_cli::{CheckQuestion, CliError, REFUSED, SearchQuestion, TimelineQuestion};
 pub use jh_drive::{CallCounts, CallObserver, DriveError};
 pub use jh_lines::Streams;
 pub use laws::argument_laws;
-pub use line::{REFUSED, parse, status_of_refusal};
+pub use line::{parse, status_of_refusal};
 pub use palettes::palette_named;
 pub use program::{Terminals, status};

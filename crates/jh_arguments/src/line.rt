@@ -8,20 +8,19 @@ ghost use Rattle.clap.specs.declared.error.ErrorKind.TheVariants as ErrorKind;
 ghost use Rattle.jh_cli.specs.declared.error.CliError.TheVariants as CliError;
 ghost use Rattle.jh_checkers.specs.Checkers.{checker_names};
 ghost use Rattle.jh_arguments.specs.Commands.{AsksForAny};
+ghost use Rattle.jh_arguments.specs.Limits.{max_candidates, max_faults};
 ghost use Rattle.jh_arguments.specs.Line as text;
 ghost use Rattle.jh_checkers.specs.Models.{model_names};
 ghost use Rattle.jh_arguments.specs.Line.{AreMatches, IsCommandLine, IsRefused};
 
 use crate::help;
+use crate::limits::{MAX_BUDGET, MAX_CANDIDATES, MAX_FAULTS, MAX_SPREAD_MS, MAX_THREADS};
 use clap::builder::ValueParser;
 use clap::error::ErrorKind;
 use clap::{Arg, ArgAction, ArgMatches, Command, Error, value_parser};
-use jh_cli::CliError;
+use jh_cli::{CliError, DONE, REFUSED};
 use std::alloc::Global;
 use std::convert::AsStr;
-
-/// The exit status where the arguments are refused.
-pub const REFUSED: u8 = 3;
 
 /// The names of the workloads, as `jh_checkers` has them.
 static WORKLOADS: [&str; 5] = ["register", "set", "counter", "unique-ids", "list-append"];
@@ -91,7 +90,7 @@ fn check_command<'a>(
     let explain = flag_option(
         alloc,
         "explain",
-        "Says more of a no of a register or of list-append",
+        "Says why a register or list-append is not valid",
     );
     let independent = flag_option(
         alloc,
@@ -203,10 +202,10 @@ fn settings_argument<'a>(alloc: Global) -> Arg<'a>
 /// How many candidates are tried at most: one, or more.
 fn runs_option<'a>(alloc: Global) -> Arg<'a>
     ensures rule { rule_of result
-        ≡ text.number_rule (codes "runs") (Unsigned 1 9223372036854775807) (codes "10000") }
+        ≡ text.number_rule (codes "runs") (Unsigned 1 max_candidates) (codes "10000") }
     ensures local { result.global ≡ false }
 {
-    let parser = value_parser!(u64).range(1..=9_223_372_036_854_775_807);
+    let parser = value_parser!(u64).range(1..=MAX_CANDIDATES);
     number_option(
         alloc,
         "runs",
@@ -216,13 +215,13 @@ fn runs_option<'a>(alloc: Global) -> Arg<'a>
     )
 }
 
-/// How many random faults each candidate has: at most 256.
+/// How many random faults each candidate has.
 fn faults_option<'a>(alloc: Global) -> Arg<'a>
     ensures rule { rule_of result
-        ≡ text.number_rule (codes "faults") (Unsigned 0 256) (codes "8") }
+        ≡ text.number_rule (codes "faults") (Unsigned 0 max_faults) (codes "8") }
     ensures local { result.global ≡ false }
 {
-    let parser = value_parser!(u64).range(..=256);
+    let parser = value_parser!(u64).range(..=MAX_FAULTS);
     number_option(
         alloc,
         "faults",
@@ -235,10 +234,10 @@ fn faults_option<'a>(alloc: Global) -> Arg<'a>
 /// The number of the first candidate.
 fn from_option<'a>(alloc: Global) -> Arg<'a>
     ensures rule { rule_of result
-        ≡ text.number_rule (codes "from") (Unsigned 0 9223372036854775807) (codes "0") }
+        ≡ text.number_rule (codes "from") (Unsigned 0 max_candidates) (codes "0") }
     ensures local { result.global ≡ false }
 {
-    let parser = value_parser!(u64).range(..=9_223_372_036_854_775_807);
+    let parser = value_parser!(u64).range(..=MAX_CANDIDATES);
     number_option(
         alloc,
         "from",
@@ -260,7 +259,7 @@ fn palette_option<'a>(alloc: Global) -> Arg<'a>
         .default_value("cut,slow,loss,fix,pause,kill,bump")
 }
 
-/// How many threads try candidates: a number from 1 to 16, if it is given.
+/// How many threads try candidates, if that is given.
 fn given_threads_option<'a>(alloc: Global) -> Arg<'a>
     ensures rule { rule_of result ≡ text.given_threads }
     ensures local { result.global ≡ false }
@@ -269,7 +268,7 @@ fn given_threads_option<'a>(alloc: Global) -> Arg<'a>
         alloc,
         "threads",
         "How many threads try candidates; as many as there are processors where it is left out",
-        value_parser!(u64).range(1..=16),
+        value_parser!(u64).range(1..=MAX_THREADS),
     )
 }
 
@@ -278,12 +277,11 @@ fn show_option<'a>(alloc: Global) -> Arg<'a>
     ensures rule { rule_of result ≡ text.show }
     ensures local { result.global ≡ false }
 {
-    let parser = value_parser!(u64).range(0..=9_223_372_036_854_775_807);
     given_option(
         alloc,
         "show",
         "Writes the schedule of this candidate, and runs none",
-        parser,
+        value_parser!(u64).range(0..=MAX_CANDIDATES),
     )
 }
 
@@ -292,7 +290,7 @@ fn spread_option<'a>(alloc: Global) -> Arg<'a>
     ensures rule { rule_of result ≡ text.spread }
     ensures local { result.global ≡ false }
 {
-    let parser = value_parser!(u64).range(1..=86_400_000);
+    let parser = value_parser!(u64).range(1..=MAX_SPREAD_MS);
     given_option(
         alloc,
         "ms",
@@ -361,25 +359,25 @@ fn judge_option<'a>(alloc: Global) -> Arg<'a>
     )
 }
 
-/// How much a command may do: a number up to 10,000,000.
+/// How much a command may do.
 fn budget_option<'a>(alloc: Global, help: &'static str, default: &'static str) -> Arg<'a>
     ensures rule { rule_of result ≡ text.budget default.now }
     ensures local { result.global ≡ false }
 {
-    let parser = value_parser!(u64).range(..=10_000_000);
+    let parser = value_parser!(u64).range(..=MAX_BUDGET);
     number_option(alloc, "budget", help, parser, default)
 }
 
-/// How many threads judge the keys of a history: a number from 1 to 16.
+/// How many threads judge the keys of a history.
 fn threads_option<'a>(alloc: Global) -> Arg<'a>
     ensures rule { rule_of result ≡ text.threads }
     ensures local { result.global ≡ false }
 {
-    let parser = value_parser!(u64).range(1..=16);
+    let parser = value_parser!(u64).range(1..=MAX_THREADS);
     number_option(alloc, "threads", "How many threads judge keys", parser, "1")
 }
 
-/// Of how many calls a history may be called valid: a number of `u64`.
+/// How many calls that ended `:ok` a valid history has at least: a number of `u64`.
 fn at_least_option<'a>(alloc: Global) -> Arg<'a>
     ensures rule { rule_of result ≡ text.index (codes "at-least") }
     ensures local { result.global ≡ false }
@@ -387,7 +385,7 @@ fn at_least_option<'a>(alloc: Global) -> Arg<'a>
     given_option(
         alloc,
         "at-least",
-        "Calls a history valid only where so many calls of the workload ended well",
+        "A history with fewer calls that ended :ok is not called valid",
         value_parser!(u64),
     )
 }
@@ -460,6 +458,6 @@ pub fn status_of_refusal(refusal: &Error) -> Result<u8, CliError>
     } else if refusal.use_stderr() {
         Ok(REFUSED)
     } else {
-        Ok(0)
+        Ok(DONE)
     }
 }

@@ -6,9 +6,10 @@ ghost use Rattle.std.specs.Prelude.{◌≢◌, IsNone};
 
 use crate::answers::{CommandObserver, Refusal, answer};
 use crate::commands::Command;
-use crate::line::{REFUSED, status_of_refusal};
+use crate::line::status_of_refusal;
+use clap::error::ErrorKind;
 use jh_checkers::{Checker, Judging};
-use jh_cli::CliError;
+use jh_cli::{CliError, REFUSED, UNKNOWN};
 use jh_drive::{CallCounts, CallObserver, DriveError};
 use jh_lines::Streams;
 use jh_search::SearchObserver;
@@ -22,9 +23,6 @@ use std::sync::Wait;
 use std::thread::Threads;
 use std::time::{Clock, Instant};
 use std::{env, io};
-
-/// The status of what is not known, as `run` of `commands.rt` gives it.
-const UNKNOWN: u8 = 2;
 
 /// Tells on standard error, where that is a terminal, what is done: what is read, how far the work is, in one
 /// line that is written over and over, and how the calls of a test ended.
@@ -219,6 +217,9 @@ fn remedy_of(command: Command, status: u8) -> Option<&'static str>
         Command::Run | Command::Search(_) => {
             Some("unknown: of a register, a larger budget in the settings may decide")
         }
+        Command::Check(question) if question.at_least.is_some() => {
+            Some("unknown: the history has too few operations, or a larger --budget may decide")
+        }
         _ if is_of_register(judging_of(command)) => Some("unknown: a larger --budget may decide"),
         _ => None,
     }
@@ -230,14 +231,30 @@ fn failed(rt: &impl Eprint, error: CliError) -> u8 {
     error.status()
 }
 
+/// What helps whoever gave an argument that no command takes: the name of a file, mostly, or a number
+/// below 0.
+const UNKNOWN_ARGUMENT: &str =
+    "files are read from standard input, as in `jeprun check --workload register < history.edn`; \
+     a number below 0 is given as in `--initial=-5`";
+
 /// Shows what a refusal has to say: help on standard output, complaints on standard error.
 fn refused(rt: &(impl Print + Eprint), refusal: &clap::Error) -> u8 {
     match status_of_refusal(refusal) {
         Err(memory) => failed(rt, memory),
         Ok(status) => match refusal.print(rt) {
-            Ok(()) => status,
+            Ok(()) => {
+                advise_on(rt, refusal);
+                status
+            }
             Err(_) => failed(rt, CliError::Write),
         },
+    }
+}
+
+/// Says on standard error, behind a complaint, what may help.
+fn advise_on(rt: &impl Eprint, refusal: &clap::Error) {
+    if refusal.kind() == ErrorKind::UnknownArgument {
+        let _ = eprintln!(rt; "jeprun: {UNKNOWN_ARGUMENT}");
     }
 }
 

@@ -12,7 +12,7 @@ use Rattle.jh_ops.specs.declared.history.HistoryError.TheVariants as history_err
 use Rattle.jh_timeline_sections.specs.HistoryAndRest.{AreHistoryAndRest, RefusesHistoryAndRest}
 use Rattle.jh_cli.specs.CheckRefusals.{RefusesBy, RefusesCheck, RefusesJudging}
 use Rattle.jh_cli.specs.Status.{check_error, keys_error, reading_error}
-use Rattle.jh_cli.specs.declared.check_command.Question.{Question}
+use Rattle.jh_cli.specs.declared.check_command.CheckQuestion.{CheckQuestion}
 use Rattle.jh_cli.specs.declared.error.CliError.{CliError}
 use Rattle.jh_cli.specs.declared.error.CliError.TheVariants.{Input, EnvironmentMissing, Environment, Element, History, Check, Settings, Run, HistoryFull, Mismatch, Thread, OnlyForRegister, OnlyForListAppend, BadPalette, Unwritable, Read, Write, OutOfMemory}
 
@@ -29,7 +29,7 @@ nothing_written input refused =
       ]
     ]
 
-pub reading_refused : (question : Question) (input : List ℕ) (error : ReadHistoryError) → RefusesHistoryAndRest input error → RefusesCheck question input (reading_error error)
+pub reading_refused : (question : CheckQuestion) (input : List ℕ) (error : ReadHistoryError) → RefusesHistoryAndRest input error → RefusesCheck question input (reading_error error)
 reading_refused question input (reading.Text (edn.UnexpectedEnd line)) refused = (refl, refused)
 reading_refused question input (reading.Text (edn.BadToken line)) refused = (refl, refused)
 reading_refused question input (reading.Text (edn.FloatUnsupported line)) refused = (refl, refused)
@@ -68,11 +68,11 @@ by_keys (KeysErrors.Key error) = by_checker error
 by_keys KeysErrors.Thread = tt
 by_keys KeysErrors.OutOfMemory = tt
 
-by_judging : (independent : Bool) (question : Question) (history : List Operation) (e : CliError) → RefusesBy independent question history e → IsJudging e
+by_judging : (independent : Bool) (question : CheckQuestion) (history : List Operation) (e : CliError) → RefusesBy independent question history e → IsJudging e
 by_judging true question history e refused = subst IsJudging (sym refused.3) (by_keys refused.0)
 by_judging false question history e refused = subst IsJudging (sym refused.2) (by_checker refused.0)
 
-pub judging_refused : (question : Question) (input : List ℕ) (history : List Operation) (below : List ℕ) (e : CliError) → AreHistoryAndRest input history below → RefusesJudging question history e → RefusesCheck question input e
+pub judging_refused : (question : CheckQuestion) (input : List ℕ) (history : List Operation) (below : List ℕ) (e : CliError) → AreHistoryAndRest input history below → RefusesJudging question history e → RefusesCheck question input e
 judging_refused question input history below (Input error) parts refused = absurd (by_judging question.independent question history (Input error) refused)
 judging_refused question input history below EnvironmentMissing parts refused = absurd (by_judging question.independent question history EnvironmentMissing refused)
 judging_refused question input history below (Environment error) parts refused = absurd (by_judging question.independent question history (Environment error) refused)

@@ -13,7 +13,7 @@ use Rattle.jh_reports.specs.Judged.{RefusesLine}
 use Rattle.jh_timeline_sections.specs.HistoryAndRest.{AreHistoryAndRest, RefusesHistoryAndRest}
 use Rattle.jh_cli.specs.CheckText.{TakesInitial, TakesModel, IsCheckTextOf}
 use Rattle.jh_cli.specs.Status.{check_error, keys_error, IsInputError, IsHistoryError}
-use Rattle.jh_cli.specs.declared.check_command.Question.{Question}
+use Rattle.jh_cli.specs.declared.check_command.CheckQuestion.{CheckQuestion}
 use Rattle.jh_cli.specs.declared.error.CliError.{CliError}
 use Rattle.jh_cli.specs.declared.error.CliError.TheVariants.{Input, History, OnlyForRegister}
 use Rattle.jh_cli.specs.declared.error.CliError.TheVariants.{OnlyForListAppend, Read, Write}
@@ -31,19 +31,19 @@ RefusesByKeys judging threads history e =
     (error : KeysError) × RefusesKeys (keys_question judging history) error
     × (error ≡ KeysErrors.Thread → threads ≢ 1) × (e ≡ keys_error error)
 
-abbrev pub RefusesBy : Bool → Question → List Operation → CliError → Type 0
+abbrev pub RefusesBy : Bool → CheckQuestion → List Operation → CliError → Type 0
 RefusesBy true question history e = RefusesByKeys question.judging question.threads history e
 RefusesBy false question history e = RefusesWhole question.judging.checker history e
 
 -- why a history is not judged; memory may run out in any
-abbrev pub RefusesJudging : Question → List Operation → CliError → Type 0
+abbrev pub RefusesJudging : CheckQuestion → List Operation → CliError → Type 0
 RefusesJudging question history OutOfMemory = Unit {0}
 RefusesJudging question history e =
     RefusesBy question.independent question history e
 
 -- Why an input is refused, where for its text then for its first error. A failed read and out of
 -- memory may come with any input; a failed write comes only where there is something to write.
-abbrev pub RefusesCheck : Question → List ℕ → CliError → Type 0
+abbrev pub RefusesCheck : CheckQuestion → List ℕ → CliError → Type 0
 RefusesCheck question input OnlyForRegister =
     TakesInitial question.judging.checker question.judging.initial → ⊥
 RefusesCheck question input OnlyForListAppend =

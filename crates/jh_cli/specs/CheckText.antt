@@ -8,7 +8,7 @@ use Rattle.jh_txn.specs.declared.model.ConsistencyModel.{ConsistencyModel}
 use Rattle.jh_reports.specs.Judged.{IsTextBy}
 use Rattle.jh_timeline_sections.specs.HistoryAndRest.{AreHistoryAndRest}
 use Rattle.jh_cli.specs.Enough.{answer_where_enough, count_ok_calls}
-use Rattle.jh_cli.specs.declared.check_command.Question.{Question}
+use Rattle.jh_cli.specs.declared.check_command.CheckQuestion.{CheckQuestion}
 
 -- An initial value is for a register alone.
 abbrev pub TakesInitial : Checker → Option ℤ → Type 0
@@ -25,7 +25,7 @@ TakesModel checker (Some model) = ⊥
 -- ---- what is written, with the exit status
 
 -- for a history
-abbrev pub IsHistoryText : Question → List Operation → ℕ → List ℕ → Type 0
+abbrev pub IsHistoryText : CheckQuestion → List Operation → ℕ → List ℕ → Type 0
 IsHistoryText question history status output =
     (verdict : ℕ) × (found : List ℕ)
     × IsTextBy question.independent question.judging history verdict found
@@ -33,7 +33,7 @@ IsHistoryText question history status output =
     ≡ answer_where_enough question.at_least (count_ok_calls question.judging.checker history) verdict found)
 
 -- for an input: the history that it is, or, of what `run` or `drive` printed, the one in it
-abbrev pub IsCheckTextOf : Question → List ℕ → ℕ → List ℕ → Type 0
+abbrev pub IsCheckTextOf : CheckQuestion → List ℕ → ℕ → List ℕ → Type 0
 IsCheckTextOf question input status output =
     (history : List Operation) × (below : List ℕ) × AreHistoryAndRest input history below
     × IsHistoryText question history status output

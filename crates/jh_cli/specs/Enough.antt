@@ -16,7 +16,7 @@ functions_of Checker.Counter = codes "add" ∷ codes "read" ∷ []
 functions_of Checker.Ids = codes "generate" ∷ []
 functions_of Checker.ListAppend = codes "txn" ∷ []
 
--- a client's call of one of these functions ended well
+-- a client's call of one of these functions ended `:ok`
 abbrev pub is_ok_call : Checker → Operation → Bool
 is_ok_call checker op = list_any (λ name. is_asked Kind.Ok name op) (functions_of checker)
 

@@ -17,7 +17,7 @@ use Rattle.jh_cli.specs.declared.error.CliError.{CliError}
 use Rattle.jh_cli.specs.declared.error.CliError.TheVariants.{Input, EnvironmentMissing, Environment}
 use Rattle.jh_cli.specs.declared.error.CliError.TheVariants.{Element, Read, Write, OutOfMemory}
 
--- the place of the first step among the elements, which count from 1
+-- the number of the first step among the elements, which count from 1
 abbrev pub first_step : ℕ
 first_step = 2
 

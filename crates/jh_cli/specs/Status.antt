@@ -26,7 +26,7 @@ abbrev pub error_status : CliError → ℕ
 error_status (Input error) = 3
 error_status EnvironmentMissing = 3
 error_status (Environment error) = 3
-error_status (Element place error) = 3
+error_status (Element number error) = 3
 error_status (History error) = 3
 error_status (Check error) = 3
 error_status (Settings error) = 3
@@ -80,10 +80,10 @@ environment_error error = Environment error
 abbrev pub IsEnvironmentError : EnvTextError.the_data → Type 0
 IsEnvironmentError error = environment_error error ≡ Environment error
 
--- what a refusal of the element at a place means to a command
+-- what a refusal of the element of a number means to a command
 abbrev pub step_error : ℕ → StepTextError.the_data → CliError
-step_error place StepTextError.OutOfMemory = OutOfMemory
-step_error place error = Element place error
+step_error number StepTextError.OutOfMemory = OutOfMemory
+step_error number error = Element number error
 
 -- what a refusal of a history means to a command
 abbrev pub history_error : HistoryError.the_data → CliError

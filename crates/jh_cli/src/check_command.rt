@@ -1,6 +1,8 @@
 //! The command `check`: reads a history, or all that `run` or `drive` printed, and writes the one line
-//! that a checker finds, in the history or in that of each of its keys. What is written stands in `specs/CheckText.antt`, why a history is
-//! refused in `specs/CheckRefusals.antt`; a new checker is a row of the table in `jh_checkers`.
+//! that a checker finds, in the history or in that of each of its keys; or that the history has too few
+//! calls to be called valid, which `enough.rt` counts. What is written stands in `specs/CheckText.antt`,
+//! why a history is refused in `specs/CheckRefusals.antt`; a new checker is a row of the table in
+//! `jh_checkers`, and a case of `is_ok_call` in `enough.rt`.
 
 ghost use Rattle.std.specs.Prelude.{◌≡◌, ◌≢◌, ◌↔◌, ◌≤◌, IfOk, IfErr, IsErrOf, IsTrue};
 ghost use Rattle.std.specs.Prelude.{MatchResult};
@@ -12,7 +14,7 @@ ghost use Rattle.jh_cli.specs.CheckText.{TakesInitial, TakesModel};
 ghost use Rattle.jh_cli.specs.Outputs.{OnInput, WritesOutput};
 ghost use Rattle.jh_reports.specs.Judged.{IsKeysText, IsTextBy, IsWholeText};
 
-use crate::enough::with_enough;
+use crate::enough::answer_where_enough;
 use crate::error::CliError;
 use crate::output::{MAX_READS, finish};
 use jh_checkers::{Checker, Judging};
@@ -27,14 +29,14 @@ use std::thread::Threads;
 
 /// What `check` is asked of a history.
 #[derive(Clone, Copy, Debug, PartialEq, Eq)]
-pub struct Question {
+pub struct CheckQuestion {
     pub judging: Judging,
     /// Whether each key is judged by itself.
     pub independent: bool,
     /// By how many threads keys are judged, from 1 to 16.
     pub threads: u32,
-    /// Of how many calls a history may be called valid: client's calls of the functions that the
-    /// checker judges, in all keys, which ended well. None: of any number.
+    /// A history with fewer calls that ended `:ok` is not called valid; counted are clients' calls
+    /// of the functions that the checker judges, in all keys. None: any number is enough.
     pub at_least: Option<usize>,
 }
 
@@ -59,7 +61,7 @@ pub fn check_run<T: Threads + Wait + Sync, R: Read, W: Write>(
     alloc: Global,
     reader: &mut R,
     writer: &mut W,
-    question: Question,
+    question: CheckQuestion,
 ) -> Result<u8, CliError>
     requires { (1 ≤ question.threads) × (question.threads ≤ 16) }
     ensures written { IfOk result (λ status. WritesOutput (R.remaining reader.old)
@@ -105,7 +107,7 @@ fn judge_history<T: Threads + Wait + Sync>(
     rt: &T,
     alloc: Global,
     history: &[Op],
-    question: Question,
+    question: CheckQuestion,
 ) -> Result<Output, CliError>
     requires { (1 ≤ question.threads) × (question.threads ≤ 16) }
     ensures { MatchResult result
@@ -114,7 +116,7 @@ fn judge_history<T: Threads + Wait + Sync>(
         (RefusesJudging question (operations history.now)) }
 {
     let output = judge_by(rt, alloc, history, question)?;
-    Ok(with_enough(alloc, history, question, output)?)
+    Ok(answer_where_enough(alloc, history, question, output)?)
 }
 
 /// What is found in a history, by keys or as one.
@@ -122,7 +124,7 @@ fn judge_by<T: Threads + Wait + Sync>(
     rt: &T,
     alloc: Global,
     history: &[Op],
-    question: Question,
+    question: CheckQuestion,
 ) -> Result<Output, CliError>
     requires { (1 ≤ question.threads) × (question.threads ≤ 16) }
     ensures { MatchResult result

@@ -3,21 +3,15 @@
 ghost use Rattle.std.specs.Prelude.{◌≡◌, IfOk};
 ghost use Rattle.jh_ops.specs.Operation.{operation, operations};
 ghost use Rattle.jh_cli.specs.Enough as rule;
-ghost use Rattle.jh_cli.specs.Enough.{answer_where_enough, few_line};
 
-use crate::check_command::Question;
+use crate::check_command::CheckQuestion;
+use crate::output::{DONE, UNKNOWN};
 use jh_checkers::Checker;
 use jh_ops::{Kind, Op};
 use jh_reports::Output;
 use std::alloc::{AllocError, Global};
 
-/// The status of a history that is valid.
-const VALID: u8 = 0;
-
-/// The status where it is not known whether it is.
-const UNKNOWN: u8 = 2;
-
-/// Whether a client's call that the checker judges ended well.
+/// Whether a client's call that the checker judges ended `:ok`.
 fn is_ok_call(checker: Checker, op: &Op) -> bool
     ensures { result ≡ rule.is_ok_call checker (operation op.now) }
 {
@@ -35,7 +29,7 @@ fn is_ok_call(checker: Checker, op: &Op) -> bool
     }
 }
 
-/// How many calls that the checker judges ended well.
+/// How many calls that the checker judges ended `:ok`.
 fn count_ok_calls(checker: Checker, history: &[Op]) -> usize
     ensures { result ≡ rule.count_ok_calls checker (operations history.now) }
 {
@@ -49,14 +43,14 @@ fn count_ok_calls(checker: Checker, history: &[Op]) -> usize
 }
 
 /// What is found, or that it stands on too few calls.
-pub(crate) fn with_enough(
+pub(crate) fn answer_where_enough(
     alloc: Global,
     history: &[Op],
-    question: Question,
+    question: CheckQuestion,
     found: Output,
 ) -> Result<Output, AllocError>
     ensures { IfOk result (λ output. (output.status, output.text.items)
-        ≡ answer_where_enough question.at_least
+        ≡ rule.answer_where_enough question.at_least
         (rule.count_ok_calls question.judging.checker (operations history.now))
         found.status found.text.items) }
 {
@@ -64,18 +58,18 @@ pub(crate) fn with_enough(
         return Ok(found);
     };
     let done = count_ok_calls(question.judging.checker, history);
-    if found.status != VALID || done >= wanted {
+    if found.status != DONE || done >= wanted {
         return Ok(found);
     }
     Ok(Output {
         status: UNKNOWN,
-        text: few_text(alloc, done, wanted)?,
+        text: few_line(alloc, done, wanted)?,
     })
 }
 
 /// The line where fewer calls were done than are wanted.
-fn few_text(alloc: Global, done: usize, wanted: usize) -> Result<Vec<u8>, AllocError>
-    ensures { IfOk result (λ line. line.items ≡ few_line done wanted) }
+fn few_line(alloc: Global, done: usize, wanted: usize) -> Result<Vec<u8>, AllocError>
+    ensures { IfOk result (λ line. line.items ≡ rule.few_line done wanted) }
 {
     let line = format!(in alloc;
         "{{:valid? :unknown, :error \"{done} of at least {wanted} operations\"}}\n"

@@ -25,7 +25,7 @@ use jh_step_texts::{StepTextError, step_of_value};
 use std::alloc::{AllocError, Global};
 use std::io::{Read, Write};
 
-/// The place of the first step among the elements of the input, which count from 1.
+/// The number of the first step among the elements of the input, which count from 1.
 const FIRST_STEP: u64 = 2;
 
 /// Reads a starting environment and steps, and writes one line with the answer to each step, one
@@ -84,13 +84,13 @@ fn steps_of(alloc: Global, nodes: &Nodes, values: &[Value]) -> Result<Vec<Step>,
     Ok(steps)
 }
 
-/// What a refusal of the element at a place means.
-fn element_error(place: u64, error: StepTextError) -> CliError
-    ensures { result ≡ step_error place error }
+/// What a refusal of the element of a number means.
+fn element_error(number: u64, error: StepTextError) -> CliError
+    ensures { result ≡ step_error number error }
 {
     match error {
         StepTextError::OutOfMemory => CliError::OutOfMemory,
-        _ => CliError::Element { place, error },
+        _ => CliError::Element { number, error },
     }
 }
 

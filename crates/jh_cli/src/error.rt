@@ -5,6 +5,7 @@ ghost use Rattle.std.specs.Prelude.{◌≡◌, IfSome, OnOk};
 ghost use Rattle.std.specs.Io.KnownBytes.{Appends};
 ghost use Rattle.jh_cli.specs.Status.{own_text, error_status};
 
+use crate::output::{FAILED, REFUSED};
 use jh_check::CheckError;
 use jh_edn::EdnError;
 use jh_env::EnvTextError;
@@ -31,8 +32,8 @@ pub enum CliError {
     EnvironmentMissing,
     /// The first element is no environment.
     Environment(EnvTextError),
-    /// The element at this place, the environment's being 1, is no step.
-    Element { place: u64, error: StepTextError },
+    /// The element of this number is no step. Elements count from 1, which is the environment.
+    Element { number: u64, error: StepTextError },
     /// An element is no operation.
     History(HistoryError),
     /// The history is none that its checker can judge.
@@ -43,8 +44,8 @@ pub enum CliError {
     Run(RunError),
     /// The log of a run on threads has too few rows for its records.
     HistoryFull,
-    /// What a run did does not agree: its threads, its world and its plan, or its own history can't
-    /// be judged.
+    /// A run on threads contradicts itself: its history and its journal disagree, they do not keep
+    /// to its plan, or no checker takes the history.
     Mismatch,
     /// A thread could not be had.
     Thread,
@@ -80,14 +81,14 @@ impl CliError {
             | CliError::OnlyForRegister
             | CliError::OnlyForListAppend
             | CliError::BadPalette
-            | CliError::Unwritable => 3,
+            | CliError::Unwritable => REFUSED,
             CliError::Run(_)
             | CliError::HistoryFull
             | CliError::Mismatch
             | CliError::Thread
             | CliError::Read
             | CliError::Write
-            | CliError::OutOfMemory => 4,
+            | CliError::OutOfMemory => FAILED,
         }
     }
 
@@ -108,7 +109,7 @@ impl Display for CliError {
             CliError::Input(error) => write!(f, "{error}"),
             CliError::EnvironmentMissing => f.write_str("environment missing"),
             CliError::Environment(error) => write!(f, "environment: {error}"),
-            CliError::Element { place, error } => write!(f, "element {place}: {error}"),
+            CliError::Element { number, error } => write!(f, "element {number}: {error}"),
             CliError::History(error) => write!(f, "{error}"),
             CliError::Check(error) => write!(f, "{error}"),
             CliError::Settings(error) => write!(f, "settings: {error}"),

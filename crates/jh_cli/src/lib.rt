@@ -15,9 +15,10 @@ mod search_command;
 mod shrink_command;
 mod timeline_command;
 
-pub use check_command::{Question, check_run};
+pub use check_command::{CheckQuestion, check_run};
 pub use env_command::env_run;
 pub use error::CliError;
+pub use output::{DONE, FAILED, INVALID, REFUSED, UNKNOWN};
 pub use run_command::run_run;
 pub use search_command::{SearchQuestion, Show, search_run};
 pub use shrink_command::{shrink_run, shrink_run_observed};

@@ -1,6 +1,7 @@
 //! The command `search`: reads the settings of a run, tries random schedules of faults, and writes
-//! the settings of the first run that fails; or the schedule of one candidate, without a run. What is written stands in `specs/SearchText.antt`, why
-//! an input is refused in `specs/SearchRefusals.antt`; what a candidate is stands in `jh_search`.
+//! the settings of the first run that fails; or the schedule of one candidate, without a run. What is
+//! written stands in `specs/SearchText.antt`, why an input is refused in `specs/SearchRefusals.antt`;
+//! what a candidate is stands in `jh_search`.
 
 ghost use Rattle.std.specs.Prelude.{◌≡◌, ◌≢◌, ◌↔◌, ◌≤◌, ◌<◌, ◌+◌, ◌^◌, IfOk, IfErr, IfSome};
 ghost use Rattle.std.specs.Prelude.{IsErrOf, MatchResult, None, Some, string_bytes};
@@ -14,7 +15,7 @@ ghost use Rattle.jh_cli.specs.SearchText.{IsSearchedText, IsShownText};
 ghost use Rattle.jh_cli.specs.SearchText.{candidate_comment, search_options, spread_asked};
 
 use crate::error::CliError;
-use crate::output::{DONE, MAX_READS, finish};
+use crate::output::{DONE, INVALID, MAX_READS, UNKNOWN, finish};
 use jh_edn::read_bytes;
 use jh_reports::Output;
 use jh_search::{
@@ -107,7 +108,7 @@ pub fn search_run<T: Threads + Wait + Sync, R: Read, W: Write, O: SearchObserver
 }
 
 /// How many threads: as many as are given, or as there are processors, at most 16.
-fn threads_of<T: Threads>(rt: &T, given: Option<u32>) -> u32
+fn threads_wanted<T: Threads>(rt: &T, given: Option<u32>) -> u32
     requires { IfSome given (λ threads. (1 ≤ threads) × (threads ≤ 16)) }
     ensures given { IfSome given (λ threads. result ≡ threads) }
     ensures within { (1 ≤ result) × (result ≤ 16) }
@@ -163,7 +164,7 @@ fn search_bytes<T: Threads + Wait + Sync, O: SearchObserver>(
         return Err(CliError::Unwritable);
     }
     let options = options_of(question, palette, settings.budget);
-    let threads = threads_of(rt, question.threads);
+    let threads = threads_wanted(rt, question.threads);
     match search_or_show(rt, alloc, plan, &options, threads, question.show, observer) {
         Ok(output) => Ok(output),
         Err(error) => Err(CliError::from(error)),
@@ -258,9 +259,9 @@ fn status_of(searched: Searched) -> u8
         Searched {
             failing: Some(_),
             ..
-        } => 1,
-        Searched { unknown: 0, .. } => 0,
-        _ => 2,
+        } => INVALID,
+        Searched { unknown: 0, .. } => DONE,
+        _ => UNKNOWN,
     }
 }
 

@@ -14,7 +14,7 @@ ghost use Rattle.jh_cli.specs.ShrinkText as text;
 ghost use Rattle.jh_cli.specs.ShrinkText.{IsRunFailure, IsShrinkTextOf, RunAnswers};
 
 use crate::error::CliError;
-use crate::output::{MAX_READS, finish};
+use crate::output::{DONE, INVALID, MAX_READS, UNKNOWN, finish};
 use jh_check::Verdict;
 use jh_edn::read_bytes;
 use jh_env::Nodes;
@@ -168,9 +168,9 @@ fn status_of(shrunk: &Shrunk) -> u8
     ensures { result ≡ text.shrunk_status shrunk.now }
 {
     match shrunk {
-        Shrunk::Minimal(_) => 1,
-        Shrunk::Budget(_) => 2,
-        Shrunk::NotFailing(_) => 0,
+        Shrunk::Minimal(_) => INVALID,
+        Shrunk::Budget(_) => UNKNOWN,
+        Shrunk::NotFailing(_) => DONE,
     }
 }
 

@@ -19,7 +19,7 @@ ghost use Rattle.jh_cli.specs.TimelineText.{TakesInitialBy, TakesModelBy};
 use crate::check_command::{takes_initial, takes_model};
 use crate::error::CliError;
 use crate::notice::notice_of;
-use crate::output::{MAX_READS, finish};
+use crate::output::{DONE, MAX_READS, finish};
 use jh_checkers::{Finding, Judging, check_history};
 use jh_independent::{check_keys_serial, verdict_of_all};
 use jh_ops::Op;
@@ -88,10 +88,10 @@ pub fn timeline_run<R: Read, W: Write>(
         (λ input. RefusesTimeline question input e)) }
     ensures unwritten { IfErr result (λ e. e ≢ CliError.Write → writer.new ≡ writer.old) }
 {
-    if !may_have_initial(question.judging) {
+    if !takes_initial_by(question.judging) {
         return Err(CliError::OnlyForRegister);
     }
-    if !may_have_model(question.judging) {
+    if !takes_model_by(question.judging) {
         return Err(CliError::OnlyForListAppend);
     }
     let parts = read_history_and_rest(alloc, reader, MAX_READS)?;
@@ -100,7 +100,7 @@ pub fn timeline_run<R: Read, W: Write>(
 }
 
 /// Whether an initial value, if there is one, goes with the checker, if there is one.
-fn may_have_initial(judging: Option<Judging>) -> bool
+fn takes_initial_by(judging: Option<Judging>) -> bool
     ensures { IsTrue result ↔ TakesInitialBy judging }
 {
     match judging {
@@ -110,7 +110,7 @@ fn may_have_initial(judging: Option<Judging>) -> bool
 }
 
 /// Whether a consistency model, if there is one, goes with the checker, if there is one.
-fn may_have_model(judging: Option<Judging>) -> bool
+fn takes_model_by(judging: Option<Judging>) -> bool
     ensures { IsTrue result ↔ TakesModelBy judging }
 {
     match judging {
@@ -151,7 +151,7 @@ fn status_of(found: Option<&Finding>) -> u8
 {
     match found {
         Some(found) => jh_reports::status_of(found.verdict()),
-        None => 0,
+        None => DONE,
     }
 }
 
@@ -272,7 +272,7 @@ fn shown_unjudged(alloc: Global, history: &[Op], choice: Choice) -> Result<Shown
 {
     let sections = sections_of_keys(alloc, history, None, choice)?;
     Ok(Shown {
-        status: 0,
+        status: DONE,
         title: title_of(alloc, None)?,
         line: Vec::new(alloc),
         sections,

@@ -31,16 +31,16 @@ pub(crate) fn asked_once(alloc: Global, arguments: &str) -> Option<Vec<u8>> {
 fn asks_for_commands(rt: HostRuntime) {
     let rows = r#"jeprun env → Env
 § jeprun run → Run
-§ jeprun check --workload set → Check(Question { judging: Judging { checker: Set, initial: None, budget: 100000, explain: false, model: None }, independent: false, threads: 1, at_least: None })
-§ jeprun check --workload=unique-ids --budget 0 → Check(Question { judging: Judging { checker: Ids, initial: None, budget: 0, explain: false, model: None }, independent: false, threads: 1, at_least: None })
-§ jeprun check --workload register --initial=-5 → Check(Question { judging: Judging { checker: Register, initial: Some(-5), budget: 100000, explain: false, model: None }, independent: false, threads: 1, at_least: None })
-§ jeprun check --workload set --independent → Check(Question { judging: Judging { checker: Set, initial: None, budget: 100000, explain: false, model: None }, independent: true, threads: 1, at_least: None })
-§ jeprun check --independent --threads 16 --workload counter → Check(Question { judging: Judging { checker: Counter, initial: None, budget: 100000, explain: false, model: None }, independent: true, threads: 16, at_least: None })
-§ jeprun check --explain --workload register → Check(Question { judging: Judging { checker: Register, initial: None, budget: 100000, explain: true, model: None }, independent: false, threads: 1, at_least: None })
-§ jeprun check --workload list-append --model snapshot-isolation → Check(Question { judging: Judging { checker: ListAppend, initial: None, budget: 100000, explain: false, model: Some(SnapshotIsolation) }, independent: false, threads: 1, at_least: None })
-§ jeprun check --workload list-append --model strict-serializable → Check(Question { judging: Judging { checker: ListAppend, initial: None, budget: 100000, explain: false, model: Some(StrictSerializable) }, independent: false, threads: 1, at_least: None })
-§ jeprun check --workload set --budget 10000000 → Check(Question { judging: Judging { checker: Set, initial: None, budget: 10000000, explain: false, model: None }, independent: false, threads: 1, at_least: None })
-§ jeprun check --workload set --at-least 18446744073709551615 → Check(Question { judging: Judging { checker: Set, initial: None, budget: 100000, explain: false, model: None }, independent: false, threads: 1, at_least: Some(18446744073709551615) })
+§ jeprun check --workload set → Check(CheckQuestion { judging: Judging { checker: Set, initial: None, budget: 100000, explain: false, model: None }, independent: false, threads: 1, at_least: None })
+§ jeprun check --workload=unique-ids --budget 0 → Check(CheckQuestion { judging: Judging { checker: Ids, initial: None, budget: 0, explain: false, model: None }, independent: false, threads: 1, at_least: None })
+§ jeprun check --workload register --initial=-5 → Check(CheckQuestion { judging: Judging { checker: Register, initial: Some(-5), budget: 100000, explain: false, model: None }, independent: false, threads: 1, at_least: None })
+§ jeprun check --workload set --independent → Check(CheckQuestion { judging: Judging { checker: Set, initial: None, budget: 100000, explain: false, model: None }, independent: true, threads: 1, at_least: None })
+§ jeprun check --independent --threads 16 --workload counter → Check(CheckQuestion { judging: Judging { checker: Counter, initial: None, budget: 100000, explain: false, model: None }, independent: true, threads: 16, at_least: None })
+§ jeprun check --explain --workload register → Check(CheckQuestion { judging: Judging { checker: Register, initial: None, budget: 100000, explain: true, model: None }, independent: false, threads: 1, at_least: None })
+§ jeprun check --workload list-append --model snapshot-isolation → Check(CheckQuestion { judging: Judging { checker: ListAppend, initial: None, budget: 100000, explain: false, model: Some(SnapshotIsolation) }, independent: false, threads: 1, at_least: None })
+§ jeprun check --workload list-append --model strict-serializable → Check(CheckQuestion { judging: Judging { checker: ListAppend, initial: None, budget: 100000, explain: false, model: Some(StrictSerializable) }, independent: false, threads: 1, at_least: None })
+§ jeprun check --workload set --budget 10000000 → Check(CheckQuestion { judging: Judging { checker: Set, initial: None, budget: 10000000, explain: false, model: None }, independent: false, threads: 1, at_least: None })
+§ jeprun check --workload set --at-least 18446744073709551615 → Check(CheckQuestion { judging: Judging { checker: Set, initial: None, budget: 100000, explain: false, model: None }, independent: false, threads: 1, at_least: Some(18446744073709551615) })
 § jeprun shrink → Shrink(10000)
 § jeprun shrink --budget 10000000 → Shrink(10000000)
 § jeprun search → Search(SearchQuestion { from: 0, runs: 10000, faults: 8, palette: Some(Palette { cut: true, slow: true, loss: true, fix: true, pause: true, kill: true, bump: true }), threads: None, show: None })
@@ -320,10 +320,10 @@ Options:
       --initial <N>      The register's first value, as --initial=-5; nil where it is left out
       --model <MODEL>    What transactions were to keep; strict-serializable where it is left out [possible values: strict-serializable, serializable, strong-snapshot-isolation, snapshot-isolation]
       --budget <N>       How many configurations the judge of a register may reach [default: 100000]
-      --explain          Says more of a no of a register or of list-append
+      --explain          Says why a register or list-append is not valid
       --independent      Judges each key by itself; values are tuples of a key and a value
       --threads <N>      How many threads judge keys [default: 1]
-      --at-least <N>     Calls a history valid only where so many calls of the workload ended well
+      --at-least <N>     A history with fewer calls that ended :ok is not called valid
   -h, --help             Print help
 
 It writes the verdict, and what it stands on. Of a register that is not valid, --explain

@@ -16,7 +16,7 @@ fn error_of(name: &str) -> Option<CliError> {
     match name {
         "too long" => Some(CliError::Input(EdnError::TooLong)),
         "amount" => Some(CliError::Element {
-            place: 2,
+            number: 2,
             error: StepTextError::BadAmount,
         }),
         "events" => Some(CliError::from(RunError::World(WorldError::TooManyEvents))),

@@ -1,6 +1,7 @@
 use Rattle.std.proofs.Common.{codes, None, rules}
 use Rattle.clap.specs.Words.{found_of, one_of, rows_of}
-use Rattle.jh_arguments.specs.Commands.{IsGivenWithin, max_candidates}
+use Rattle.jh_arguments.specs.Commands.{IsGivenWithin}
+use Rattle.jh_arguments.specs.Limits.{max_candidates}
 use Rattle.jh_arguments.proofs.OptionLemmas.{number_given}
 use Rattle.jh_arguments.proofs.commands.show_of.Goals as goal
 

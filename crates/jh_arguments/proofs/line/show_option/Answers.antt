@@ -10,8 +10,8 @@ pub returns-clause-rule : goal.returns-clause-rule
 returns-clause-rule c =
     let parser = c.value_parser.result in
     let range = c.new.ensures in
-    let ends : NarrowsTo parser (Some (pos 0)) (Some (pos 9223372036854775807)) c.range-parser.result =
-    subst (λ most. NarrowsTo parser (Some (pos 0)) (Some most) c.range-parser.result) range.end
-    (subst (λ least. NarrowsTo parser (Some least) (Some (range_inclusive_end c.new.result)) c.range-parser.result) range.start c.range-parser.ensures) in
-    let ranged : c.range-parser.result ≡ Unsigned 0 9223372036854775807 = rw c.value_parser.ensures at ends in
+    let ends : NarrowsTo parser (Some (pos 0)) (Some (pos 9223372036854775807)) c.range.result =
+    subst (λ most. NarrowsTo parser (Some (pos 0)) (Some most) c.range.result) range.end
+    (subst (λ least. NarrowsTo parser (Some least) (Some (range_inclusive_end c.new.result)) c.range.result) range.start c.range.ensures) in
+    let ranged : c.range.result ≡ Unsigned 0 9223372036854775807 = rw c.value_parser.ensures at ends in
     c.given_option.ensures.rule ∙ ap (given_rule (codes "show")) ranged

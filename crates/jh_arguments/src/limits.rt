@@ -1,0 +1,17 @@
+//! How great the numbers of options may be, as ranges of `clap` take them. `specs/Limits.antt` has the
+//! same numbers: `line.rt` has `clap` refuse what is beyond them, and `commands.rt` takes what is within.
+
+/// The greatest number of a candidate, and the most candidates: two of them still fit 64 bits.
+pub(crate) const MAX_CANDIDATES: i64 = i64::MAX;
+
+/// The most random faults of a candidate.
+pub(crate) const MAX_FAULTS: i64 = 256;
+
+/// The longest time over which calls are spread: a day.
+pub(crate) const MAX_SPREAD_MS: i64 = 86_400_000;
+
+/// The most threads that judge keys or try candidates.
+pub(crate) const MAX_THREADS: i64 = 16;
+
+/// The most that a judge or `shrink` may do: configurations, or runs.
+pub(crate) const MAX_BUDGET: i64 = 10_000_000;
