@@ -1,0 +1,6 @@
+mod ActiveLemmas
+mod BandLemmas
+mod EditLemmas
+mod HistoryLemmas
+mod MomentLemmas
+mod ReplayLemmas

@@ -1,0 +1,157 @@
+//! Steps of a nemesis, as records of a history have them. `specs/Replay.antt` says what a value
+//! means as a step, and `specs/Bands.antt` which records ask for steps and answer them.
+
+ghost use Rattle.std.specs.Prelude.{◌≡◌, option_and_then, option_map};
+ghost use Rattle.jh_edn.specs.View.{view, views};
+ghost use Rattle.jh_ops.specs.Operation.{operation};
+ghost use Rattle.jh_bands.specs.Bands as rule;
+ghost use Rattle.jh_bands.specs.BandsInside.{view_asked, view_step};
+ghost use Rattle.jh_bands.specs.Replay as replay;
+
+use jh_edn::{Value, value_under};
+use jh_ops::{Kind, Op};
+
+/// A fault under its id.
+#[derive(Clone, Copy)]
+pub(crate) struct Fault<'a> {
+    pub(crate) id: i64,
+    /// Its text.
+    pub(crate) value: &'a Value,
+}
+
+/// A step.
+#[derive(Clone, Copy)]
+pub(crate) enum Step<'a> {
+    /// A fault is begun.
+    Begin(Fault<'a>),
+    /// The active fault of an id is withdrawn.
+    Withdraw(i64),
+    /// All active faults are withdrawn.
+    WithdrawAll,
+    /// The last change is undone.
+    Undo,
+    /// What was undone last is done again.
+    Redo,
+}
+
+/// A step that waits for its answer.
+#[derive(Clone, Copy)]
+pub(crate) struct Asked<'a> {
+    /// The place of its entry.
+    pub(crate) place: i64,
+    pub(crate) step: Step<'a>,
+}
+
+/// The step that is a keyword alone.
+fn step_named<'a>(name: &str) -> Option<Step<'a>>
+    ensures { option_map view_step result ≡ replay.step_named name.now }
+{
+    match name {
+        "withdraw-all" => Some(Step::WithdrawAll),
+        "undo" => Some(Step::Undo),
+        "redo" => Some(Step::Redo),
+        _ => None,
+    }
+}
+
+/// The step that these elements mean.
+fn step_meant(elements: &[Value]) -> Option<Step<'_>>
+    ensures { option_map view_step result ≡ replay.step_meant (views elements.now) }
+{
+    match elements {
+        [Value::Keyword(name)] => step_named(name.as_str()),
+        [Value::Keyword(name), Value::Int(id)] if name.as_str() == "withdraw" => {
+            Some(Step::Withdraw(*id))
+        }
+        [Value::Keyword(name), Value::Int(id), value] if name.as_str() == "begin" => {
+            Some(Step::Begin(Fault { id: *id, value }))
+        }
+        _ => None,
+    }
+}
+
+/// The step that a value means, if it means one.
+fn step_in(value: &Value) -> Option<Step<'_>>
+    ensures { option_map view_step result ≡ replay.step_in (view value.now) }
+{
+    step_meant(value.elements()?)
+}
+
+/// The entry of a schedule at a place.
+fn scheduled_at(steps: &[Value], place: i64) -> Option<&Value>
+    ensures { option_map (λ entry. view entry.now) result ≡ rule.scheduled_at (views steps.now) place }
+{
+    steps.get(usize::try_from(place).ok()?)
+}
+
+/// The text of the step that a record at a place asks for, if it is known.
+fn known_step_text<'a>(steps: &'a [Value], place: i64, op: &'a Op) -> Option<&'a Value>
+    ensures { option_map (λ text. view text.now) result
+        ≡ rule.known_step_text (views steps.now) place op.now.rest }
+{
+    match value_under("step", op.rest.as_slice()) {
+        Some(text) => Some(text),
+        None => scheduled_at(steps, place),
+    }
+}
+
+/// Whether a record asks for a step or answers one.
+fn is_of_step(op: &Op) -> bool
+    ensures { result ≡ rule.is_of_step (operation op.now) }
+{
+    !op.process.is_client() && (Kind::Info.is(op.kind) && op.f.is_keyword("step"))
+}
+
+/// The step that a record at a place asks for, where it is known.
+fn asked_at<'a>(steps: &'a [Value], op: &'a Op, place: i64) -> Option<Asked<'a>>
+    ensures { option_map view_asked result
+        ≡ rule.asked_at (views steps.now) op.now.rest place }
+{
+    let step = step_in(known_step_text(steps, place, op)?)?;
+    Some(Asked { place, step })
+}
+
+/// The step that a record asks for, if it asks for one that is known: under its key `:step`, or else
+/// the one of the schedule at its place.
+pub(crate) fn asked_in<'a>(steps: &'a [Value], op: &'a Op) -> Option<Asked<'a>>
+    ensures { option_map view_asked result
+        ≡ rule.asked_in (views steps.now) (operation op.now) }
+{
+    if is_of_step(op) {
+        asked_at(steps, op, op.value.as_integer()?)
+    } else {
+        None
+    }
+}
+
+/// Whether elements are a place and the code of a step that was done.
+fn are_done(place: i64, elements: &[Value]) -> bool
+    ensures { result ≡ rule.are_done place (views elements.now) }
+{
+    match elements {
+        [Value::Int(answered), Value::Int(code)] => *answered == place && *code == 0,
+        _ => false,
+    }
+}
+
+/// Whether a record says that the step at a place was done.
+fn says_done(place: i64, op: &Op) -> bool
+    ensures { result ≡ rule.says_done place (operation op.now) }
+{
+    is_of_step(op)
+        && match op.value.elements() {
+            Some(elements) => are_done(place, elements),
+            None => false,
+        }
+}
+
+/// The step that waited for its answer, where a record says that it was done.
+pub(crate) fn done_step<'a>(asked: Option<Asked<'a>>, op: &Op) -> Option<Step<'a>>
+    ensures { option_map view_step result
+        ≡ rule.done_step (option_map view_asked asked.entry) (operation op.now) }
+{
+    match asked {
+        Some(asked) if says_done(asked.place, op) => Some(asked.step),
+        _ => None,
+    }
+}
