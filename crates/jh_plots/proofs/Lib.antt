@@ -1,0 +1,13 @@
+mod PixelLemmas
+mod FindLemmas
+mod PositionLemmas
+mod AxisLemmas
+mod PointLemmas
+mod CountLemmas
+mod PercentileLemmas
+mod TimeLemmas
+mod CallLemmas
+mod PanelLemmas
+mod ScaleLemmas
+mod PlotLemmas
+mod WholeLemmas
