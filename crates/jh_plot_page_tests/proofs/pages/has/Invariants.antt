@@ -1,0 +1,8 @@
+use denote.Text.{Utf8}
+use denote.Shadow.{shadow}
+use Rattle.jh_plot_page_tests.proofs.pages.has.Given as goal
+
+abbrev pub invariant-loop-line : goal.invariant-loop-line
+invariant-loop-line l =
+    (goal.iterator-loop-line).can_next l.line-iterator × (goal.iterator-loop-line).is_finite l.line-iterator
+    × shadow (Utf8 l.rest)

@@ -1,0 +1,20 @@
+-- Texts of lists of which one element more is written.
+use Rattle.std.proofs.Common.{◌≡◌, ◌∙◌, ℕ, ◌+◌, ◌<◌, List, [], ◌∷◌, ◌++◌, length, take, get_or, ap, sym, append-nil}
+use Rattle.std.proofs.lemmas.List.{take_more}
+use Rattle.std.proofs.lemmas.List.Concat.{flat_map-append}
+use Rattle.std.specs.List.{flat_map}
+
+-- the text of the element at an index; the last argument but one would stand where there is none
+pub flat_map_at : {X : Type 0} (f : X → List ℕ) (xs : List X) (i : ℕ) (x : X) → i < length xs
+    → flat_map f (take i xs) ++ f (get_or xs i x) ≡ flat_map f (take (i + 1) xs)
+flat_map_at f xs i x below =
+    let before = flat_map f (take i xs) in
+    sym (ap (flat_map f) (take_more xs i x below) ∙ flat_map-append f (take i xs) (get_or xs i x ∷ [])
+    ∙ ap (λ w. before ++ w) (append-nil (f (get_or xs i x))))
+
+-- the text of an element that is the one at an index
+pub flat_map_next : {X : Type 0} (f : X → List ℕ) (xs : List X) (i : ℕ) (x : X) → i < length xs → x ≡ get_or xs i x
+    → flat_map f (take i xs) ++ f x ≡ flat_map f (take (i + 1) xs)
+flat_map_next f xs i x below same =
+    let before = flat_map f (take i xs) in
+    ap (λ one. before ++ f one) same ∙ flat_map_at f xs i x below
