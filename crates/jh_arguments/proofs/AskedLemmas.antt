@@ -33,7 +33,7 @@ use Rattle.jh_checkers.specs.declared.checker.Checker.TheVariants.{Register, Set
 use Rattle.jh_checkers.specs.declared.finding.Judging.{Judging}
 use Rattle.jh_cli.specs.declared.search_command.Show.{Show}
 use Rattle.jh_arguments.specs.declared.commands.Command.{Command}
-use Rattle.jh_arguments.specs.declared.commands.Command.TheVariants.{Env, Check, Run, Shrink, Search, Timeline}
+use Rattle.jh_arguments.specs.declared.commands.Command.TheVariants.{Env, Check, Run, Shrink, Search, Timeline, Plot}
 
 -- ---- rules
 
@@ -116,6 +116,9 @@ module _ (names models : Bor (List (Bor Text))) (all : map (λ s. s.now) names.n
 
   run_asks : Leads AsksForAny (leaf (new_app (codes "run")))
   run_asks name rest named other fault = inl (Run, refl)
+
+  plot_asks : Leads AsksForAny (leaf (new_app (codes "plot")))
+  plot_asks name rest named other fault = inl (Plot, refl)
 
   help_asks : Leads AsksForAny (built_leaf help_shape)
   help_asks name rest named other fault =
@@ -320,7 +323,7 @@ module _ (names models : Bor (List (Bor Text))) (all : map (λ s. s.now) names.n
   line_asks : (words : List Text) → fault_of (jeprun names models) words ≡ [] → AsksForAny (subcommand_of (jeprun names models) words)
   line_asks words fault =
       entered_leads AsksForAny (built (jeprun names models)) (argument_words (jeprun names models) words)
-      (env_asks, (check_asks, (run_asks, (shrink_asks, (search_asks, (timeline_asks, (drive_asks, (help_asks, tt)))))))) refl refl fault
+      (env_asks, (check_asks, (run_asks, (shrink_asks, (search_asks, (timeline_asks, (drive_asks, (plot_asks, (help_asks, tt))))))))) refl refl fault
 
   line_once : (words : List Text) → fault_of (jeprun names models) words ≡ [] → Once (subcommand_of (jeprun names models) words)
   line_once words fault =
@@ -332,7 +335,7 @@ module _ (names models : Bor (List (Bor Text))) (all : map (λ s. s.now) names.n
             once_of (new_app (codes "run")) refl refl,
             (
               once_of shrink refl refl,
-              (once_of search refl refl, (timeline_once, (once_of drive refl refl, (help_once, tt)))),
+              (once_of search refl refl, (timeline_once, (once_of drive refl refl, (once_of (new_app (codes "plot")) refl refl, (help_once, tt))))),
             ),
           ),
         ),

@@ -17,7 +17,7 @@ use Rattle.jh_cli.specs.declared.search_command.SearchQuestion.{SearchQuestion}
 use Rattle.jh_cli.specs.declared.search_command.Show.{Show}
 use Rattle.jh_cli.specs.declared.timeline_command.TimelineQuestion.{TimelineQuestion}
 use Rattle.jh_arguments.specs.declared.commands.Command.{Command}
-use Rattle.jh_arguments.specs.declared.commands.Command.TheVariants.{Env, Check, Run, Shrink, Search, Timeline}
+use Rattle.jh_arguments.specs.declared.commands.Command.TheVariants.{Env, Check, Run, Shrink, Search, Timeline, Plot}
 
 -- ---- one text means one value
 
@@ -136,6 +136,7 @@ command_name Run = codes "run"
 command_name (Shrink budget) = codes "shrink"
 command_name (Search question) = codes "search"
 command_name (Timeline question) = codes "timeline"
+command_name Plot = codes "plot"
 
 -- a number for each name
 abbrev mark_of : Text → ℕ
@@ -149,6 +150,7 @@ named found Run asks = asks
 named found (Shrink budget) asks = asks.0
 named found (Search question) asks = asks.0
 named found (Timeline question) asks = asks.0
+named found Plot asks = asks
 
 -- none is called drive
 pub no_drive : (c : Command) → command_name c ≡ codes "drive" → ⊥
@@ -161,6 +163,7 @@ no_drive c e = go c (ap mark_of e)
     go (Shrink budget) e = omega (arith, e)
     go (Search question) e = omega (arith, e)
     go (Timeline question) e = omega (arith, e)
+    go Plot e = omega (arith, e)
 
 abbrev pub Once : Option (Text × List Row) → Type 0
 Once found = (c d : Command) → AsksFor found c → AsksFor found d → c ≡ d
@@ -176,6 +179,7 @@ asked_once found flags flag c d asks also = go c d asks also (ap mark_of (sym (n
     go (Check m) (Check n) a b e = ap Check (check_once found.1 (flags a.0).0 (flags a.0).1 m n a.1 b.1)
     go (Search m) (Search n) a b e = ap Search (search_once found.1 m n a.1 b.1)
     go (Timeline m) (Timeline n) a b e = ap Timeline (timeline_once found.1 (flag a.0) m n a.1 b.1)
+    go Plot Plot a b e = refl
     go _ _ a b e = absurd (omega (arith, e))
 
 -- ---- and so do arguments

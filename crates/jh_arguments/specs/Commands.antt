@@ -12,12 +12,14 @@ use Rattle.jh_cli.specs.RunText.{IsRunTextOf}
 use Rattle.jh_cli.specs.ShrinkText.{IsShrinkTextOf}
 use Rattle.jh_cli.specs.SearchText.{IsSearchTextOf}
 use Rattle.jh_cli.specs.TimelineText.{IsTimelineTextOf}
+use Rattle.jh_cli.specs.PlotText.{IsPlotTextOf}
 use Rattle.jh_cli.specs.EnvRefusals.{RefusesEnv}
 use Rattle.jh_cli.specs.CheckRefusals.{RefusesCheck}
 use Rattle.jh_cli.specs.RunRefusals.{RefusesRun}
 use Rattle.jh_cli.specs.ShrinkRefusals.{RefusesShrinking}
 use Rattle.jh_cli.specs.SearchRefusals.{RefusesSearch}
 use Rattle.jh_cli.specs.TimelineRefusals.{RefusesTimeline}
+use Rattle.jh_cli.specs.PlotRefusals.{RefusesPlot}
 use Rattle.jh_cli.specs.declared.error.CliError.{CliError}
 use Rattle.jh_cli.specs.declared.check_command.CheckQuestion.{CheckQuestion}
 use Rattle.jh_cli.specs.declared.search_command.SearchQuestion.{SearchQuestion}
@@ -25,7 +27,7 @@ use Rattle.jh_cli.specs.declared.search_command.Show.{Show}
 use Rattle.jh_cli.specs.declared.timeline_command.TimelineQuestion.{TimelineQuestion}
 use Rattle.jh_arguments.specs.declared.commands.Command.{Command}
 use Rattle.jh_arguments.specs.declared.commands.Command.TheVariants.{Env, Check, Run, Shrink}
-use Rattle.jh_arguments.specs.declared.commands.Command.TheVariants.{Search, Timeline}
+use Rattle.jh_arguments.specs.declared.commands.Command.TheVariants.{Search, Timeline, Plot}
 use Rattle.jh_checkers.specs.Models.{model_named}
 use Rattle.jh_arguments.specs.Limits.{max_candidates, max_faults, max_spread_ms, max_threads}
 use Rattle.jh_arguments.specs.Palettes.{palette_named}
@@ -153,6 +155,7 @@ AsksFor (Some found) (Search question) =
     (found.0 ≡ codes "search") × AsksSearch found.1 question
 AsksFor (Some found) (Timeline question) =
     (found.0 ≡ codes "timeline") × AsksTimeline found.1 question
+AsksFor (Some found) Plot = found.0 ≡ codes "plot"
 
 -- A subcommand with its options asks for a command, or for a test.
 abbrev pub AsksForAny : Option (Text × List Row) → Type 0
@@ -177,6 +180,7 @@ IsOutputOf Run input status output = IsRunTextOf input status output
 IsOutputOf (Shrink runs) input status output = IsShrinkTextOf runs input status output
 IsOutputOf (Search question) input status output = IsSearchTextOf question input status output
 IsOutputOf (Timeline question) input status output = IsTimelineTextOf question input status output
+IsOutputOf Plot input status output = IsPlotTextOf input status output
 
 -- why it refuses an input, or does not do its work
 abbrev pub RefusesCommand : Command → List ℕ → CliError → Type 0
@@ -186,3 +190,4 @@ RefusesCommand Run input e = RefusesRun input e
 RefusesCommand (Shrink runs) input e = RefusesShrinking runs input e
 RefusesCommand (Search question) input e = RefusesSearch question input e
 RefusesCommand (Timeline question) input e = RefusesTimeline question input e
+RefusesCommand Plot input e = RefusesPlot input e

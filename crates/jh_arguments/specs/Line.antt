@@ -119,13 +119,13 @@ abbrev pub drive : App
 drive = with_rule (new_app (codes "drive")) settings_file
 
 abbrev pub jeprun : Bor (List (Bor Text)) → Bor (List (Bor Text)) → App
-jeprun names models = with_subcommand (with_subcommand (with_subcommand
+jeprun names models = with_subcommand (with_subcommand (with_subcommand (with_subcommand
     (with_subcommand (with_subcommand (with_subcommand (with_subcommand
     (on_top (λ s.
     record s { has_version = true; subcommand_required = true; arg_required_else_help = true })
     (new_app (codes "jeprun")))
     (new_app (codes "env")).top) (check names models).top) (new_app (codes "run")).top) shrink.top)
-    search.top) (timeline names models).top) drive.top
+    search.top) (timeline names models).top) drive.top) (new_app (codes "plot")).top
 
 -- the command line, with the names of the workloads that there are checkers for, and those of the
 -- consistency models

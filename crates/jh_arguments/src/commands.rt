@@ -29,8 +29,8 @@ use crate::palettes::palette_named;
 use clap::ArgMatches;
 use jh_checkers::{Checker, Judging, model_named};
 use jh_cli::{
-    CliError, CheckQuestion, SearchQuestion, Show, TimelineQuestion, check_run, env_run, run_run,
-    search_run, shrink_run_observed, timeline_run,
+    CheckQuestion, CliError, SearchQuestion, Show, TimelineQuestion, check_run, env_run, plot_run,
+    run_run, search_run, shrink_run_observed, timeline_run,
 };
 use jh_search::{Palette, SearchObserver};
 use jh_shrink::Observer;
@@ -56,6 +56,8 @@ pub enum Command {
     Search(SearchQuestion),
     /// A page that shows a history.
     Timeline(TimelineQuestion),
+    /// A page that shows the latencies and rates of a history.
+    Plot,
 }
 
 /// The command that the arguments ask for. `parse` has seen to it that there is one.
@@ -72,6 +74,7 @@ pub fn command_of(matches: &ArgMatches<'_>) -> Option<Command>
         ("shrink", options) => Some(Command::Shrink(number_of(options, "budget")?)),
         ("search", options) => Some(Command::Search(search_question_of(options)?)),
         ("timeline", options) => Some(Command::Timeline(timeline_question_of(options)?)),
+        ("plot", _) => Some(Command::Plot),
         _ => None,
     }
 }
@@ -287,7 +290,7 @@ fn palette_of(options: &ArgMatches<'_>) -> Option<Palette>
 
 /// Does what a command does, and gives its exit status:
 ///
-/// | status | `check`, `run`, `timeline` | `shrink` | `search` | `env` |
+/// | status | `check`, `run`, `timeline` | `shrink` | `search` | `env`, `plot` |
 /// |---|---|---|---|---|
 /// | 0 | the history is valid, or is not judged | the run does not fail | no run found that fails | done |
 /// | 1 | the history is not valid | the schedule is minimal | a run found that fails | |
@@ -344,5 +347,6 @@ pub fn run<T: Threads + Wait + Sync, R: Read, W: Write, O: Observer + SearchObse
         Command::Shrink(budget) => shrink_run_observed(alloc, reader, writer, budget, observer),
         Command::Search(question) => search_run(rt, alloc, reader, writer, question, observer),
         Command::Timeline(question) => timeline_run(alloc, reader, writer, question),
+        Command::Plot => plot_run(alloc, reader, writer),
     }
 }

@@ -101,3 +101,16 @@ the replies ended early, memory ran out, or a read or a write failed
 Examples:
   jeprun drive examples/drive/register.toml < examples/drive/register.edn
   jeprun drive examples/drive/set.toml < examples/drive/set.edn";
+
+pub(crate) const PLOT: &str = "\
+It writes an HTML page: for each function the latency of each call over time, percentiles of the
+latencies, and how many calls a second ended in each way; and when which fault was active. Each
+record needs its :time, in nanoseconds, as Jepsen and drive write it. It reads what drive prints
+as well.
+
+Exit status: 0 done, 3 refused arguments or input, 4 where memory ran out, or a read or a
+write failed
+
+Examples:
+  jeprun plot < examples/real/etcd-serializable/history.edn > etcd.html
+  jeprun plot < examples/real/redis-set/history.edn > redis.html";

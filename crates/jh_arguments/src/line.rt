@@ -62,6 +62,11 @@ fn command_line<'a>(alloc: Global) -> Result<Command<'a>, Error>
             "Runs a simulated cluster by settings, read from standard input as TOML, and judges its history",
         )
         .after_help(help::RUN);
+    let plot = Command::new(alloc, "plot")
+        .about(
+            "Writes a page that plots latencies and rates of a history, which is read from standard input as EDN",
+        )
+        .after_help(help::PLOT);
     let jeprun = Command::new(alloc, "jeprun")
         .about("A test harness for databases, over a simulated cluster under faults")
         .after_help(help::JEPRUN)
@@ -74,7 +79,8 @@ fn command_line<'a>(alloc: Global) -> Result<Command<'a>, Error>
         .subcommand(shrink_command(alloc)?)?
         .subcommand(search_command(alloc)?)?
         .subcommand(timeline_command(alloc, names, models)?)?
-        .subcommand(drive_command(alloc)?)?;
+        .subcommand(drive_command(alloc)?)?
+        .subcommand(plot)?;
     Ok(jeprun)
 }
 

@@ -184,7 +184,7 @@ impl<P: Eprint, W: Write> Write for BehindProgress<'_, P, W> {
 fn input_of(command: Command) -> &'static str {
     match command {
         Command::Env => "an environment and steps",
-        Command::Check(_) | Command::Timeline(_) => "a history",
+        Command::Check(_) | Command::Timeline(_) | Command::Plot => "a history",
         Command::Run | Command::Shrink(_) | Command::Search(_) => "settings",
     }
 }

@@ -6,4 +6,5 @@ pub mod RunLemmas
 pub mod ShrinkLemmas
 pub mod TimelineLemmas
 pub mod SearchLemmas
+pub mod PlotLemmas
 pub mod PlacedLemmas

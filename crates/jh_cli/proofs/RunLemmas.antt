@@ -19,7 +19,7 @@ use Rattle.jh_cli.specs.RunInside.{own_error}
 use Rattle.jh_cli.specs.RunRefusals.{RefusesRunBytes, RefusesOwn, RefusesRun, RefusesSerial, RefusesRunIn, RefusesThreads}
 use Rattle.jh_cli.specs.Status.{run_error, settings_error, threads_error, world_error}
 use Rattle.jh_cli.specs.declared.error.CliError.{CliError}
-use Rattle.jh_cli.specs.declared.error.CliError.TheVariants.{Input, EnvironmentMissing, Environment, Element, History, Check, Settings, Run, HistoryFull, Mismatch, Thread, OnlyForRegister, OnlyForListAppend, BadPalette, Unwritable, Read, Write, OutOfMemory}
+use Rattle.jh_cli.specs.declared.error.CliError.TheVariants.{TimeMissing, Input, EnvironmentMissing, Environment, Element, History, Check, Settings, Run, HistoryFull, Mismatch, Thread, OnlyForRegister, OnlyForListAppend, BadPalette, Unwritable, Read, Write, OutOfMemory}
 
 -- bytes that mean no settings
 pub settings_refused : (input : List ℕ) (error : SettingsError.the_data) → settings.RefusesSettings input error → RefusesRunBytes input (settings_error error)
@@ -48,6 +48,7 @@ run_refused input p mode budget OnlyForRegister parsed h = (p, mode, budget, par
 run_refused input p mode budget OnlyForListAppend parsed h = (p, mode, budget, parsed, h)
 run_refused input p mode budget BadPalette parsed h = (p, mode, budget, parsed, h)
 run_refused input p mode budget Unwritable parsed h = (p, mode, budget, parsed, h)
+run_refused input p mode budget (TimeMissing index) parsed h = (p, mode, budget, parsed, h)
 run_refused input p mode budget Read parsed h = (p, mode, budget, parsed, h)
 run_refused input p mode budget Write parsed h = (p, mode, budget, parsed, h)
 run_refused input p mode budget OutOfMemory parsed h = tt
@@ -78,6 +79,7 @@ bytes_refused input OnlyForRegister h = h
 bytes_refused input OnlyForListAppend h = h
 bytes_refused input BadPalette h = h
 bytes_refused input Unwritable h = h
+bytes_refused input (TimeMissing index) h = h
 bytes_refused input Read h = tt
 bytes_refused input Write h = absurd (no_write h.0 h.1 h.4)
 bytes_refused input OutOfMemory h = tt
@@ -119,6 +121,7 @@ threads_refused checker history OnlyForRegister h = absurd h
 threads_refused checker history OnlyForListAppend h = absurd h
 threads_refused checker history BadPalette h = absurd h
 threads_refused checker history Unwritable h = absurd h
+threads_refused checker history (TimeMissing index) h = absurd h
 threads_refused checker history Read h = absurd h
 threads_refused checker history Write h = absurd h
 

@@ -20,7 +20,7 @@ use Rattle.jh_cli.specs.SearchRefusals.{RefusesSearch, RefusesSearchBytes, Wants
 use Rattle.jh_cli.specs.SearchText.{IsFoundText, candidate_comment}
 use Rattle.jh_cli.specs.Status.{search_error}
 use Rattle.jh_cli.specs.declared.error.CliError.{CliError}
-use Rattle.jh_cli.specs.declared.error.CliError.TheVariants.{Input, EnvironmentMissing, Environment}
+use Rattle.jh_cli.specs.declared.error.CliError.TheVariants.{TimeMissing, Input, EnvironmentMissing, Environment}
 use Rattle.jh_cli.specs.declared.error.CliError.TheVariants.{Element, History, Check, Settings, Run}
 use Rattle.jh_cli.specs.declared.error.CliError.TheVariants.{HistoryFull, Mismatch, Thread}
 use Rattle.jh_cli.specs.declared.error.CliError.TheVariants.{OnlyForRegister, OnlyForListAppend}
@@ -79,6 +79,7 @@ refused_by_bytes question input OnlyForRegister h = h
 refused_by_bytes question input OnlyForListAppend h = h
 refused_by_bytes question input BadPalette h = absurd h
 refused_by_bytes question input Unwritable h = h
+refused_by_bytes question input (TimeMissing index) h = h
 refused_by_bytes question input Read h = absurd h
 refused_by_bytes question input Write h = absurd h
 refused_by_bytes question input OutOfMemory h = h

@@ -16,7 +16,7 @@ use Rattle.jh_cli.proofs.CheckLemmas.{IsJudging, by_checker, by_keys, nothing_wr
 use Rattle.jh_cli.specs.Status.{keys_error, reading_error}
 use Rattle.jh_cli.specs.TimelineRefusals.{RefusesFinding, RefusesPage, RefusesShowing, RefusesTimeline}
 use Rattle.jh_cli.specs.declared.error.CliError.{CliError}
-use Rattle.jh_cli.specs.declared.error.CliError.TheVariants.{Input, EnvironmentMissing, Environment, Element, History, Check, Settings, Run, HistoryFull, Mismatch, Thread, OnlyForRegister, OnlyForListAppend, BadPalette, Unwritable, Read, Write, OutOfMemory}
+use Rattle.jh_cli.specs.declared.error.CliError.TheVariants.{TimeMissing, Input, EnvironmentMissing, Environment, Element, History, Check, Settings, Run, HistoryFull, Mismatch, Thread, OnlyForRegister, OnlyForListAppend, BadPalette, Unwritable, Read, Write, OutOfMemory}
 use Rattle.jh_cli.specs.declared.timeline_command.TimelineQuestion.{TimelineQuestion}
 
 -- ---- no parts are read
@@ -63,6 +63,7 @@ page_refused question input history below OnlyForRegister parts refused = absurd
 page_refused question input history below OnlyForListAppend parts refused = absurd (by_finding question.independent question.judging history OnlyForListAppend refused)
 page_refused question input history below BadPalette parts refused = absurd (by_finding question.independent question.judging history BadPalette refused)
 page_refused question input history below Unwritable parts refused = absurd (by_finding question.independent question.judging history Unwritable refused)
+page_refused question input history below (TimeMissing index) parts refused = absurd (by_finding question.independent question.judging history (TimeMissing index) refused)
 page_refused question input history below Read parts refused = tt
 page_refused question input history below Write parts refused = absurd (by_finding question.independent question.judging history Write refused)
 page_refused question input history below OutOfMemory parts refused = tt

@@ -13,5 +13,7 @@ pub mod ShrinkRefusals
 pub mod SearchText
 pub mod SearchRefusals
 pub mod Notices
+pub mod PlotText
+pub mod PlotRefusals
 pub mod TimelineText
 pub mod TimelineRefusals

@@ -1,6 +1,7 @@
 -- How a command ends early (this project's own): refusals of the arguments and of the input have
 -- status 3, errors of the machine and runs that were not completed 4.
-use Rattle.std.specs.Prelude.{◌≡◌, ℕ, List, Option, Some, None, codes}
+use Rattle.std.specs.Prelude.{◌≡◌, ◌++◌, ℕ, List, Option, Some, None, codes}
+use Rattle.std.specs.Fmt.{decimal}
 use Rattle.jh_edn.specs.declared.error.EdnError.TheVariants as EdnError
 use Rattle.jh_env.specs.declared.texts.EnvTextError.TheVariants as EnvTextError
 use Rattle.jh_ops.specs.declared.history.HistoryError.TheVariants as HistoryError
@@ -13,13 +14,14 @@ use Rattle.jh_simnode.specs.declared.events.WorldError.TheVariants as WorldError
 use Rattle.jh_simnode.specs.declared.serial.RunError.TheVariants as RunError
 use Rattle.jh_workers.specs.declared.monitor.RunError.TheVariants as ThreadsError
 use Rattle.jh_search.specs.declared.threads.SearchError.TheVariants as SearchError
+use Rattle.jh_plots.specs.declared.error.PlotError.TheVariants as PlotError
 use Rattle.jh_cli.specs.declared.error.CliError.{CliError}
 use Rattle.jh_cli.specs.declared.error.CliError.TheVariants.{Input, EnvironmentMissing, Environment}
 use Rattle.jh_cli.specs.declared.error.CliError.TheVariants.{Element, History, Check, Settings, Run}
 use Rattle.jh_cli.specs.declared.error.CliError.TheVariants.{HistoryFull, Mismatch, Thread}
 use Rattle.jh_cli.specs.declared.error.CliError.TheVariants.{OnlyForRegister, OnlyForListAppend}
 use Rattle.jh_cli.specs.declared.error.CliError.TheVariants.{BadPalette}
-use Rattle.jh_cli.specs.declared.error.CliError.TheVariants.{Unwritable, Read, Write}
+use Rattle.jh_cli.specs.declared.error.CliError.TheVariants.{Unwritable, TimeMissing, Read, Write}
 use Rattle.jh_cli.specs.declared.error.CliError.TheVariants.{OutOfMemory}
 
 abbrev pub error_status : CliError → ℕ
@@ -38,6 +40,7 @@ error_status OnlyForRegister = 3
 error_status OnlyForListAppend = 3
 error_status BadPalette = 3
 error_status Unwritable = 3
+error_status (TimeMissing index) = 3
 error_status Read = 4
 error_status Write = 4
 error_status OutOfMemory = 4
@@ -54,6 +57,8 @@ own_text OnlyForListAppend = Some (codes "--model: only for list-append")
 own_text BadPalette =
     Some (codes "--palette: not kinds of cut, slow, loss, fix, pause, kill, bump, with commas between")
 own_text Unwritable = Some (codes "settings: generator too deep to be written again")
+own_text (TimeMissing index) =
+    Some (codes "operation " ++ (decimal index ++ codes ": time missing"))
 own_text Read = Some (codes "read failed")
 own_text Write = Some (codes "write failed")
 own_text OutOfMemory = Some (codes "out of memory")
@@ -139,6 +144,12 @@ threads_error (ThreadsError.World error) = world_error error
 threads_error ThreadsError.Mismatch = Mismatch
 threads_error ThreadsError.Thread = Thread
 threads_error ThreadsError.OutOfMemory = OutOfMemory
+
+-- what it means to a command that a history has no plot
+abbrev pub plot_error : PlotError.the_data → CliError
+plot_error (PlotError.TimeMissing index) = TimeMissing index
+plot_error (PlotError.Pair error) = Check (CheckError.Pair error)
+plot_error PlotError.OutOfMemory = OutOfMemory
 
 -- what the end of a search without an answer means to a command
 abbrev pub search_error : SearchError.the_data → CliError

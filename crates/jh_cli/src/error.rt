@@ -12,6 +12,7 @@ use jh_env::EnvTextError;
 use jh_histories::ReadHistoryError;
 use jh_independent::KeysError;
 use jh_ops::HistoryError;
+use jh_plots::PlotError;
 use jh_search::SearchError;
 use jh_settings::SettingsError;
 use jh_simnode::{RunError, WorldError};
@@ -57,6 +58,8 @@ pub enum CliError {
     BadPalette,
     /// Settings can't say the plan of a search again.
     Unwritable,
+    /// The operation at this index has no time, and a plot needs one of each. Indexes count from 0.
+    TimeMissing { index: usize },
     /// The input could not be read.
     Read,
     /// The output could not be written.
@@ -81,7 +84,8 @@ impl CliError {
             | CliError::OnlyForRegister
             | CliError::OnlyForListAppend
             | CliError::BadPalette
-            | CliError::Unwritable => REFUSED,
+            | CliError::Unwritable
+            | CliError::TimeMissing { .. } => REFUSED,
             CliError::Run(_)
             | CliError::HistoryFull
             | CliError::Mismatch
@@ -123,6 +127,7 @@ impl Display for CliError {
                 "--palette: not kinds of cut, slow, loss, fix, pause, kill, bump, with commas between",
             ),
             CliError::Unwritable => f.write_str("settings: generator too deep to be written again"),
+            CliError::TimeMissing { index } => write!(f, "operation {index}: time missing"),
             CliError::Read => f.write_str("read failed"),
             CliError::Write => f.write_str("write failed"),
             CliError::OutOfMemory => f.write_str("out of memory"),
@@ -266,6 +271,20 @@ impl From<SearchError> for CliError {
         match error {
             SearchError::Thread => CliError::Thread,
             SearchError::OutOfMemory => CliError::OutOfMemory,
+        }
+    }
+}
+
+impl From<PlotError> for CliError {
+    ghost use Rattle.jh_cli.specs.Status.{plot_error};
+
+    ghost from_gives = { λ error e. e ≡ plot_error error };
+
+    fn from(error: PlotError) -> CliError {
+        match error {
+            PlotError::TimeMissing { index } => CliError::TimeMissing { index },
+            PlotError::Pair(error) => CliError::Check(CheckError::Pair(error)),
+            PlotError::OutOfMemory => CliError::OutOfMemory,
         }
     }
 }

@@ -1,7 +1,7 @@
 //! All that the program `jeprun` does, over any reader and any writer: one function for each
 //! command. `specs/EnvText.antt`, `specs/CheckText.antt`, `specs/RunText.antt`,
-//! `specs/ShrinkText.antt`, `specs/SearchText.antt` and `specs/TimelineText.antt` say what is
-//! written, each `..Refusals.antt` why an input is refused. `output.rt` is the frame that all share.
+//! `specs/ShrinkText.antt`, `specs/SearchText.antt`, `specs/TimelineText.antt` and `specs/PlotText.antt`
+//! say what is written, each `..Refusals.antt` why an input is refused. `output.rt` is the frame that all share.
 #![tactic(auto)]
 
 mod check_command;
@@ -10,6 +10,7 @@ mod env_command;
 mod error;
 mod notice;
 mod output;
+mod plot_command;
 mod run_command;
 mod search_command;
 mod shrink_command;
@@ -19,6 +20,7 @@ pub use check_command::{CheckQuestion, check_run};
 pub use env_command::env_run;
 pub use error::CliError;
 pub use output::{DONE, FAILED, INVALID, REFUSED, UNKNOWN};
+pub use plot_command::plot_run;
 pub use run_command::run_run;
 pub use search_command::{SearchQuestion, Show, search_run};
 pub use shrink_command::{shrink_run, shrink_run_observed};

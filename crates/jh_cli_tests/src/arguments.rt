@@ -41,6 +41,7 @@ fn asks_for_commands(rt: HostRuntime) {
 § jeprun check --workload list-append --model strict-serializable → Check(CheckQuestion { judging: Judging { checker: ListAppend, initial: None, budget: 100000, explain: false, model: Some(StrictSerializable) }, independent: false, threads: 1, at_least: None })
 § jeprun check --workload set --budget 10000000 → Check(CheckQuestion { judging: Judging { checker: Set, initial: None, budget: 10000000, explain: false, model: None }, independent: false, threads: 1, at_least: None })
 § jeprun check --workload set --at-least 18446744073709551615 → Check(CheckQuestion { judging: Judging { checker: Set, initial: None, budget: 100000, explain: false, model: None }, independent: false, threads: 1, at_least: Some(18446744073709551615) })
+§ jeprun plot → Plot
 § jeprun shrink → Shrink(10000)
 § jeprun shrink --budget 10000000 → Shrink(10000000)
 § jeprun search → Search(SearchQuestion { from: 0, runs: 10000, faults: 8, palette: Some(Palette { cut: true, slow: true, loss: true, fix: true, pause: true, kill: true, bump: true }), threads: None, show: None })
@@ -82,6 +83,7 @@ Commands:
   search    Tries random schedules for a run that fails, whose settings are read from standard input as TOML
   timeline  Writes a page that shows a history, which is read from standard input as EDN
   drive     Conducts a test of a real database, whose settings are read from a file as TOML, by lines
+  plot      Writes a page that plots latencies and rates of a history, which is read from standard input as EDN
   help      Print this message or the help of the given subcommand(s)
 
 Options:
@@ -210,6 +212,7 @@ Commands:
   search    Tries random schedules for a run that fails, whose settings are read from standard input as TOML
   timeline  Writes a page that shows a history, which is read from standard input as EDN
   drive     Conducts a test of a real database, whose settings are read from a file as TOML, by lines
+  plot      Writes a page that plots latencies and rates of a history, which is read from standard input as EDN
   help      Print this message or the help of the given subcommand(s)
 
 Options:
@@ -248,6 +251,25 @@ Exit status: 0 valid or not judged, 1 not valid, 2 unknown, 3 refused arguments 
 Examples:
   jeprun timeline --workload register < examples/check/register-stale.edn > stale.html
   jeprun run < examples/run/quorum-register.toml | jeprun timeline --workload register --initial 0 > run.html
+§ jeprun plot --help → 0
+Writes a page that plots latencies and rates of a history, which is read from standard input as EDN
+
+Usage: jeprun plot
+
+Options:
+  -h, --help  Print help
+
+It writes an HTML page: for each function the latency of each call over time, percentiles of the
+latencies, and how many calls a second ended in each way; and when which fault was active. Each
+record needs its :time, in nanoseconds, as Jepsen and drive write it. It reads what drive prints
+as well.
+
+Exit status: 0 done, 3 refused arguments or input, 4 where memory ran out, or a read or a
+write failed
+
+Examples:
+  jeprun plot < examples/real/etcd-serializable/history.edn > etcd.html
+  jeprun plot < examples/real/redis-set/history.edn > redis.html
 § jeprun run --help → 0
 Runs a simulated cluster by settings, read from standard input as TOML, and judges its history
 
@@ -354,6 +376,7 @@ Commands:
   search    Tries random schedules for a run that fails, whose settings are read from standard input as TOML
   timeline  Writes a page that shows a history, which is read from standard input as EDN
   drive     Conducts a test of a real database, whose settings are read from a file as TOML, by lines
+  plot      Writes a page that plots latencies and rates of a history, which is read from standard input as EDN
   help      Print this message or the help of the given subcommand(s)
 
 Options:

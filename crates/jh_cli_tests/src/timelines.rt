@@ -54,7 +54,7 @@ fn answer_once(alloc: Global, question: TimelineQuestion, input: &str) -> Option
 }
 
 /// Whether a page has these parts, one behind the other.
-fn has_parts(page: &str, parts: &str) -> bool {
+pub(crate) fn has_parts(page: &str, parts: &str) -> bool {
     let (status, parts) = parts.split_once('\n').unwrap_or((parts, ""));
     let Some((first, mut behind)) = page.split_once('\n') else {
         return false;

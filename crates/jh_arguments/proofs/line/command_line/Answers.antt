@@ -28,14 +28,16 @@ returns-clause-line c =
     let of_search = plain_fields c.in_ok-search_command.field-0 (ap (λ (a : App). a.top.is_plain) search) in
     let env : app_of c.after_help-env.result ≡ new_app (codes "env") = ap app_of_fields c.after_help-env.ensures ∙ (ap app_of_fields c.about.ensures ∙ c.new.ensures.app) in
     let run : app_of c.after_help-run.result ≡ new_app (codes "run") = ap app_of_fields c.after_help-run.ensures ∙ (ap app_of_fields c.about-2.ensures ∙ c.new-2.ensures.app) in
+    let plot : app_of c.after_help-plot.result ≡ new_app (codes "plot") = ap app_of_fields c.after_help-plot.ensures ∙ (ap app_of_fields c.about-3.ensures ∙ c.new-3.ensures.app) in
     let asked : app_of c.subcommand_required.result ≡ wants_one (versioned (new_app (codes "jeprun"))) = ap app_of_fields c.subcommand_required.ensures
     ∙ ap wants_one (ap app_of_fields c.version.ensures ∙ ap versioned (ap app_of_fields c.after_help.ensures
-    ∙ (ap app_of_fields c.about-3.ensures ∙ c.new-3.ensures.app))) in
+    ∙ (ap app_of_fields c.about-4.ensures ∙ c.new-4.ensures.app))) in
     let top : app_of c.arg_required_else_help.result ≡ helping (wants_one (versioned (new_app (codes "jeprun")))) = ap app_of_fields c.arg_required_else_help.ensures
     ∙ ap helping asked in
     let drive = c.in_ok-drive_command.ensures.drive in
     let of_drive = plain_fields c.in_ok-drive_command.field-0 (ap (λ (a : App). a.top.is_plain) drive) in
-    let whole : app_of c.in_ok-jeprun.jeprun ≡ jeprun names models = c.in_ok-jeprun.ensures.shape of_drive.globals ∙ ap₂ with_subcommand
+    let whole : app_of c.in_ok-jeprun.jeprun ≡ jeprun names models = c.in_ok-jeprun.ensures.shape (rw (c.after_help-plot.ensures, c.about-3.ensures) c.new-3.ensures.local) ∙ ap₂ with_subcommand
+    (c.in_ok-subcommand-7.ensures.shape of_drive.globals ∙ ap₂ with_subcommand
     (c.in_ok-subcommand-6.ensures.shape of_timeline.globals ∙ ap₂ with_subcommand
     (c.in_ok-subcommand-5.ensures.shape of_search.globals ∙ ap₂ with_subcommand
     (c.in_ok-subcommand-4.ensures.shape of_shrink.globals ∙ ap₂ with_subcommand
@@ -43,5 +45,5 @@ returns-clause-line c =
     (c.in_ok-subcommand-2.ensures.shape of_check.globals ∙ ap₂ with_subcommand
     (c.in_ok-subcommand.ensures.shape (rw (c.after_help-env.ensures, c.about.ensures) c.new.ensures.local) ∙ ap₂ with_subcommand top (ap (λ (a : App). a.top) env))
     (ap (λ (a : App). a.top) check)) (ap (λ (a : App). a.top) run)) (ap (λ (a : App). a.top) shrink))
-    (ap (λ (a : App). a.top) search)) (ap (λ (a : App). a.top) timeline)) (ap (λ (a : App). a.top) drive) in
+    (ap (λ (a : App). a.top) search)) (ap (λ (a : App). a.top) timeline)) (ap (λ (a : App). a.top) drive)) (ap (λ (a : App). a.top) plot) in
     (names, models, c.workloads-names.ensures, c.models-models.ensures, whole)
