@@ -75,7 +75,7 @@ fn inputs_are_refused(rt: HostRuntime) {
 § {:type :invoke, :process 0, :f :read, :time 0} {:type :invoke, :process 0, :f :read, :time 1}
 → 3 operation 1: double invoke
 § {:type :invoke
-→ 3 line 1: unexpected end
+→ 3 line 2: unexpected end
 § 5
 → 3 operation 0: not a map
 "#;

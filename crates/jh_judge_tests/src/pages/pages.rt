@@ -601,7 +601,7 @@ fn escapes_what_histories_say(rt: HostRuntime) -> Result<(), Fail> {
 <ol class=\"lanes\">
 </ol>
 <div class=\"picture\">
-<svg xmlns=\"http://www.w3.org/2000/svg\" width=\"240\" height=\"0\" viewBox=\"0 0 240 0\">
+<svg xmlns=\"http://www.w3.org/2000/svg\" width=\"0\" height=\"0\" viewBox=\"240 0 0 0\">
 <g class=\"marks\">
 </g>
 </svg>

@@ -32,7 +32,8 @@ const LEGEND: &str = "<p class=\"legend\"><span class=\"ok\">&#10003; ok</span> 
     <span class=\"fail\">&#10007; fail</span> <span class=\"info\">? info</span> \
     <span class=\"open\">&#8230; no completion</span> <span class=\"marked\">mark</span> \
     <span class=\"waits\">pending</span> <b>12</b> number in an order. Time goes down, and a line \
-    across is a fault. Point at a bar or a line to see its records, at a mark to see what it means.</p>\n";
+    across is a fault. A dotted line goes on below a bar whose outcome is unknown: it may take effect \
+    at any later time. Point at a bar or a line to see its records, at a mark to see what it means.</p>\n";
 
 /// More bytes than any page here has.
 const ROOM: usize = 20_000;
