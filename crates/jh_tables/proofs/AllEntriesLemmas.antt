@@ -9,7 +9,7 @@ use Rattle.std.proofs.lemmas.List.Sums.{sum_by-append, fold-append}
 use Rattle.std.proofs.lemmas.Option.{none-some}
 use Rattle.jh_tables.specs.declared.counted.FixEntry.{FixEntry}
 use Rattle.jh_tables.specs.Tallies.{with_free_entries, later_fix, latest_fix}
-use Rattle.jh_tables.specs.TurningInside.{has_stamp}
+use Rattle.jh_tables.specs.ChangingInside.{has_stamp}
 
 -- so many free entries
 abbrev free : ℕ → List (Option FixEntry)

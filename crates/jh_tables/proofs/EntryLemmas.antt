@@ -10,7 +10,7 @@ use Rattle.std.proofs.lemmas.List.Sums.{sum_by-cons}
 use Rattle.std.proofs.lemmas.List.Elements.{All-head, All-tail}
 use Rattle.std.proofs.lemmas.Nat.Bits.{bit_at-zero, bit_at_set_same, bit_at_set_other}
 use Rattle.jh_tables.specs.Faults.{names_link, is_same_link}
-use Rattle.jh_tables.specs.TurningInside.{AreMarked}
+use Rattle.jh_tables.specs.ChangingInside.{AreMarked}
 use Rattle.jh_tables.specs.Tallies.{latest_fix}
 use Rattle.jh_tables.specs.declared.counted.FixEntry.{FixEntry}
 

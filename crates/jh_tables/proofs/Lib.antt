@@ -1,5 +1,5 @@
 pub mod CountLemmas
-pub mod TurningLemmas
+pub mod ChangingLemmas
 pub mod LevelLemmas
 pub mod AllEntriesLemmas
 pub mod EntryLemmas

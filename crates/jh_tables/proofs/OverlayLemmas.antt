@@ -59,7 +59,7 @@ module _ (t : Tallies) (stamped : List (ℕ × FaultValue)) (are : AreTallies (l
       let is : IsLinkTally a b faults tally = are.links a b ha hb in
       same_link_cell _ _ _ _ _ _
       (ap (λ s. tally.start.cut || s) (ap (nat_lt 0) is.cuts ∙ some_counted (cuts a b) faults))
-      (rw (delay_is_over (length t.nodes) a b tally.start.delay t.fixes stamped ha hb entries order, is.slowed) refl)
+      (rw (delay_is_over (length t.nodes) a b tally.start.delay t.fixes stamped ha hb entries order, is.slowed_ms) refl)
       (level_is_over (length t.nodes) a b tally.start.loss tally.losses faults are.right is.losses)
 
   node_is_over : (a : ℕ) → a < length t.nodes → (let tally = get_or t.nodes a running_tally in node_now tally ≡ node_over faults a tally.start)
@@ -68,7 +68,7 @@ module _ (t : Tallies) (stamped : List (ℕ × FaultValue)) (are : AreTallies (l
       let is : IsNodeTally a faults tally = are.nodes a ha in
       same_node_cell _ _ _ _
       (rw (is.kills, is.pauses, some_counted (kills a) faults, some_counted (pauses a) faults) refl)
-      (rw is.bumped (sym (total_from (bump_by a) tally.start.clock faults)))
+      (rw is.bumped_ms (sym (total_from (bump_by a) tally.start.clock faults)))
 
   pub cells_are_overlay : length t.links ≡ length t.nodes * length t.nodes → IsOverlay (cells_at_start t) faults (cells_now t)
   cells_are_overlay square = record {

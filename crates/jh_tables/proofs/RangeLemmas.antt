@@ -71,15 +71,15 @@ module _ (t : Tallies) (faults : List FaultValue) (are : AreTallies (length t.no
       let same : get_or (cells_at_start t).links k calm_link ≡ tally.start = get_or-map (λ (x : LinkTally). x.start) t.links k calm_tally calm_link below in
       let start : IsStartingLink tally.start = subst IsStartingLink same (starting k calm_link there) in
       let fixed = fixed_short (latest_fix a b t.fixes) tally.start.delay (latest_short a b t.fixes None tt delays) start.0 in
-      let slowed = sum_by-le (delay_by a b) 60000 faults (All-weaker IsFault (λ f. delay_by a b f ≤ 60000) (delay_at_most a b) faults right) in
+      let slowed_ms = sum_by-le (delay_by a b) 60000 faults (All-weaker IsFault (λ f. delay_by a b f ≤ 60000) (delay_at_most a b) faults right) in
       let many : length faults * 60000 ≤ 256 * 60000 = mul-le (length faults) 60000 256 60000 few (omega arith) in
-      (omega (arith, fixed, slowed, many, (are.links a b ha hb).slowed), level_at_most tally.losses tally.start.loss start.1)
+      (omega (arith, fixed, slowed_ms, many, (are.links a b ha hb).slowed_ms), level_at_most tally.losses tally.start.loss start.1)
 
-  pub bumped_in_range : (a : ℕ) → a < length t.nodes → IsWithin (256 * 10 ^ 9) (get_or t.nodes a running_tally).bumped
+  pub bumped_in_range : (a : ℕ) → a < length t.nodes → IsWithin (256 * 10 ^ 9) (get_or t.nodes a running_tally).bumped_ms
   bumped_in_range a ha =
       let zero : IsWithin 0 (pos 0) = (omega (arith, ints), omega (arith, ints)) in
       let total = total_at_most a faults (pos 0) 0 right zero in
-      rw (are.nodes a ha).bumped (omega (arith, ints, total.0, few), omega (arith, ints, total.1, few))
+      rw (are.nodes a ha).bumped_ms (omega (arith, ints, total.0, few), omega (arith, ints, total.1, few))
 
   pub clock_at_start : All IsStartingNode (cells_at_start t).nodes → (a : ℕ) → a < length t.nodes → IsStartingNode (get_or t.nodes a running_tally).start
   clock_at_start starting a ha =
@@ -90,5 +90,5 @@ module _ (t : Tallies) (faults : List FaultValue) (are : AreTallies (length t.no
   pub node_in_range : All IsStartingNode (cells_at_start t).nodes → (a : ℕ) → a < length t.nodes → IsNodeInRange (node_now (get_or t.nodes a running_tally))
   node_in_range starting a ha =
       let start = clock_at_start starting a ha in
-      let bumped = bumped_in_range a ha in
-      (omega (arith, ints, start.0, bumped.0), omega (arith, ints, start.1, bumped.1))
+      let bumped_ms = bumped_in_range a ha in
+      (omega (arith, ints, start.0, bumped_ms.0), omega (arith, ints, start.1, bumped_ms.1))

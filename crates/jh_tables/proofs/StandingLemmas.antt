@@ -8,15 +8,15 @@ use Rattle.std.proofs.lemmas.Option.{slice_get_within, slice_get-get_or, same_So
 use Rattle.std.proofs.lemmas.List.Folds.{list_any_at}
 use Rattle.std.proofs.lemmas.List.Sums.{sum_by-set, count_by-le-length}
 use Rattle.jh_tables.specs.declared.counted.FixEntry.{FixEntry}
-use Rattle.jh_tables.specs.declared.turning.Change.{Change}
+use Rattle.jh_tables.specs.declared.changing.Change.{Change}
 use Rattle.jh_tables.specs.Faults.{FaultValue, fix_value}
 use Rattle.jh_tables.specs.Faults.FaultValue.{Cut, Slow, Loss, Fix, Pause, Kill, Bump}
 use Rattle.jh_tables.specs.Tallies.{Tallies}
 use Rattle.jh_tables.specs.Standing.{AreEntries, AreInOrder, AreTallies, faults_of, is_fix}
-use Rattle.jh_tables.specs.TurningInside.{AreEntriesTurned, CanTurnEntries, has_stamp, turned_number, one_if}
+use Rattle.jh_tables.specs.ChangingInside.{AreEntriesChanged, CanChangeEntries, has_stamp, changed_number, one_if}
 use Rattle.jh_tables.proofs.MiddleLemmas.{contains_middle}
 use Rattle.jh_tables.proofs.EntriesLemmas.{others_put, others_taken, fix_put, fix_taken}
-use Rattle.jh_tables.proofs.TallyLemmas.{faults_from, faults_to, turned_zero}
+use Rattle.jh_tables.proofs.TallyLemmas.{faults_from, faults_to, changed_zero}
 
 -- the stamped faults before the change, and after it
 abbrev pub stamped_from : Change → List (ℕ × FaultValue) → ℕ × FaultValue → List (ℕ × FaultValue) → List (ℕ × FaultValue)
@@ -47,70 +47,70 @@ fix_of_parts (Pause nodes) ms links is = absurd (none-some (ms, links) is)
 fix_of_parts (Kill nodes) ms links is = absurd (none-some (ms, links) is)
 fix_of_parts (Bump bumps) ms links is = absurd (none-some (ms, links) is)
 
-fix_turned : (change : Change) (n stamp ms : ℕ) (links : List (ℕ × ℕ)) (before after : List (ℕ × FaultValue)) (old new : List (Option FixEntry))
-    → n ≤ 64 → AreInOrder (before ++ (stamp, Fix ms links) ∷ after) → AreEntriesTurned change stamp (Some (ms, links)) old new
+fix_changed : (change : Change) (n stamp ms : ℕ) (links : List (ℕ × ℕ)) (before after : List (ℕ × FaultValue)) (old new : List (Option FixEntry))
+    → n ≤ 64 → AreInOrder (before ++ (stamp, Fix ms links) ∷ after) → AreEntriesChanged change stamp (Some (ms, links)) old new
     → AreEntries n old (stamped_from change before (stamp, Fix ms links) after) → AreEntries n new (stamped_to change before (stamp, Fix ms links) after)
-fix_turned Change.Add n stamp ms links before after old new few order turned_number are =
-    rw turned_number.4 (fix_put n stamp ms links before after order old turned_number.0 turned_number.1 few turned_number.2 turned_number.3 are)
-fix_turned Change.Remove n stamp ms links before after old new few order turned_number are =
-    rw turned_number.4 (fix_taken n stamp ms links before after order old turned_number.0 turned_number.1 turned_number.2 turned_number.3 are)
+fix_changed Change.Add n stamp ms links before after old new few order changed_number are =
+    rw changed_number.4 (fix_put n stamp ms links before after order old changed_number.0 changed_number.1 few changed_number.2 changed_number.3 are)
+fix_changed Change.Remove n stamp ms links before after old new few order changed_number are =
+    rw changed_number.4 (fix_taken n stamp ms links before after order old changed_number.0 changed_number.1 changed_number.2 changed_number.3 are)
 
-others_turned : (change : Change) (n stamp : ℕ) (fault : FaultValue) (before after : List (ℕ × FaultValue)) (entries : List (Option FixEntry))
+others_changed : (change : Change) (n stamp : ℕ) (fault : FaultValue) (before after : List (ℕ × FaultValue)) (entries : List (Option FixEntry))
     → AreInOrder (before ++ (stamp, fault) ∷ after) → fix_value fault ≡ None
     → AreEntries n entries (stamped_from change before (stamp, fault) after) → AreEntries n entries (stamped_to change before (stamp, fault) after)
-others_turned Change.Add n stamp fault before after entries order none are = others_put n stamp fault before after order entries none are
-others_turned Change.Remove n stamp fault before after entries order none are = others_taken n stamp fault before after order entries none are
+others_changed Change.Add n stamp fault before after entries order none are = others_put n stamp fault before after order entries none are
+others_changed Change.Remove n stamp fault before after entries order none are = others_taken n stamp fault before after order entries none are
 
--- entries are turned as the faults are
-pub entries_turned : (change : Change) (n stamp : ℕ) (fault : FaultValue) (before after : List (ℕ × FaultValue)) (old new : List (Option FixEntry))
-    → n ≤ 64 → AreInOrder (before ++ (stamp, fault) ∷ after) → AreEntriesTurned change stamp (fix_value fault) old new
+-- entries are changed as the faults are
+pub entries_changed : (change : Change) (n stamp : ℕ) (fault : FaultValue) (before after : List (ℕ × FaultValue)) (old new : List (Option FixEntry))
+    → n ≤ 64 → AreInOrder (before ++ (stamp, fault) ∷ after) → AreEntriesChanged change stamp (fix_value fault) old new
     → AreEntries n old (stamped_from change before (stamp, fault) after) → AreEntries n new (stamped_to change before (stamp, fault) after)
-entries_turned change n stamp fault before after old new few order turned_number are =
-    elim (fix_value fault) as (λ o. fix_value fault ≡ o → AreEntriesTurned change stamp o old new → AreEntries n new (stamped_to change before (stamp, fault) after)) [
-      | None ↦ λ is same. rw same (others_turned change n stamp fault before after old order is are)
-      | Some fix ↦ λ is turned'.
+entries_changed change n stamp fault before after old new few order changed_number are =
+    elim (fix_value fault) as (λ o. fix_value fault ≡ o → AreEntriesChanged change stamp o old new → AreEntries n new (stamped_to change before (stamp, fault) after)) [
+      | None ↦ λ is same. rw same (others_changed change n stamp fault before after old order is are)
+      | Some fix ↦ λ is changed'.
           let e = fix_of_parts fault fix.0 fix.1 is in
           subst (λ f. AreInOrder (before ++ (stamp, f) ∷ after) → AreEntries n old (stamped_from change before (stamp, f) after)
           → AreEntries n new (stamped_to change before (stamp, f) after)) (sym e)
-          (λ order' are'. fix_turned change n stamp fix.0 fix.1 before after old new few order' turned' are') order are
-    ] refl turned_number
+          (λ order' are'. fix_changed change n stamp fix.0 fix.1 before after old new few order' changed' are') order are
+    ] refl changed_number
 
 -- as many entries are in use as before, and one more or less for a fix
-parts_turned : (change : Change) (stamp : ℕ) (parts : Option (ℕ × List (ℕ × ℕ))) (old new : List (Option FixEntry)) → AreEntriesTurned change stamp parts old new
-    → count_by is_some new ≡ turned_number change (count_by is_some old) (one_if (is_some parts))
-parts_turned change stamp None old new are = rw are (sym (turned_zero change (count_by is_some old)))
-parts_turned Change.Add stamp (Some fix) old new are =
+parts_changed : (change : Change) (stamp : ℕ) (parts : Option (ℕ × List (ℕ × ℕ))) (old new : List (Option FixEntry)) → AreEntriesChanged change stamp parts old new
+    → count_by is_some new ≡ changed_number change (count_by is_some old) (one_if (is_some parts))
+parts_changed change stamp None old new are = rw are (sym (changed_zero change (count_by is_some old)))
+parts_changed Change.Add stamp (Some fix) old new are =
     let there = slice_get_within old are.0 None are.2 in
     let was : get_or old are.0 None ≡ None = same_Some (get_or old are.0 None) None (sym (slice_get-get_or old are.0 None there) ∙ are.2) in
     let f : Option FixEntry → ℕ = (λ x. one_if (is_some x)) in
     let none : f (get_or old are.0 None) ≡ 0 = rw was refl in
     rw are.4 (omega (arith, none, sum_by-set f old are.0 (Some are.1) None there))
-parts_turned Change.Remove stamp (Some fix) old new are =
+parts_changed Change.Remove stamp (Some fix) old new are =
     let there = slice_get_within old are.0 (Some are.1) are.2 in
     let was : get_or old are.0 None ≡ Some are.1 = same_Some (get_or old are.0 None) (Some are.1) (sym (slice_get-get_or old are.0 None there) ∙ are.2) in
     let f : Option FixEntry → ℕ = (λ x. one_if (is_some x)) in
     let some : f (get_or old are.0 None) ≡ 1 = rw was refl in
     rw are.4 (omega (arith, some, sum_by-set f old are.0 None None there))
 
-pub used_turned : (change : Change) (stamp : ℕ) (fault : FaultValue) (old new : List (Option FixEntry)) → AreEntriesTurned change stamp (fix_value fault) old new
-    → count_by is_some new ≡ turned_number change (count_by is_some old) (one_if (is_fix fault))
-used_turned change stamp fault = parts_turned change stamp (fix_value fault)
+pub used_changed : (change : Change) (stamp : ℕ) (fault : FaultValue) (old new : List (Option FixEntry)) → AreEntriesChanged change stamp (fix_value fault) old new
+    → count_by is_some new ≡ changed_number change (count_by is_some old) (one_if (is_fix fault))
+used_changed change stamp fault = parts_changed change stamp (fix_value fault)
 
 -- fewer than 256 faults leave an entry free
-room_to_put : (parts : Option (ℕ × List (ℕ × ℕ))) (stamp : ℕ) (entries : List (Option FixEntry)) → count_by is_some entries < length entries → CanTurnEntries Change.Add stamp parts entries
+room_to_put : (parts : Option (ℕ × List (ℕ × ℕ))) (stamp : ℕ) (entries : List (Option FixEntry)) → count_by is_some entries < length entries → CanChangeEntries Change.Add stamp parts entries
 room_to_put None stamp entries h = tt
 room_to_put (Some fix) stamp entries h = h
 
 pub entries_room : (n stamp : ℕ) (fault : FaultValue) (tallies : Tallies) (faults : List FaultValue) → length tallies.fixes ≡ 256 → length faults < 256
-    → AreTallies n tallies faults → CanTurnEntries Change.Add stamp (fix_value fault) tallies.fixes
+    → AreTallies n tallies faults → CanChangeEntries Change.Add stamp (fix_value fault) tallies.fixes
 entries_room n stamp fault tallies faults long few are =
     room_to_put (fix_value fault) stamp tallies.fixes (omega (arith, long, few, are.fixes, count_by-le-length is_fix faults))
 
 -- a fix that is put has its entry
 pub entry_there : (n stamp : ℕ) (fault : FaultValue) (before after : List (ℕ × FaultValue)) (entries : List (Option FixEntry))
-    → AreEntries n entries (before ++ (stamp, fault) ∷ after) → CanTurnEntries Change.Remove stamp (fix_value fault) entries
+    → AreEntries n entries (before ++ (stamp, fault) ∷ after) → CanChangeEntries Change.Remove stamp (fix_value fault) entries
 entry_there n stamp fault before after entries are =
-    elim (fix_value fault) as (λ o. fix_value fault ≡ o → CanTurnEntries Change.Remove stamp o entries) [
+    elim (fix_value fault) as (λ o. fix_value fault ≡ o → CanChangeEntries Change.Remove stamp o entries) [
       | None ↦ λ is. tt
       | Some fix ↦ λ is.
           let same = fix_of_parts fault fix.0 fix.1 is in

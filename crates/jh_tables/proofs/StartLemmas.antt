@@ -45,10 +45,10 @@ module _ (links : List Link) (nodes : List NodeCell) (square : length links ≡ 
         let lb : b < n = rw (length-map nodes fresh_node) at hb in
         let below : a * n + b < length links = rw square (mul-add-lt a n b n la lb) in
         rw (length-map nodes fresh_node, get_or-map fresh_link links (a * n + b) calm_link calm_tally below)
-        (record { cuts = refl; slowed = refl; levels = refl; losses = λ i h. zeros 20 i });
+        (record { cuts = refl; slowed_ms = refl; levels = refl; losses = λ i h. zeros 20 i });
     nodes = λ a ha.
         let la : a < length nodes = rw (length-map nodes fresh_node) at ha in
-        rw (get_or-map fresh_node nodes a running_node running_tally la) (record { pauses = refl; kills = refl; bumped = refl });
+        rw (get_or-map fresh_node nodes a running_node running_tally la) (record { pauses = refl; kills = refl; bumped_ms = refl });
     fixes = none_used 256;
   }
 

@@ -9,24 +9,24 @@ use Rattle.std.proofs.lemmas.List.Elements.{All-set}
 use Rattle.jh_tables.specs.declared.counted.FixEntry.{FixEntry}
 use Rattle.jh_tables.specs.declared.counted.LinkTally.{LinkTally}
 use Rattle.jh_tables.specs.declared.counted.NodeTally.{NodeTally}
-use Rattle.jh_tables.specs.declared.turning.Change.{Change}
+use Rattle.jh_tables.specs.declared.changing.Change.{Change}
 use Rattle.jh_tables.specs.Cells.{calm_link, running_node}
 use Rattle.jh_tables.specs.Faults.{FaultValue, IsFault, IsFixAmount, FitsCount, fix_value}
 use Rattle.jh_tables.specs.Faults.FaultValue.{Cut, Slow, Loss, Fix, Pause, Kill, Bump}
 use Rattle.jh_tables.specs.Tallies.{Tallies, calm_tally, running_tally, cells_now, cells_at_start}
 use Rattle.jh_tables.specs.Standing.{TablesValue, AreEntries, AreInOrder, AreTallies, StandsAt, faults_of}
 use Rattle.jh_tables.specs.TablesInside.{HasFixAmount}
-use Rattle.jh_tables.specs.TurningInside.{AreEntriesTurned, AreTurned}
+use Rattle.jh_tables.specs.ChangingInside.{AreEntriesChanged, AreChanged}
 use Rattle.jh_tables.proofs.MiddleLemmas.{pairs_without, same_lists, all_middle}
 use Rattle.jh_tables.proofs.OverlayLemmas.{cells_are_overlay}
-use Rattle.jh_tables.proofs.StandingLemmas.{stamped_from, stamped_to, faults_of_from, faults_of_to, entries_turned, used_turned}
-use Rattle.jh_tables.proofs.TallyLemmas.{faults_from, tallies_turned}
+use Rattle.jh_tables.proofs.StandingLemmas.{stamped_from, stamped_to, faults_of_from, faults_of_to, entries_changed, used_changed}
+use Rattle.jh_tables.proofs.TallyLemmas.{faults_from, tallies_changed}
 
 -- the tables of these tallies, with so many faults put
 abbrev pub tables_of : Tallies → ℕ → TablesValue
 tables_of t laid = record { start = cells_at_start t; cells = cells_now t; tallies = t; laid = laid }
 
-module _ (change : Change) (fault : FaultValue) (old new : Tallies) (are : AreTurned change fault old new)
+module _ (change : Change) (fault : FaultValue) (old new : Tallies) (are : AreChanged change fault old new)
     (square : length old.links ≡ length old.nodes * length old.nodes) where
   link_starts : (k : ℕ) → k < length old.links → (get_or new.links k calm_tally).start ≡ (get_or old.links k calm_tally).start
   link_starts k h =
@@ -37,8 +37,8 @@ module _ (change : Change) (fault : FaultValue) (old new : Tallies) (are : AreTu
         | false ↦ λ s. let more = eqb-false n 0 s in omega (arith, more)
       ] refl in
       let place : k / n * n + k % n ≡ k = div-add-mod' k n in
-      let turned = are.links (k / n) (k % n) (div_below k n n some within) (mod-lt k some) in
-      ap (λ (t : LinkTally). t.start) (rw place at turned)
+      let changed = are.links (k / n) (k % n) (div_below k n n some within) (mod-lt k some) in
+      ap (λ (t : LinkTally). t.start) (rw place at changed)
 
   -- the cells at the start stay
   pub start_stays : cells_at_start new ≡ cells_at_start old
@@ -60,27 +60,27 @@ module _ (change : Change) (fault : FaultValue) (old new : Tallies) (are : AreTu
   pub square_stays : length new.links ≡ length new.nodes * length new.nodes
   square_stays = are.many_links ∙ square ∙ rw are.many_nodes refl
 
-order_turned : (change : Change) (before after : List (ℕ × FaultValue)) (fault : ℕ × FaultValue) → AreInOrder (before ++ fault ∷ after)
+order_changed : (change : Change) (before after : List (ℕ × FaultValue)) (fault : ℕ × FaultValue) → AreInOrder (before ++ fault ∷ after)
     → AreInOrder (stamped_to change before fault after)
-order_turned Change.Add before after fault order = order
-order_turned Change.Remove before after fault order = pairs_without (λ x y. x.0 < y.0) before after fault order
+order_changed Change.Add before after fault order = order
+order_changed Change.Remove before after fault order = pairs_without (λ x y. x.0 < y.0) before after fault order
 
 -- the tables stand for the faults that are left
-pub stands_turned : (change : Change) (stamp : ℕ) (fault : FaultValue) (before after : List (ℕ × FaultValue)) (old new : Tallies) (was laid : ℕ)
+pub stands_changed : (change : Change) (stamp : ℕ) (fault : FaultValue) (before after : List (ℕ × FaultValue)) (old new : Tallies) (was laid : ℕ)
     → length old.nodes ≤ 64 → length old.links ≡ length old.nodes * length old.nodes → IsFault fault → FitsCount (length old.nodes) fault
-    → AreTurned change fault old new → AreEntriesTurned change stamp (fix_value fault) old.fixes new.fixes
+    → AreChanged change fault old new → AreEntriesChanged change stamp (fix_value fault) old.fixes new.fixes
     → AreInOrder (before ++ (stamp, fault) ∷ after) → laid ≡ length (stamped_to change before (stamp, fault) after)
     → StandsAt (tables_of old was) (stamped_from change before (stamp, fault) after)
     → StandsAt (tables_of new laid) (stamped_to change before (stamp, fault) after)
-stands_turned change stamp fault before after old new was laid few square right fits are entries order long stands =
+stands_changed change stamp fault before after old new was laid few square right fits are entries order long stands =
     let from = faults_of_from change before after (stamp, fault) in
     let to = faults_of_to change before after (stamp, fault) in
     let begun : AreTallies (length old.nodes) old (faults_from change (faults_of before) fault (faults_of after)) = rw from at stands.tallies in
-    let left = tallies_turned change (faults_of before) fault (faults_of after) right old new fits are (used_turned change stamp fault old.fixes new.fixes entries) begun in
+    let left = tallies_changed change (faults_of before) fault (faults_of after) right old new fits are (used_changed change stamp fault old.fixes new.fixes entries) begun in
     let tallies : AreTallies (length new.nodes) new (faults_of (stamped_to change before (stamp, fault) after)) = rw (are.many_nodes, to) left in
     let held : AreEntries (length new.nodes) new.fixes (stamped_to change before (stamp, fault) after) =
-    rw are.many_nodes (entries_turned change (length old.nodes) stamp fault before after old.fixes new.fixes few order entries stands.entries) in
-    let rising = order_turned change before after (stamp, fault) order in
+    rw are.many_nodes (entries_changed change (length old.nodes) stamp fault before after old.fixes new.fixes few order entries stands.entries) in
+    let rising = order_changed change before after (stamp, fault) order in
     record {
       order = rising;
       laid = long;
@@ -90,11 +90,11 @@ stands_turned change stamp fault before after old new was laid few square right 
     }
 
 -- there are as many entries as before
-pub room_turned : (change : Change) (stamp : ℕ) (parts : Option (ℕ × List (ℕ × ℕ))) (old new : List (Option FixEntry))
-    → AreEntriesTurned change stamp parts old new → length new ≡ length old
-room_turned change stamp None old new are = ap length are
-room_turned Change.Add stamp (Some fix) old new are = ap length are.4 ∙ length-set old are.0 (Some are.1)
-room_turned Change.Remove stamp (Some fix) old new are = ap length are.4 ∙ length-set old are.0 None
+pub room_changed : (change : Change) (stamp : ℕ) (parts : Option (ℕ × List (ℕ × ℕ))) (old new : List (Option FixEntry))
+    → AreEntriesChanged change stamp parts old new → length new ≡ length old
+room_changed change stamp None old new are = ap length are
+room_changed Change.Add stamp (Some fix) old new are = ap length are.4 ∙ length-set old are.0 (Some are.1)
+room_changed Change.Remove stamp (Some fix) old new are = ap length are.4 ∙ length-set old are.0 None
 
 -- the delay is one that a fix may have
 abbrev HasRightDelay : Option (ℕ × List (ℕ × ℕ)) → Type 0
@@ -111,15 +111,15 @@ right_delay (Kill nodes) right = tt
 right_delay (Bump bumps) right = tt
 
 entry_delays : (change : Change) (stamp : ℕ) (parts : Option (ℕ × List (ℕ × ℕ))) (old new : List (Option FixEntry)) → HasRightDelay parts
-    → AreEntriesTurned change stamp parts old new → All HasFixAmount old → All HasFixAmount new
+    → AreEntriesChanged change stamp parts old new → All HasFixAmount old → All HasFixAmount new
 entry_delays change stamp None old new right are all = rw are all
 entry_delays Change.Add stamp (Some fix) old new right are all = rw are.4 (All-set HasFixAmount old are.0 (Some are.1) (rw (are.3).delay right) all)
 entry_delays Change.Remove stamp (Some fix) old new right are all = rw are.4 (All-set HasFixAmount old are.0 None tt all)
 
 -- entries in use keep delays that fixes may have
-pub delays_turned : (change : Change) (stamp : ℕ) (fault : FaultValue) (old new : List (Option FixEntry)) → IsFault fault
-    → AreEntriesTurned change stamp (fix_value fault) old new → All HasFixAmount old → All HasFixAmount new
-delays_turned change stamp fault old new right = entry_delays change stamp (fix_value fault) old new (right_delay fault right)
+pub delays_changed : (change : Change) (stamp : ℕ) (fault : FaultValue) (old new : List (Option FixEntry)) → IsFault fault
+    → AreEntriesChanged change stamp (fix_value fault) old new → All HasFixAmount old → All HasFixAmount new
+delays_changed change stamp fault old new right = entry_delays change stamp (fix_value fault) old new (right_delay fault right)
 
 -- what follows where tables stand for a fault among others
 module _ (stamp : ℕ) (fault : FaultValue) (before after : List (ℕ × FaultValue)) (t : Tallies) (laid : ℕ)

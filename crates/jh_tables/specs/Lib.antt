@@ -5,4 +5,4 @@ pub mod Overlay
 pub mod Tallies
 pub mod Standing
 pub mod TablesInside
-pub mod TurningInside
+pub mod ChangingInside

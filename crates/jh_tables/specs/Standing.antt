@@ -33,7 +33,7 @@ is_fix fault = is_some (fix_value fault)
 -- the counts and the sum of the link from a to b are those of the faults
 pub record IsLinkTally (a b : ℕ) (faults : List FaultValue) (tally : LinkTally) : Type 0 where
   pub cuts : tally.cuts ≡ count_by (cuts a b) faults
-  pub slowed : tally.slowed ≡ sum_by (delay_by a b) faults
+  pub slowed_ms : tally.slowed_ms ≡ sum_by (delay_by a b) faults
   pub levels : length tally.losses ≡ 20
   pub losses : (i : ℕ) → i < 20
       → slice_index_or tally.losses i 0 ≡ count_by (loses a b (i + 1)) faults
@@ -42,7 +42,7 @@ pub record IsLinkTally (a b : ℕ) (faults : List FaultValue) (tally : LinkTally
 pub record IsNodeTally (a : ℕ) (faults : List FaultValue) (tally : NodeTally) : Type 0 where
   pub pauses : tally.pauses ≡ count_by (pauses a) faults
   pub kills : tally.kills ≡ count_by (kills a) faults
-  pub bumped : tally.bumped ≡ fold (λ z f. z +ℤ bump_by a f) (pos 0) faults
+  pub bumped_ms : tally.bumped_ms ≡ fold (λ z f. z +ℤ bump_by a f) (pos 0) faults
 
 -- all counts and sums of n nodes are those of the faults, and as many entries are in use as faults
 -- are fixes

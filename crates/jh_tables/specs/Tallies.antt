@@ -24,11 +24,11 @@ pub record Tallies : Type 0 where
 
 -- the tally of a link that starts calm
 abbrev pub calm_tally : LinkTally
-calm_tally = record { start = calm_link; cuts = 0; slowed = 0; losses = [] }
+calm_tally = record { start = calm_link; cuts = 0; slowed_ms = 0; losses = [] }
 
 -- the tally of a node that starts running
 abbrev pub running_tally : NodeTally
-running_tally = record { start = running_node; pauses = 0; kills = 0; bumped = pos 0 }
+running_tally = record { start = running_node; pauses = 0; kills = 0; bumped_ms = pos 0 }
 
 -- the tally of the link from a to b of n nodes
 abbrev pub link_tally : ℕ → List LinkTally → ℕ → ℕ → LinkTally
@@ -40,10 +40,10 @@ node_tally tallies a = slice_index_or tallies a running_tally
 
 -- the tally of a link and of a node on which no fault is put
 abbrev pub fresh_link : Link → LinkTally
-fresh_link link = record { start = link; cuts = 0; slowed = 0; losses = replicate 20 0 }
+fresh_link link = record { start = link; cuts = 0; slowed_ms = 0; losses = replicate 20 0 }
 
 abbrev pub fresh_node : NodeCell → NodeTally
-fresh_node node = record { start = node; pauses = 0; kills = 0; bumped = pos 0 }
+fresh_node node = record { start = node; pauses = 0; kills = 0; bumped_ms = pos 0 }
 
 -- these entries, and behind them free ones up to 256
 abbrev pub with_free_entries : List (Option FixEntry) → List (Option FixEntry)
@@ -94,7 +94,7 @@ greatest_level losses start = fold (λ m i. max m (level_held losses i)) start (
 abbrev pub link_now : LinkTally → Option (ℕ × ℕ) → Link
 link_now tally fix = record {
   cut = tally.start.cut || nat_lt 0 tally.cuts;
-  delay = delay_fixed fix tally.start.delay + tally.slowed;
+  delay = delay_fixed fix tally.start.delay + tally.slowed_ms;
   loss = greatest_level tally.losses tally.start.loss;
 }
 
@@ -105,7 +105,7 @@ node_now tally = record {
       if is_killed tally.start.process || nat_lt 0 tally.kills then Killed
       else if is_paused tally.start.process || nat_lt 0 tally.pauses then Paused
       else Running;
-  clock = tally.start.clock +ℤ tally.bumped;
+  clock = tally.start.clock +ℤ tally.bumped_ms;
 }
 
 -- the link at this place among the links of n nodes

@@ -8,7 +8,7 @@ ghost use Rattle.std.specs.List.{count_by};
 ghost use Rattle.std.specs.Vec.{vec_capacity};
 ghost use Rattle.jh_tables.specs.Tallies.{calm_tally, faultless_tallies, fresh_link, fresh_node};
 ghost use Rattle.jh_tables.specs.Tallies.{running_tally, with_free_entries};
-ghost use Rattle.jh_tables.specs.TurningInside.{one_if, written_tallies, IsThere};
+ghost use Rattle.jh_tables.specs.ChangingInside.{one_if, written_tallies, IsThere};
 
 use crate::cells::{Link, NodeCell};
 use std::alloc::{AllocError, Global};
@@ -31,7 +31,7 @@ pub struct LinkTally {
     /// How many faults cut it.
     pub cuts: u16,
     /// Milliseconds by which all faults slow it.
-    pub slowed: u64,
+    pub slowed_ms: u64,
     /// For each level of loss, from 1 on, how many faults lose its messages at it.
     pub losses: [u16; LEVELS],
 }
@@ -46,7 +46,7 @@ pub struct NodeTally {
     /// How many faults kill it.
     pub kills: u16,
     /// Milliseconds by which all faults move its clock.
-    pub bumped: i64,
+    pub bumped_ms: i64,
 }
 
 /// A fix of delays that is put.
@@ -130,7 +130,7 @@ fn link_tallies(alloc: Global, links: &[Link]) -> Result<Vec<LinkTally>, AllocEr
         tallies.push(LinkTally {
             start: *link,
             cuts: 0,
-            slowed: 0,
+            slowed_ms: 0,
             losses: [0; LEVELS],
         })?;
     }
@@ -147,7 +147,7 @@ fn node_tallies(alloc: Global, nodes: &[NodeCell]) -> Result<Vec<NodeTally>, All
             start: *node,
             pauses: 0,
             kills: 0,
-            bumped: 0,
+            bumped_ms: 0,
         })?;
     }
     Ok(tallies)
@@ -284,12 +284,12 @@ impl Counted {
     {
         match written {
             TableWrite::Link(LinkCount::Cuts(count)) => self.links[place].cuts = *count,
-            TableWrite::Link(LinkCount::Slowed(ms)) => self.links[place].slowed = *ms,
+            TableWrite::Link(LinkCount::Slowed(ms)) => self.links[place].slowed_ms = *ms,
             TableWrite::Link(LinkCount::Losses(level, count)) => self.links[place].losses[*level] =
                 *count,
             TableWrite::Node(NodeCount::Pauses(count)) => self.nodes[place].pauses = *count,
             TableWrite::Node(NodeCount::Kills(count)) => self.nodes[place].kills = *count,
-            TableWrite::Node(NodeCount::Bumped(ms)) => self.nodes[place].bumped = *ms,
+            TableWrite::Node(NodeCount::Bumped(ms)) => self.nodes[place].bumped_ms = *ms,
             TableWrite::Fix(entry) => self.write_fix(place, entry),
         }
         self.work = self.work.saturating_add(1);

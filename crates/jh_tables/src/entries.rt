@@ -1,5 +1,5 @@
 //! Entries of fixes: their bits, the latest one of a link, one that is put or taken.
-//! `specs/TurningInside.antt` says what each call changes, `specs/Tallies.antt` what the entries
+//! `specs/ChangingInside.antt` says what each call changes, `specs/Tallies.antt` what the entries
 //! mean.
 
 ghost use Rattle.std.specs.Prelude.{◌≡◌, ◌<◌, ◌≤◌, ◌+◌, length, is_some, true, false, slice_get};
@@ -10,14 +10,14 @@ ghost use Rattle.jh_tables.specs.Tallies.{with_free_entries};
 ghost use Rattle.jh_tables.specs.Faults.{AreKnownLinks, FitsCount, fix_value};
 ghost use Rattle.jh_tables.specs.Plain.{fault_of};
 ghost use Rattle.jh_tables.specs.Standing.{IsEntryOf, is_fix};
-ghost use Rattle.jh_tables.specs.TurningInside.{AreEntriesTurned, AreMarked, CanTurnEntries};
-ghost use Rattle.jh_tables.specs.TurningInside.{IsEntryPut, IsEntryTaken, IsPlaceOfStamp};
-ghost use Rattle.jh_tables.specs.TurningInside.{has_stamp, one_if};
+ghost use Rattle.jh_tables.specs.ChangingInside.{AreEntriesChanged, AreMarked, CanChangeEntries};
+ghost use Rattle.jh_tables.specs.ChangingInside.{IsEntryPut, IsEntryTaken, IsPlaceOfStamp};
+ghost use Rattle.jh_tables.specs.ChangingInside.{has_stamp, one_if};
 
+use crate::changing::Change;
 use crate::counted::{Counted, FixEntry, MAX_NODES, TableWrite};
 use crate::faults::{LinkFault, PlainFault};
 use crate::nodes::Node;
-use crate::turning::Change;
 
 /// Whether the entry fixes the delay of a link.
 fn is_fixed_in(fix: &FixEntry, from: Node, to: Node) -> bool
@@ -182,11 +182,11 @@ fn fix_of(fault: &PlainFault) -> Option<(u64, &[(Node, Node)])>
     }
 }
 
-/// Turns the entries of fixes.
-pub(crate) fn turn_entries(counted: &mut Counted, change: Change, fault: &PlainFault, stamp: u32)
+/// Changes the entries of fixes.
+pub(crate) fn change_entries(counted: &mut Counted, change: Change, fault: &PlainFault, stamp: u32)
     requires fits { FitsCount 64 (fault_of fault.now) }
-    requires room { CanTurnEntries change stamp (fix_value (fault_of fault.now)) counted.old.fixes }
-    ensures turned { AreEntriesTurned change stamp
+    requires room { CanChangeEntries change stamp (fix_value (fault_of fault.now)) counted.old.fixes }
+    ensures changed { AreEntriesChanged change stamp
         (fix_value (fault_of fault.now)) counted.old.fixes counted.new.fixes }
     ensures rest { (counted.new.links ≡ counted.old.links)
         × (counted.new.nodes ≡ counted.old.nodes) }

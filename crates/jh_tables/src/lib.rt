@@ -3,6 +3,7 @@
 #![tactic(auto)]
 
 mod cells;
+mod changing;
 mod counted;
 mod entries;
 mod faults;
@@ -10,7 +11,6 @@ mod laws;
 mod nodes;
 mod reading;
 mod tables;
-mod turning;
 
 pub use cells::{Life, Link, NodeCell};
 pub use faults::{LinkFault, NodeFault, PlainFault};

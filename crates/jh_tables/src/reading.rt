@@ -33,7 +33,7 @@ fn greatest_level(losses: &[u16; LEVELS], start: u8) -> u8
 
 /// The link that is read off a tally and the latest fix.
 pub(crate) fn link_now(tally: &LinkTally, fix: Option<(u32, u64)>) -> Link
-    requires { delay_fixed fix tally.now.start.delay + tally.now.slowed < 2 ^ 64 }
+    requires { delay_fixed fix tally.now.start.delay + tally.now.slowed_ms < 2 ^ 64 }
     ensures { result ≡ link_now tally.now fix }
 {
     let fixed = match fix {
@@ -42,7 +42,7 @@ pub(crate) fn link_now(tally: &LinkTally, fix: Option<(u32, u64)>) -> Link
     };
     Link {
         cut: tally.start.cut || tally.cuts > 0,
-        delay: fixed + tally.slowed,
+        delay: fixed + tally.slowed_ms,
         loss: greatest_level(&tally.losses, tally.start.loss),
     }
 }
@@ -62,11 +62,11 @@ fn life_now(tally: &NodeTally) -> Life
 
 /// The node that is read off a tally.
 pub(crate) fn node_now(tally: &NodeTally) -> NodeCell
-    requires { IsWithin (2 ^ 61) tally.now.start.clock × IsWithin (2 ^ 61) tally.now.bumped }
+    requires { IsWithin (2 ^ 61) tally.now.start.clock × IsWithin (2 ^ 61) tally.now.bumped_ms }
     ensures { result ≡ node_now tally.now }
 {
     NodeCell {
         process: life_now(tally),
-        clock: tally.start.clock + tally.bumped,
+        clock: tally.start.clock + tally.bumped_ms,
     }
 }

@@ -9,16 +9,16 @@ ghost use Rattle.jh_tables.specs.Cells.{link_at, node_at};
 ghost use Rattle.jh_tables.specs.Standing.{IsLinkInRange, IsNodeInRange, IsPut, IsStartingLink};
 ghost use Rattle.jh_tables.specs.Standing.{IsStartingNode, IsTaken, StandsAt, StandsAtSome};
 ghost use Rattle.jh_tables.specs.Standing.{max_laid};
-ghost use Rattle.jh_tables.specs.TurningInside.{AreEntriesTurned, AreTurned, CanTurnEntries};
-ghost use Rattle.jh_tables.specs.TurningInside.{CanTurnTallies};
+ghost use Rattle.jh_tables.specs.ChangingInside.{AreEntriesChanged, AreChanged, CanChangeEntries};
+ghost use Rattle.jh_tables.specs.ChangingInside.{CanChangeTallies};
 
 use crate::cells::{Link, NodeCell};
+use crate::changing::{Change, change_tallies};
 use crate::counted::Counted;
-use crate::entries::{latest_fix, turn_entries};
+use crate::entries::{change_entries, latest_fix};
 use crate::faults::PlainFault;
 use crate::nodes::Node;
 use crate::reading::{link_now, node_now};
-use crate::turning::{Change, turn_tallies};
 use std::alloc::{AllocError, Global};
 use std::marker::Model;
 
@@ -122,7 +122,7 @@ impl Tables {
         ensures work { self.new.tallies.work
             ≤ self.old.tallies.work + fault_size (fault_of fault.now) }
     {
-        turn_all(&mut self.counted, Change::Add, fault, stamp);
+        change_all(&mut self.counted, Change::Add, fault, stamp);
         self.laid += 1;
     }
 
@@ -136,7 +136,7 @@ impl Tables {
         ensures work { self.new.tallies.work
             ≤ self.old.tallies.work + fault_size (fault_of fault.now) }
     {
-        turn_all(&mut self.counted, Change::Remove, fault, stamp);
+        change_all(&mut self.counted, Change::Remove, fault, stamp);
         self.laid -= 1;
     }
 
@@ -155,19 +155,19 @@ impl Tables {
     }
 }
 
-/// Turns all that a fault touches.
-fn turn_all(counted: &mut Counted, change: Change, fault: &PlainFault, stamp: u32)
+/// Changes all that a fault touches.
+fn change_all(counted: &mut Counted, change: Change, fault: &PlainFault, stamp: u32)
     requires fits { FitsCount (length counted.old.nodes) (fault_of fault.now) }
     requires few { length counted.old.nodes ≤ 64 }
     requires right { IsFault (fault_of fault.now) }
-    requires room { CanTurnTallies change (fault_of fault.now) counted.old }
-    requires entries { CanTurnEntries change stamp
+    requires room { CanChangeTallies change (fault_of fault.now) counted.old }
+    requires entries { CanChangeEntries change stamp
         (fix_value (fault_of fault.now)) counted.old.fixes }
-    ensures turned { AreTurned change (fault_of fault.now) counted.old counted.new }
-    ensures entries { AreEntriesTurned change stamp
+    ensures changed { AreChanged change (fault_of fault.now) counted.old counted.new }
+    ensures entries { AreEntriesChanged change stamp
         (fix_value (fault_of fault.now)) counted.old.fixes counted.new.fixes }
     ensures work { counted.new.work ≤ counted.old.work + fault_size (fault_of fault.now) }
 {
-    turn_tallies(counted, change, fault);
-    turn_entries(counted, change, fault, stamp);
+    change_tallies(counted, change, fault);
+    change_entries(counted, change, fault, stamp);
 }

@@ -1,5 +1,5 @@
 use Rattle.std.proofs.Common.{take}
-use Rattle.jh_tables.specs.TurningInside.{AreMarked}
+use Rattle.jh_tables.specs.ChangingInside.{AreMarked}
 use Rattle.jh_tables.proofs.entries.mark_links.Given as goal
 
 abbrev pub invariant-loop-from : goal.invariant-loop-from

@@ -2,7 +2,7 @@ use Rattle.std.proofs.Common.{◌≡◌, ◌∙◌, sym, ap, rules, false}
 use Rattle.std.specs.List.{All, list_any}
 use Rattle.std.proofs.lemmas.Bool.{false≢true}
 use Rattle.std.proofs.lemmas.List.Folds.{list_any_none}
-use Rattle.jh_tables.specs.TurningInside.{has_stamp}
+use Rattle.jh_tables.specs.ChangingInside.{has_stamp}
 use Rattle.jh_tables.proofs.AllEntriesLemmas.{stamped_all}
 use Rattle.jh_tables.proofs.entries.take_fix.Goals as goal
 

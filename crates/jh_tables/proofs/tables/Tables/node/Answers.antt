@@ -14,9 +14,9 @@ node_now-requires c =
     let below : c.args.node < length t.nodes = search rules in
     let few : length w.faults ≤ 256 = omega (arith, w.few, w.laid) in
     let start = clock_at_start t w.faults w.tallies few w.starting_nodes c.args.node below in
-    let bumped = bumped_in_range t w.faults w.tallies few c.args.node below in
+    let bumped_ms = bumped_in_range t w.faults w.tallies few c.args.node below in
     rw (c.node.ensures, c.place-place.ensures)
-    ((omega (arith, ints, start.0), omega (arith, ints, start.1)), (omega (arith, ints, bumped.0), omega (arith, ints, bumped.1)))
+    ((omega (arith, ints, start.0), omega (arith, ints, start.1)), (omega (arith, ints, bumped_ms.0), omega (arith, ints, bumped_ms.1)))
 
 pub returns-then-place-count-clause-node : goal.returns-then-place-count-clause-node
 returns-then-place-count-clause-node c =

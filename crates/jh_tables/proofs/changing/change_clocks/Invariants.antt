@@ -1,10 +1,10 @@
 use Rattle.std.proofs.Common.{◌≡◌, ◌≤◌, ◌+◌, length, take}
-use Rattle.jh_tables.specs.TurningInside.{AreNodesTurned}
-use Rattle.jh_tables.proofs.turning.turn_nodes.Given as goal
+use Rattle.jh_tables.specs.ChangingInside.{AreClocksChanged}
+use Rattle.jh_tables.proofs.changing.change_clocks.Given as goal
 
 abbrev pub invariant-loop-node : goal.invariant-loop-node
 invariant-loop-node l = record {
-  turned : AreNodesTurned l.change l.fault (take l.node-index l.nodes) l.fn.counted.nodes l.counted.nodes;
+  changed : AreClocksChanged l.change (take l.node-index l.bumps) l.fn.counted.nodes l.counted.nodes;
   many : length l.counted.nodes ≡ length l.fn.counted.nodes;
   links : l.counted.links ≡ l.fn.counted.links;
   fixes : l.counted.fixes ≡ l.fn.counted.fixes;

@@ -13,7 +13,7 @@ use Rattle.jh_tables.specs.declared.counted.LinkCount.{LinkCount}
 use Rattle.jh_tables.specs.declared.counted.NodeCount.{NodeCount}
 use Rattle.jh_tables.specs.declared.faults.LinkFault.{LinkFault}
 use Rattle.jh_tables.specs.declared.faults.NodeFault.{NodeFault}
-use Rattle.jh_tables.specs.declared.turning.Change.{Change}
+use Rattle.jh_tables.specs.declared.changing.Change.{Change}
 use Rattle.jh_tables.specs.Faults.{FaultValue, FixValue, names_link, names_node}
 use Rattle.jh_tables.specs.Faults.FaultValue.{Bump}
 use Rattle.jh_tables.specs.Overlay.{cuts, delay_by, loss_by, pauses, kills, bump_by}
@@ -38,14 +38,14 @@ next_work work = min (work + 1) (2 ^ 64 - 1)
 -- the tally of a link after one of its counts or sums is written
 abbrev pub link_written : LinkCount → LinkTally → LinkTally
 link_written (LinkCount.Cuts count) t = record t { cuts = count }
-link_written (LinkCount.Slowed ms) t = record t { slowed = ms }
+link_written (LinkCount.Slowed ms) t = record t { slowed_ms = ms }
 link_written (LinkCount.Losses level count) t = record t { losses = slice_set t.losses level count }
 
 -- the tally of a node likewise
 abbrev pub node_written : NodeCount → NodeTally → NodeTally
 node_written (NodeCount.Pauses count) t = record t { pauses = count }
 node_written (NodeCount.Kills count) t = record t { kills = count }
-node_written (NodeCount.Bumped ms) t = record t { bumped = ms }
+node_written (NodeCount.Bumped ms) t = record t { bumped_ms = ms }
 
 -- the tallies after a count, a sum or an entry is written
 abbrev pub written_tallies : Tallies → ℕ → TableWrite → Tallies
@@ -61,120 +61,120 @@ written_tallies t place (TableWrite.Fix entry) =
     record t { fixes = slice_set t.fixes place entry; work = next_work t.work }
 
 -- a number after a fault is put or taken that counts for so much in it
-abbrev pub turned_number : Change → ℕ → ℕ → ℕ
-turned_number Change.Add n amount = n + amount
-turned_number Change.Remove n amount = n - amount
+abbrev pub changed_number : Change → ℕ → ℕ → ℕ
+changed_number Change.Add n amount = n + amount
+changed_number Change.Remove n amount = n - amount
 
 -- the number stays in its range
-abbrev pub CanTurn : Change → ℕ → ℕ → ℕ → Type 0
-CanTurn Change.Add most n amount = n + amount ≤ most
-CanTurn Change.Remove most n amount = amount ≤ n
+abbrev pub CanChange : Change → ℕ → ℕ → ℕ → Type 0
+CanChange Change.Add most n amount = n + amount ≤ most
+CanChange Change.Remove most n amount = amount ≤ n
 
 -- the same of an integer
-abbrev pub int_turned : Change → ℤ → ℤ → ℤ
-int_turned Change.Add z amount = z +ℤ amount
-int_turned Change.Remove z amount = z -ℤ amount
+abbrev pub int_changed : Change → ℤ → ℤ → ℤ
+int_changed Change.Add z amount = z +ℤ amount
+int_changed Change.Remove z amount = z -ℤ amount
 
 -- what a fault that does something, or does not, counts for
 abbrev pub one_if : Bool → ℕ
 one_if does = if does then 1 else 0
 
--- the counts of levels, after that of a level is turned; there is none for level 0
-abbrev pub losses_turned : Change → List ℕ → ℕ → List ℕ
-losses_turned change losses zero = losses
-losses_turned change losses (suc i) =
-    slice_set losses i (turned_number change (slice_index_or losses i 0) 1)
+-- the counts of levels, after that of a level is changed; there is none for level 0
+abbrev pub losses_changed : Change → List ℕ → ℕ → List ℕ
+losses_changed change losses zero = losses
+losses_changed change losses (suc i) =
+    slice_set losses i (changed_number change (slice_index_or losses i 0) 1)
 
 -- the tally of the link from a to b, after the fault is put or taken
-abbrev pub link_turned : Change → FaultValue → ℕ → ℕ → LinkTally → LinkTally
-link_turned change fault a b t = record t {
-  cuts = turned_number change t.cuts (one_if (cuts a b fault));
-  slowed = turned_number change t.slowed (delay_by a b fault);
-  losses = losses_turned change t.losses (loss_by a b fault);
+abbrev pub link_changed : Change → FaultValue → ℕ → ℕ → LinkTally → LinkTally
+link_changed change fault a b t = record t {
+  cuts = changed_number change t.cuts (one_if (cuts a b fault));
+  slowed_ms = changed_number change t.slowed_ms (delay_by a b fault);
+  losses = losses_changed change t.losses (loss_by a b fault);
 }
 
 -- the tally of the node, after the fault is put or taken
-abbrev pub node_turned : Change → FaultValue → ℕ → NodeTally → NodeTally
-node_turned change fault a t = record t {
-  pauses = turned_number change t.pauses (one_if (pauses a fault));
-  kills = turned_number change t.kills (one_if (kills a fault));
-  bumped = int_turned change t.bumped (bump_by a fault);
+abbrev pub node_changed : Change → FaultValue → ℕ → NodeTally → NodeTally
+node_changed change fault a t = record t {
+  pauses = changed_number change t.pauses (one_if (pauses a fault));
+  kills = changed_number change t.kills (one_if (kills a fault));
+  bumped_ms = int_changed change t.bumped_ms (bump_by a fault);
 }
 
 -- the tally of a link that the fault names
-abbrev pub named_link_turned : Change → LinkFault → LinkTally → LinkTally
-named_link_turned change LinkFault.Cut t = record t { cuts = turned_number change t.cuts 1 }
-named_link_turned change (LinkFault.Slow ms) t = record t {
-  slowed = turned_number change t.slowed ms;
+abbrev pub named_link_changed : Change → LinkFault → LinkTally → LinkTally
+named_link_changed change LinkFault.Cut t = record t { cuts = changed_number change t.cuts 1 }
+named_link_changed change (LinkFault.Slow ms) t = record t {
+  slowed_ms = changed_number change t.slowed_ms ms;
 }
-named_link_turned change (LinkFault.Loss level) t =
-    record t { losses = losses_turned change t.losses level }
-named_link_turned change (LinkFault.Fix ms) t = t
+named_link_changed change (LinkFault.Loss level) t =
+    record t { losses = losses_changed change t.losses level }
+named_link_changed change (LinkFault.Fix ms) t = t
 
 -- the tally of a node that the fault names
-abbrev pub named_node_turned : Change → NodeFault → NodeTally → NodeTally
-named_node_turned change NodeFault.Pause t = record t { pauses = turned_number change t.pauses 1 }
-named_node_turned change NodeFault.Kill t = record t { kills = turned_number change t.kills 1 }
+abbrev pub named_node_changed : Change → NodeFault → NodeTally → NodeTally
+named_node_changed change NodeFault.Pause t = record t { pauses = changed_number change t.pauses 1 }
+named_node_changed change NodeFault.Kill t = record t { kills = changed_number change t.kills 1 }
 
--- the tally of a link that the fault names can be turned
-abbrev pub CanTurnLink : Change → LinkFault → LinkTally → Type 0
-CanTurnLink change LinkFault.Cut t = CanTurn change 65535 t.cuts 1
-CanTurnLink change (LinkFault.Slow ms) t = CanTurn change (2 ^ 64 - 1) t.slowed ms
-CanTurnLink change (LinkFault.Loss level) t =
-    (0 < level) × (level ≤ 20) × CanTurn change 65535 (slice_index_or t.losses (level - 1) 0) 1
-CanTurnLink change (LinkFault.Fix ms) t = ⊤
+-- the tally of a link that the fault names can be changed
+abbrev pub CanChangeLink : Change → LinkFault → LinkTally → Type 0
+CanChangeLink change LinkFault.Cut t = CanChange change 65535 t.cuts 1
+CanChangeLink change (LinkFault.Slow ms) t = CanChange change (2 ^ 64 - 1) t.slowed_ms ms
+CanChangeLink change (LinkFault.Loss level) t =
+    (0 < level) × (level ≤ 20) × CanChange change 65535 (slice_index_or t.losses (level - 1) 0) 1
+CanChangeLink change (LinkFault.Fix ms) t = ⊤
 
--- the tally of a node that the fault names can be turned
-abbrev pub CanTurnNode : Change → NodeFault → NodeTally → Type 0
-CanTurnNode change NodeFault.Pause t = CanTurn change 65535 t.pauses 1
-CanTurnNode change NodeFault.Kill t = CanTurn change 65535 t.kills 1
+-- the tally of a node that the fault names can be changed
+abbrev pub CanChangeNode : Change → NodeFault → NodeTally → Type 0
+CanChangeNode change NodeFault.Pause t = CanChange change 65535 t.pauses 1
+CanChangeNode change NodeFault.Kill t = CanChange change 65535 t.kills 1
 
--- each of these links' tallies can be turned
-abbrev pub CanTurnLinks : Change → LinkFault → List (ℕ × ℕ) → ℕ → List LinkTally → Type 0
-CanTurnLinks change fault links n tallies =
+-- each of these links' tallies can be changed
+abbrev pub CanChangeLinks : Change → LinkFault → List (ℕ × ℕ) → ℕ → List LinkTally → Type 0
+CanChangeLinks change fault links n tallies =
     (a b : ℕ) → a < n → b < n → names_link links a b ≡ true
-    → CanTurnLink change fault (link_tally n tallies a b)
+    → CanChangeLink change fault (link_tally n tallies a b)
 
--- each of these nodes' tallies can be turned
-abbrev pub CanTurnNodes : Change → NodeFault → List ℕ → List NodeTally → Type 0
-CanTurnNodes change fault nodes tallies =
+-- each of these nodes' tallies can be changed
+abbrev pub CanChangeNodes : Change → NodeFault → List ℕ → List NodeTally → Type 0
+CanChangeNodes change fault nodes tallies =
     (a : ℕ) → a < length tallies → names_node nodes a ≡ true
-    → CanTurnNode change fault (node_tally tallies a)
+    → CanChangeNode change fault (node_tally tallies a)
 
--- in the table of n nodes the tally of each of these links is turned, and every other stays
-abbrev pub AreLinksTurned
+-- in the table of n nodes the tally of each of these links is changed, and every other stays
+abbrev pub AreLinksChanged
     : Change → LinkFault → List (ℕ × ℕ) → ℕ → List LinkTally → List LinkTally → Type 0
-AreLinksTurned change fault links n old new =
+AreLinksChanged change fault links n old new =
     (a b : ℕ) → a < n → b < n
     → link_tally n new a b
-    ≡ (if names_link links a b then named_link_turned change fault (link_tally n old a b)
+    ≡ (if names_link links a b then named_link_changed change fault (link_tally n old a b)
     else link_tally n old a b)
 
--- the tally of each of these nodes is turned, and every other stays
-abbrev pub AreNodesTurned : Change → NodeFault → List ℕ → List NodeTally → List NodeTally → Type 0
-AreNodesTurned change fault nodes old new =
+-- the tally of each of these nodes is changed, and every other stays
+abbrev pub AreNodesChanged : Change → NodeFault → List ℕ → List NodeTally → List NodeTally → Type 0
+AreNodesChanged change fault nodes old new =
     (a : ℕ) → a < length old
     → node_tally new a
-    ≡ (if names_node nodes a then named_node_turned change fault (node_tally old a)
+    ≡ (if names_node nodes a then named_node_changed change fault (node_tally old a)
     else node_tally old a)
 
--- the clock of each node is turned by what the bumps move it
-abbrev pub AreClocksTurned : Change → List (ℕ × ℤ) → List NodeTally → List NodeTally → Type 0
-AreClocksTurned change bumps old new =
+-- the clock of each node is changed by what the bumps move it
+abbrev pub AreClocksChanged : Change → List (ℕ × ℤ) → List NodeTally → List NodeTally → Type 0
+AreClocksChanged change bumps old new =
     (a : ℕ) → a < length old
     → node_tally new a
     ≡ (let t = node_tally old a in
-    record t { bumped = int_turned change t.bumped (bump_by a (Bump bumps)) })
+    record t { bumped_ms = int_changed change t.bumped_ms (bump_by a (Bump bumps)) })
 
 -- the fault is put or taken in all tallies; entries of fixes are another matter
-pub record AreTurned (change : Change) (fault : FaultValue) (old new : Tallies) : Type 0 where
+pub record AreChanged (change : Change) (fault : FaultValue) (old new : Tallies) : Type 0 where
   pub many_links : length new.links ≡ length old.links
   pub many_nodes : length new.nodes ≡ length old.nodes
   pub links : (a b : ℕ) → a < length old.nodes → b < length old.nodes
       → link_tally (length old.nodes) new.links a b
-      ≡ link_turned change fault a b (link_tally (length old.nodes) old.links a b)
+      ≡ link_changed change fault a b (link_tally (length old.nodes) old.links a b)
   pub nodes : (a : ℕ) → a < length old.nodes
-      → node_tally new.nodes a ≡ node_turned change fault a (node_tally old.nodes a)
+      → node_tally new.nodes a ≡ node_changed change fault a (node_tally old.nodes a)
 
 -- the entry is in use with this stamp
 abbrev pub has_stamp : ℕ → Option FixEntry → Bool
@@ -205,37 +205,37 @@ AreMarked links old new =
     → (bit_at (slice_index_or new a 0) b == 1)
     ≡ ((bit_at (slice_index_or old a 0) b == 1) || names_link links a b)
 
--- the counts and the sum of a link can be turned
-pub record CanTurnCounts (change : Change) (fault : FaultValue) (a b : ℕ) (t : LinkTally)
+-- the counts and the sum of a link can be changed
+pub record CanChangeCounts (change : Change) (fault : FaultValue) (a b : ℕ) (t : LinkTally)
     : Type 0 where
-  pub cuts : CanTurn change 65535 t.cuts (one_if (cuts a b fault))
-  pub slowed : CanTurn change (2 ^ 64 - 1) t.slowed (delay_by a b fault)
+  pub cuts : CanChange change 65535 t.cuts (one_if (cuts a b fault))
+  pub slowed_ms : CanChange change (2 ^ 64 - 1) t.slowed_ms (delay_by a b fault)
   pub losses : (i : ℕ) → i < 20
-      → CanTurn change 65535 (slice_index_or t.losses i 0) (one_if (loses a b (i + 1) fault))
+      → CanChange change 65535 (slice_index_or t.losses i 0) (one_if (loses a b (i + 1) fault))
 
--- all counts and sums can be turned
-pub record CanTurnTallies (change : Change) (fault : FaultValue) (t : Tallies) : Type 0 where
+-- all counts and sums can be changed
+pub record CanChangeTallies (change : Change) (fault : FaultValue) (t : Tallies) : Type 0 where
   pub links : (a b : ℕ) → a < length t.nodes → b < length t.nodes
-      → CanTurnCounts change fault a b (link_tally (length t.nodes) t.links a b)
+      → CanChangeCounts change fault a b (link_tally (length t.nodes) t.links a b)
   pub pauses : (a : ℕ) → a < length t.nodes
-      → CanTurn change 65535 (node_tally t.nodes a).pauses (one_if (pauses a fault))
+      → CanChange change 65535 (node_tally t.nodes a).pauses (one_if (pauses a fault))
   pub kills : (a : ℕ) → a < length t.nodes
-      → CanTurn change 65535 (node_tally t.nodes a).kills (one_if (kills a fault))
-  pub clocks : All (λ n. IsWithin (2 ^ 61) n.bumped) t.nodes
+      → CanChange change 65535 (node_tally t.nodes a).kills (one_if (kills a fault))
+  pub clocks : All (λ n. IsWithin (2 ^ 61) n.bumped_ms) t.nodes
 
 -- there is a free entry for a fix that is put, and one with the stamp where it is taken
-abbrev pub CanTurnEntries : Change → ℕ → Option FixValue → List (Option FixEntry) → Type 0
-CanTurnEntries change stamp None entries = ⊤
-CanTurnEntries Change.Add stamp (Some fix) entries = count_by is_some entries < length entries
-CanTurnEntries Change.Remove stamp (Some fix) entries = list_any (has_stamp stamp) entries ≡ true
+abbrev pub CanChangeEntries : Change → ℕ → Option FixValue → List (Option FixEntry) → Type 0
+CanChangeEntries change stamp None entries = ⊤
+CanChangeEntries Change.Add stamp (Some fix) entries = count_by is_some entries < length entries
+CanChangeEntries Change.Remove stamp (Some fix) entries = list_any (has_stamp stamp) entries ≡ true
 
 -- an entry that was free holds the fix, or the one that held it is free
-abbrev pub AreEntriesTurned
+abbrev pub AreEntriesChanged
     : Change → ℕ → Option FixValue → List (Option FixEntry) → List (Option FixEntry) → Type 0
-AreEntriesTurned change stamp None old new = new ≡ old
-AreEntriesTurned Change.Add stamp (Some fix) old new =
+AreEntriesChanged change stamp None old new = new ≡ old
+AreEntriesChanged Change.Add stamp (Some fix) old new =
     (place : ℕ) × (entry : FixEntry) × (slice_get old place ≡ Some None)
     × IsEntryOf 64 stamp fix.0 fix.1 entry × (new ≡ slice_set old place (Some entry))
-AreEntriesTurned Change.Remove stamp (Some fix) old new =
+AreEntriesChanged Change.Remove stamp (Some fix) old new =
     (place : ℕ) × (entry : FixEntry) × (slice_get old place ≡ Some (Some entry))
     × (entry.stamp ≡ stamp) × (new ≡ slice_set old place None)

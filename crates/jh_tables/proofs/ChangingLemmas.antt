@@ -1,4 +1,4 @@
--- Turning the tallies of links and nodes one by one.
+-- Changing the tallies of links and nodes one by one.
 use Rattle.std.proofs.Common.{◌≡◌, ◌≢◌, ℕ, ◌+◌, ◌*◌, ◌<◌, ◌≤◌, ◌^◌, true, false, List, length, get_or, set, take, refl, ap, ◌∙◌, sym, arith, subst, zero, suc, get_or-set_same, get_or-set_other, add-one}
 use Rattle.std.specs.Prelude.{if◌then◌else◌, ◌||◌, ◌==◌, ℤ, pos, negsuc, ◌-◌, ◌+ℤ◌, ◌≤ℤ◌}
 use Rattle.std.specs.List.{All, list_any}
@@ -13,30 +13,30 @@ use Rattle.std.proofs.lemmas.Nat.{same_from_place, mul-add-lt}
 use Rattle.jh_tables.specs.declared.counted.LinkTally.{LinkTally}
 use Rattle.jh_tables.specs.declared.counted.NodeTally.{NodeTally}
 use Rattle.jh_tables.specs.declared.faults.LinkFault.{LinkFault}
-use Rattle.jh_tables.specs.declared.turning.Change.{Change}
+use Rattle.jh_tables.specs.declared.changing.Change.{Change}
 use Rattle.jh_tables.specs.declared.faults.NodeFault.{NodeFault}
 use Rattle.jh_tables.specs.Faults.{names_link, names_node, is_same_link, is_same_node, AreApart, AreBumps}
 use Rattle.jh_tables.specs.Faults.FaultValue.{Bump}
 use Rattle.jh_tables.specs.Overlay.{bump_by}
 use Rattle.jh_tables.specs.Tallies.{calm_tally, running_tally}
 use Rattle.jh_tables.specs.Standing.{IsWithin}
-use Rattle.jh_tables.specs.TurningInside.{AreLinksTurned, AreNodesTurned, AreClocksTurned, CanTurnLink, CanTurnLinks, CanTurnNode, CanTurnNodes, named_link_turned, named_node_turned, int_turned}
+use Rattle.jh_tables.specs.ChangingInside.{AreLinksChanged, AreNodesChanged, AreClocksChanged, CanChangeLink, CanChangeLinks, CanChangeNode, CanChangeNodes, named_link_changed, named_node_changed, int_changed}
 
 -- a link that is not named keeps its tally
 pub untouched : (change : Change) (fault : LinkFault) (links : List (ℕ × ℕ)) (n : ℕ) (old new : List LinkTally) (a b : ℕ)
-    → AreLinksTurned change fault links n old new → a < n → b < n → names_link links a b ≡ false
+    → AreLinksChanged change fault links n old new → a < n → b < n → names_link links a b ≡ false
     → get_or new (a * n + b) calm_tally ≡ get_or old (a * n + b) calm_tally
 untouched change fault links n old new a b laid p q h = rw h at (laid a b p q)
 
 -- one more of the links
 pub links_more : (change : Change) (fault : LinkFault) (links : List (ℕ × ℕ)) (i n : ℕ) (old mid : List LinkTally) (x : ℕ × ℕ) (y : LinkTally)
     → i < length links → x ≡ get_or links i x → x.0 < n → x.1 < n → AreApart is_same_link links → length mid ≡ n * n
-    → y ≡ named_link_turned change fault (get_or mid (x.0 * n + x.1) calm_tally)
-    → AreLinksTurned change fault (take i links) n old mid → AreLinksTurned change fault (take (i + 1) links) n old (set mid (x.0 * n + x.1) y)
+    → y ≡ named_link_changed change fault (get_or mid (x.0 * n + x.1) calm_tally)
+    → AreLinksChanged change fault (take i links) n old mid → AreLinksChanged change fault (take (i + 1) links) n old (set mid (x.0 * n + x.1) y)
 links_more change fault links i n old mid x y h is p q apart size val laid a b ha hb =
     rw (list_any_more (λ l. is_same_link l (a, b)) links i x h, ← is)
     (elim (is_same_link x (a, b)) as (λ s. is_same_link x (a, b) ≡ s → get_or (set mid (x.0 * n + x.1) y) (a * n + b) calm_tally
-    ≡ (if names_link (take i links) a b || s then named_link_turned change fault (get_or old (a * n + b) calm_tally) else get_or old (a * n + b) calm_tally)) [
+    ≡ (if names_link (take i links) a b || s then named_link_changed change fault (get_or old (a * n + b) calm_tally) else get_or old (a * n + b) calm_tally)) [
       | true ↦ λ s.
           let new : names_link (take i links) x.0 x.1 ≡ false = rw (← is) at (apart i x h) in
           let parts = and_parts (x.0 == a) (x.1 == b) s in
@@ -51,12 +51,12 @@ links_more change fault links i n old mid x y h is p q apart size val laid a b h
           rw (or-false (names_link (take i links) a b), get_or-set_other mid (x.0 * n + x.1) (a * n + b) y calm_tally other) (laid a b ha hb)
     ] refl)
 
--- the next link's tally can be turned, since none before it is the same link
-pub can_turn_next : (change : Change) (fault : LinkFault) (links : List (ℕ × ℕ)) (i n : ℕ) (old mid : List LinkTally) (x : ℕ × ℕ)
+-- the next link's tally can be changed, since none before it is the same link
+pub can_change_next : (change : Change) (fault : LinkFault) (links : List (ℕ × ℕ)) (i n : ℕ) (old mid : List LinkTally) (x : ℕ × ℕ)
     → i < length links → x ≡ get_or links i x → x.0 < n → x.1 < n → AreApart is_same_link links
-    → AreLinksTurned change fault (take i links) n old mid → CanTurnLinks change fault links n old
-    → CanTurnLink change fault (get_or mid (x.0 * n + x.1) calm_tally)
-can_turn_next change fault links i n old mid x h is p q apart laid room =
+    → AreLinksChanged change fault (take i links) n old mid → CanChangeLinks change fault links n old
+    → CanChangeLink change fault (get_or mid (x.0 * n + x.1) calm_tally)
+can_change_next change fault links i n old mid x h is p q apart laid room =
     let new : names_link (take i links) x.0 x.1 ≡ false = rw (← is) at (apart i x h) in
     let same = untouched change fault (take i links) n old mid x.0 x.1 laid p q new in
     let itself : is_same_link x (x.0, x.1) ≡ true = and_from (x.0 == x.0) (x.1 == x.1) (eq-eqb x.0 x.0 refl) (eq-eqb x.1 x.1 refl) in
@@ -81,37 +81,37 @@ node_more before after old mid k y below size laid here others a ha =
 -- one more of the nodes
 pub nodes_more : (change : Change) (fault : NodeFault) (nodes : List ℕ) (i : ℕ) (old mid : List NodeTally) (x : ℕ) (y : NodeTally)
     → i < length nodes → x ≡ get_or nodes i x → x < length old → AreApart is_same_node nodes → length mid ≡ length old
-    → y ≡ named_node_turned change fault (get_or mid x running_tally)
-    → AreNodesTurned change fault (take i nodes) old mid → AreNodesTurned change fault (take (i + 1) nodes) old (set mid x y)
+    → y ≡ named_node_changed change fault (get_or mid x running_tally)
+    → AreNodesChanged change fault (take i nodes) old mid → AreNodesChanged change fault (take (i + 1) nodes) old (set mid x y)
 nodes_more change fault nodes i old mid x y h is below apart size val laid =
     let new : names_node (take i nodes) x ≡ false = rw (← is) at (apart i x h) in
     let one = (λ (a : ℕ). list_any_more (λ n. n == a) nodes i x h) in
     let same : get_or mid x running_tally ≡ get_or old x running_tally = rw new at (laid x below) in
     let added : names_node (take (i + 1) nodes) x ≡ true = one x ∙ rw (← is, eq-eqb x x refl) (or_right (names_node (take i nodes) x) true refl) in
     node_more
-    (λ a n. if names_node (take i nodes) a then named_node_turned change fault n else n)
-    (λ a n. if names_node (take (i + 1) nodes) a then named_node_turned change fault n else n)
+    (λ a n. if names_node (take i nodes) a then named_node_changed change fault n else n)
+    (λ a n. if names_node (take (i + 1) nodes) a then named_node_changed change fault n else n)
     old mid x y below size laid (val ∙ rw (same, added) refl)
     (λ a n other. let e : names_node (take (i + 1) nodes) a ≡ names_node (take i nodes) a = one a ∙ rw (← is, other) (or-false (names_node (take i nodes) a)) in rw e refl)
 
--- the next node's tally can be turned, since none before it is the same node
-pub can_turn_next_node : (change : Change) (fault : NodeFault) (nodes : List ℕ) (i : ℕ) (old mid : List NodeTally) (x : ℕ)
+-- the next node's tally can be changed, since none before it is the same node
+pub can_change_next_node : (change : Change) (fault : NodeFault) (nodes : List ℕ) (i : ℕ) (old mid : List NodeTally) (x : ℕ)
     → i < length nodes → x ≡ get_or nodes i x → x < length old → AreApart is_same_node nodes
-    → AreNodesTurned change fault (take i nodes) old mid → CanTurnNodes change fault nodes old → CanTurnNode change fault (get_or mid x running_tally)
-can_turn_next_node change fault nodes i old mid x h is below apart laid room =
+    → AreNodesChanged change fault (take i nodes) old mid → CanChangeNodes change fault nodes old → CanChangeNode change fault (get_or mid x running_tally)
+can_change_next_node change fault nodes i old mid x h is below apart laid room =
     let new : names_node (take i nodes) x ≡ false = rw (← is) at (apart i x h) in
     let same : get_or mid x running_tally ≡ get_or old x running_tally = rw new at (laid x below) in
     let named : names_node nodes x ≡ true = list_any_at (λ n. n == x) nodes i x h (rw (← is) (eq-eqb x x refl)) in
     rw same (room x below named)
 
--- turning twice is turning by both amounts
-pub turned_again : (change : Change) (z m n : ℤ) → int_turned change (int_turned change z m) n ≡ int_turned change z (m +ℤ n)
-turned_again Change.Add z m n = omega (arith, ints)
-turned_again Change.Remove z m n = omega (arith, ints)
+-- changing twice is changing by both amounts
+pub changed_again : (change : Change) (z m n : ℤ) → int_changed change (int_changed change z m) n ≡ int_changed change z (m +ℤ n)
+changed_again Change.Add z m n = omega (arith, ints)
+changed_again Change.Remove z m n = omega (arith, ints)
 
-pub turned_by_nothing : (change : Change) (z : ℤ) → int_turned change z (pos 0) ≡ z
-turned_by_nothing Change.Add z = omega (arith, ints)
-turned_by_nothing Change.Remove z = omega (arith, ints)
+pub changed_by_nothing : (change : Change) (z : ℤ) → int_changed change z (pos 0) ≡ z
+changed_by_nothing Change.Add z = omega (arith, ints)
+changed_by_nothing Change.Remove z = omega (arith, ints)
 
 moved_more : (bumps : List (ℕ × ℤ)) (i : ℕ) (x : ℕ × ℤ) (a : ℕ) → i < length bumps → x ≡ get_or bumps i x
     → bump_by a (Bump (take (i + 1) bumps)) ≡ (bump_by a (Bump (take i bumps)) +ℤ (if x.0 == a then x.1 else pos 0))
@@ -120,14 +120,14 @@ moved_more bumps i x a h is = fold_more (λ z n. z +ℤ (if n.0 == a then n.1 el
 -- one more of the bumps
 pub bumps_more : (change : Change) (bumps : List (ℕ × ℤ)) (i : ℕ) (x : ℕ × ℤ) (old mid : List NodeTally) (y : NodeTally)
     → i < length bumps → x ≡ get_or bumps i x → x.0 < length old → length mid ≡ length old
-    → y ≡ (let t = get_or mid x.0 running_tally in record t { bumped = int_turned change t.bumped x.1 })
-    → AreClocksTurned change (take i bumps) old mid → AreClocksTurned change (take (i + 1) bumps) old (set mid x.0 y)
+    → y ≡ (let t = get_or mid x.0 running_tally in record t { bumped_ms = int_changed change t.bumped_ms x.1 })
+    → AreClocksChanged change (take i bumps) old mid → AreClocksChanged change (take (i + 1) bumps) old (set mid x.0 y)
 bumps_more change bumps i x old mid y h is below size val laid =
     node_more
-    (λ a t. record t { bumped = int_turned change t.bumped (bump_by a (Bump (take i bumps))) })
-    (λ a t. record t { bumped = int_turned change t.bumped (bump_by a (Bump (take (i + 1) bumps))) })
+    (λ a t. record t { bumped_ms = int_changed change t.bumped_ms (bump_by a (Bump (take i bumps))) })
+    (λ a t. record t { bumped_ms = int_changed change t.bumped_ms (bump_by a (Bump (take (i + 1) bumps))) })
     old mid x.0 y below size laid
-    (val ∙ rw (laid x.0 below, moved_more bumps i x x.0 h is, eq-eqb x.0 x.0 refl, turned_again change (get_or old x.0 running_tally).bumped (bump_by x.0 (Bump (take i bumps))) x.1) refl)
+    (val ∙ rw (laid x.0 below, moved_more bumps i x x.0 h is, eq-eqb x.0 x.0 refl, changed_again change (get_or old x.0 running_tally).bumped_ms (bump_by x.0 (Bump (take i bumps))) x.1) refl)
     (λ a t other. rw (moved_more bumps i x a h is, other, +ℤ_idr (bump_by a (Bump (take i bumps)))) refl)
 
 -- bumps of different nodes move a clock by at most one of them
@@ -158,20 +158,20 @@ moved_within bumps right a (suc i) short =
       | false ↦ λ s. rw (or-false (list_any (λ b. b.0 == a) (take i bumps)), +ℤ_idr (bump_by a (Bump (take i bumps)))) before
     ] refl)
 
--- the same, where all of them were turned
+-- the same, where all of them were changed
 pub all_moved : (bumps : List (ℕ × ℤ)) → AreBumps bumps → (a : ℕ) → IsWithin (10 ^ 9) (bump_by a (Bump bumps))
 all_moved bumps right a =
     let short : length bumps ≤ length bumps = omega arith in
     let all : take (length bumps) bumps ≡ bumps = take_all (length bumps) bumps short in
     subst (λ (some : List (ℕ × ℤ)). IsWithin (10 ^ 9) (bump_by a (Bump some))) all (moved_within bumps right a (length bumps) short).1
 
-turned_within : (change : Change) (z m : ℤ) (most more : ℕ) → IsWithin most z → IsWithin more m → IsWithin (most + more) (int_turned change z m)
-turned_within Change.Add z m most more h k = (omega (arith, ints, h.0, k.0), omega (arith, ints, h.1, k.1))
-turned_within Change.Remove z m most more h k = (omega (arith, ints, h.0, k.1), omega (arith, ints, h.1, k.0))
+changed_within : (change : Change) (z m : ℤ) (most more : ℕ) → IsWithin most z → IsWithin more m → IsWithin (most + more) (int_changed change z m)
+changed_within Change.Add z m most more h k = (omega (arith, ints, h.0, k.0), omega (arith, ints, h.1, k.1))
+changed_within Change.Remove z m most more h k = (omega (arith, ints, h.0, k.1), omega (arith, ints, h.1, k.0))
 
--- the clock of the next node can be turned
+-- the clock of the next node can be changed
 pub bump_room : (change : Change) (bumps : List (ℕ × ℤ)) (i a : ℕ) (old mid : List NodeTally) → AreBumps bumps → i ≤ length bumps → a < length old
-    → AreClocksTurned change (take i bumps) old mid → All (λ n. IsWithin (2 ^ 61) n.bumped) old → IsWithin (2 ^ 62) (get_or mid a running_tally).bumped
+    → AreClocksChanged change (take i bumps) old mid → All (λ n. IsWithin (2 ^ 61) n.bumped_ms) old → IsWithin (2 ^ 62) (get_or mid a running_tally).bumped_ms
 bump_room change bumps i a old mid right short below laid within =
-    let w = turned_within change (get_or old a running_tally).bumped (bump_by a (Bump (take i bumps))) (2 ^ 61) (10 ^ 9) (within a running_tally below) (moved_within bumps right a i short).1 in
+    let w = changed_within change (get_or old a running_tally).bumped_ms (bump_by a (Bump (take i bumps))) (2 ^ 61) (10 ^ 9) (within a running_tally below) (moved_within bumps right a i short).1 in
     rw (laid a below) (omega (arith, ints, w.0), omega (arith, ints, w.1))
