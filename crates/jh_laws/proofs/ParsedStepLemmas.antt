@@ -21,14 +21,14 @@ use Rattle.jh_env.proofs.FaultLemmas.{kept_apart, kept_all, none_apart}
 use Rattle.jh_env.specs.TextErrors.{place_of}
 use Rattle.jh_env.specs.Naming.{link_names, node_name, bump_spelled, known_pair, ends_of, named_node, bump_of, are_bumps}
 use Rattle.jh_step_texts.specs.FaultText.{FaultSpelling, Links, Nodes, Bumps, SplitOne, Grudge, IsRingOverAll, result_or_refusal, links_in, nodes_in, bumps_in, amount_within, slow_kind, loss_kind, fix_kind, named_fault, shuffled_ring, plain_fault, measured_fault, spelling_in, parsed_links, parsed_nodes, parsed_bumps, cut_of, parsed_split, parsed_named, parsed_fault, fault_spelling}
-use Rattle.jh_step_texts.specs.ShapeInside.{IsRightSpelling}
+use Rattle.jh_step_texts.specs.SpellingInside.{IsRightSpelling}
 use Rattle.jh_step_texts.specs.NamedFaults.{AreLinksAmong, links_that, crosses, crosses_halves, crosses_bridge, touches, leaves_majority, is_at, is_option_of, ring_links, seeded_order}
 use Rattle.jh_step_texts.specs.StepText.{id_of, begin_of_fault, parsed_begin, parsed_withdraw, parsed_keyword, step_of_elements, parsed_step, fault_of_begin}
 use Rattle.jh_nemesis.specs.declared.steps.Step.{Step}
 use Rattle.jh_nemesis.specs.declared.steps.Step.TheVariants.{Withdraw, WithdrawAll, Undo, Redo}
 use Rattle.jh_step_texts.specs.declared.steps.StepTextError.{StepTextError}
 use Rattle.jh_step_texts.specs.declared.steps.StepTextError.TheVariants.{BadStep, BadId, UnknownNode, SelfLink, BadAmount}
-use Rattle.jh_step_texts.specs.declared.shapes.Named.{Named}
+use Rattle.jh_step_texts.specs.declared.spelling.NamedGrudge.{NamedGrudge}
 use Rattle.jh_env.proofs.BumpLemmas.{bumps_right}
 use Rattle.jh_step_texts.proofs.GrudgeLemmas.{made_crossing, places_apart, order_distinct}
 use Rattle.jh_step_texts.proofs.LinkLemmas.{some_of_any, in_range, in_links}
@@ -236,12 +236,12 @@ ringing order n apart k d within =
         elsewhere seen.0 dropped.0 m (slice_get_within order seen.0 dst to) (omega (arith, steps.0)) (omega (arith, steps.0, steps.1))
         (one_place order apart seen.0 ((seen.0 + dropped.0) % m) dst to (subst (λ a. slice_get order ((seen.0 + dropped.0) % m) ≡ Some a) same from))
 
-named_parsed : (n : ℕ) (named : Named) → IsRingOverAll n (Some (Grudge named)) → IfOk (parsed_named n named) (IsFaultOn n)
-named_parsed n Named.Halves ring = cut_made n (links_that (crosses_halves n) n) (crossing (λ a. nat_lt a (n / 2)) n)
-named_parsed n Named.Bridge ring = cut_made n (links_that (crosses_bridge n) n) (bridging n)
-named_parsed n Named.Ring ring = cut_made n (ring_links (node_places n) n) (ringing (node_places n) n (places_apart n))
-named_parsed n (Named.ShuffledRing (pos seed)) ring = cut_made n (ring_links (seeded_order seed n) n) (ringing (seeded_order seed n) n (order_distinct n (seeded_order seed n) ring))
-named_parsed n (Named.ShuffledRing (negsuc z)) ring = tt
+named_parsed : (n : ℕ) (named : NamedGrudge) → IsRingOverAll n (Some (Grudge named)) → IfOk (parsed_named n named) (IsFaultOn n)
+named_parsed n NamedGrudge.Halves ring = cut_made n (links_that (crosses_halves n) n) (crossing (λ a. nat_lt a (n / 2)) n)
+named_parsed n NamedGrudge.Bridge ring = cut_made n (links_that (crosses_bridge n) n) (bridging n)
+named_parsed n NamedGrudge.Ring ring = cut_made n (ring_links (node_places n) n) (ringing (node_places n) n (places_apart n))
+named_parsed n (NamedGrudge.ShuffledRing (pos seed)) ring = cut_made n (ring_links (seeded_order seed n) n) (ringing (seeded_order seed n) n (order_distinct n (seeded_order seed n) ring))
+named_parsed n (NamedGrudge.ShuffledRing (negsuc z)) ring = tt
 
 split_parsed : (names : List (List ℕ)) (loner : List ℕ) → IfOk (parsed_split names loner) (IsFaultOn (length names))
 split_parsed names loner =

@@ -22,7 +22,7 @@ use Rattle.jh_step_texts.specs.declared.steps.StepTextError.{StepTextError}
 use Rattle.jh_step_texts.specs.declared.steps.StepTextError.TheVariants.{UnknownNode, SelfLink}
 use Rattle.jh_step_texts.specs.declared.steps.StepTextError.TheVariants.{BadAmount, OutOfMemory}
 use Rattle.jh_step_texts.specs.NamedFaults.{links_that, named_links, touches, IsOverAll}
-use Rattle.jh_step_texts.specs.declared.shapes.Named.{Named}
+use Rattle.jh_step_texts.specs.declared.spelling.NamedGrudge.{NamedGrudge}
 
 -- a fault as it is spelled: its kind, none where the amount is out of its range, and the values of
 -- its links; its kind and the values of its nodes; those of its bumps; or the loner's name; or the
@@ -32,7 +32,7 @@ pub data FaultSpelling : Type 0 where
   Nodes : NodeFault → List Edn → FaultSpelling
   Bumps : List (Edn × Edn) → FaultSpelling
   SplitOne : List ℕ → FaultSpelling
-  Grudge : Named → FaultSpelling
+  Grudge : NamedGrudge → FaultSpelling
 
 -- these, if each of them is such
 abbrev pub all_of : {A : Type 0} → (A → Bool) → List A → Option (List A)
@@ -49,17 +49,17 @@ bumps_in (mapping ms) = all_of (λ b. is_some (bump_spelled b)) (pairs_in ms)
 bumps_in _ = None
 
 -- a keyword alone
-abbrev pub named_fault : List ℕ → Option FaultSpelling
-named_fault name =
-    if bytes_eq name (codes "halves") then Some (Grudge Named.Halves)
-    else if bytes_eq name (codes "bridge") then Some (Grudge Named.Bridge)
-    else if bytes_eq name (codes "ring") then Some (Grudge Named.Ring)
+abbrev pub spelled_by_keyword : List ℕ → Option FaultSpelling
+spelled_by_keyword name =
+    if bytes_eq name (codes "halves") then Some (Grudge NamedGrudge.Halves)
+    else if bytes_eq name (codes "bridge") then Some (Grudge NamedGrudge.Bridge)
+    else if bytes_eq name (codes "ring") then Some (Grudge NamedGrudge.Ring)
     else None
 
 -- a ring in the order that a seed gives
-abbrev pub shuffled_ring : Edn → Option FaultSpelling
-shuffled_ring (int seed) = Some (Grudge (Named.ShuffledRing seed))
-shuffled_ring _ = None
+abbrev pub spelled_ring : Edn → Option FaultSpelling
+spelled_ring (int seed) = Some (Grudge (NamedGrudge.ShuffledRing seed))
+spelled_ring _ = None
 
 -- a keyword and what it is about
 abbrev pub plain_fault : List ℕ → Edn → Option FaultSpelling
@@ -69,7 +69,7 @@ plain_fault name v =
     else if bytes_eq name (codes "kill") then option_map (Nodes NodeFault.Kill) (nodes_in v)
     else if bytes_eq name (codes "bump") then option_map Bumps (bumps_in v)
     else if bytes_eq name (codes "split-one") then option_map SplitOne (node_name v)
-    else if bytes_eq name (codes "ring") then shuffled_ring v
+    else if bytes_eq name (codes "ring") then spelled_ring v
     else None
 
 -- an integer from the least to the most
@@ -98,7 +98,7 @@ measured_fault name z v =
     else None
 
 abbrev pub spelling_in : List Edn → Option FaultSpelling
-spelling_in (keyword name ∷ []) = named_fault name
+spelling_in (keyword name ∷ []) = spelled_by_keyword name
 spelling_in (keyword name ∷ v ∷ []) = plain_fault name v
 spelling_in (keyword name ∷ int z ∷ v ∷ []) = measured_fault name z v
 spelling_in _ = None
@@ -147,7 +147,7 @@ parsed_split names loner =
     result_or_refusal (place_of names loner) UnknownNode
     (λ place. Ok (cut_of (links_that (touches place) (length names))))
 
-abbrev pub parsed_named : ℕ → Named → Result FaultValue StepTextError
+abbrev pub parsed_named : ℕ → NamedGrudge → Result FaultValue StepTextError
 parsed_named count named =
     result_or_refusal (named_links named count) BadAmount (λ links. Ok (cut_of links))
 

@@ -1,7 +1,7 @@
 pub mod NamedFaults
 pub mod GrudgeLaws
 pub mod FaultText
-pub mod ShapeInside
+pub mod SpellingInside
 pub mod StepText
 pub mod StepWritten
 pub mod FaultWritten

@@ -12,7 +12,7 @@ use Rattle.rand_core.specs.Steps.{steps_u32, stream_of}
 use Rattle.rand_pcg.specs.Pcg.{pcg32, pcg32_of_seed}
 use Rattle.rand.specs.Shuffle.{shuffled}
 use Rattle.jh_env.specs.Names.{node_places}
-use Rattle.jh_step_texts.specs.declared.shapes.Named.{Named}
+use Rattle.jh_step_texts.specs.declared.spelling.NamedGrudge.{NamedGrudge}
 
 -- all pairs of places, by the first and then by the second
 abbrev pub all_pairs : ℕ → List (ℕ × ℕ)
@@ -71,14 +71,14 @@ seeded_order seed n =
     (stream_of (steps_u32 pcg32) (pcg32_of_seed (pcg32_seed 16 seed)))).0
 
 -- a ring in the order that a seed gives is laid over all n nodes, each once
-abbrev pub IsOverAll : ℕ → Named → Type 0
-IsOverAll n (Named.ShuffledRing (pos seed)) = IsPermutation (node_places n) (seeded_order seed n)
+abbrev pub IsOverAll : ℕ → NamedGrudge → Type 0
+IsOverAll n (NamedGrudge.ShuffledRing (pos seed)) = IsPermutation (node_places n) (seeded_order seed n)
 IsOverAll n _ = Unit {0}
 
 -- the links that a named fault cuts between n nodes; a seed below zero is none
-abbrev pub named_links : Named → ℕ → Option (List (ℕ × ℕ))
-named_links Named.Halves n = Some (links_that (crosses_halves n) n)
-named_links Named.Bridge n = Some (links_that (crosses_bridge n) n)
-named_links Named.Ring n = Some (ring_links (node_places n) n)
-named_links (Named.ShuffledRing (pos seed)) n = Some (ring_links (seeded_order seed n) n)
-named_links (Named.ShuffledRing (negsuc z)) n = None
+abbrev pub named_links : NamedGrudge → ℕ → Option (List (ℕ × ℕ))
+named_links NamedGrudge.Halves n = Some (links_that (crosses_halves n) n)
+named_links NamedGrudge.Bridge n = Some (links_that (crosses_bridge n) n)
+named_links NamedGrudge.Ring n = Some (ring_links (node_places n) n)
+named_links (NamedGrudge.ShuffledRing (pos seed)) n = Some (ring_links (seeded_order seed n) n)
+named_links (NamedGrudge.ShuffledRing (negsuc z)) n = None

@@ -7,10 +7,10 @@ ghost use Rattle.jh_env.specs.Amounts.{IsLinkAmount};
 ghost use Rattle.jh_env.specs.Faults.{FitsCount};
 ghost use Rattle.jh_step_texts.specs.FaultText.{IsParsedAs, IsRingOverAll, parsed_bumps};
 ghost use Rattle.jh_step_texts.specs.FaultText.{parsed_fault, parsed_links, parsed_nodes};
-ghost use Rattle.jh_step_texts.specs.ShapeInside.{IsRightSpelling, spelling_of};
+ghost use Rattle.jh_step_texts.specs.SpellingInside.{IsRightSpelling, spelling_of};
 
 use crate::named::{named_fault, split_fault};
-use crate::shapes::SpelledFault;
+use crate::spelling::SpelledFault;
 use crate::steps::StepTextError;
 use jh_edn::Value;
 use jh_env::{Fault, LinkFault, NodeFault, Nodes};

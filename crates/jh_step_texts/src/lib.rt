@@ -8,7 +8,7 @@ mod faults;
 mod laws;
 mod named;
 mod ordering;
-mod shapes;
+mod spelling;
 mod steps;
 mod writing;
 

@@ -19,7 +19,7 @@ ghost use Rattle.jh_step_texts.specs.NamedFaults.{
   touches,
 };
 
-use crate::shapes::Named;
+use crate::spelling::NamedGrudge;
 use crate::steps::StepTextError;
 use jh_env::{Fault, LinkFault, Node, Nodes};
 use jh_grudge::{Grudge, SplitError, bisect, bridge, complete_grudge, majorities_ring, split_one};
@@ -120,7 +120,7 @@ fn shuffled_ring(alloc: Global, nodes: &Nodes, seed: u64) -> Result<Grudge, Allo
 }
 
 /// The grudge of this name; none where its seed is below zero.
-fn grudge_of(alloc: Global, nodes: &Nodes, named: Named) -> Option<Result<Grudge, AllocError>>
+fn grudge_of(alloc: Global, nodes: &Nodes, named: NamedGrudge) -> Option<Result<Grudge, AllocError>>
     ensures all { IfSome result (λ made. IfOk made (λ _. IsOverAll (length nodes.now) named)) }
     ensures links { MatchOption result
         (named_links named (length nodes.now) ≡ None)
@@ -129,10 +129,10 @@ fn grudge_of(alloc: Global, nodes: &Nodes, named: Named) -> Option<Result<Grudge
         × AreLinksAmong (length nodes.now) grudge)) }
 {
     match named {
-        Named::Halves => Some(halves(alloc, nodes)),
-        Named::Bridge => Some(around_bridge(alloc, nodes)),
-        Named::Ring => Some(listed_ring(alloc, nodes)),
-        Named::ShuffledRing(seed) => match u64::try_from(seed) {
+        NamedGrudge::Halves => Some(halves(alloc, nodes)),
+        NamedGrudge::Bridge => Some(around_bridge(alloc, nodes)),
+        NamedGrudge::Ring => Some(listed_ring(alloc, nodes)),
+        NamedGrudge::ShuffledRing(seed) => match u64::try_from(seed) {
             Ok(seed) => Some(shuffled_ring(alloc, nodes, seed)),
             Err(_) => None,
         },
@@ -152,7 +152,7 @@ fn cut(alloc: Global, nodes: &Nodes, grudge: &Grudge) -> Result<Fault, StepTextE
 }
 
 /// The cut of the grudge of this name.
-pub fn named_fault(alloc: Global, nodes: &Nodes, named: Named) -> Result<Fault, StepTextError>
+pub fn named_fault(alloc: Global, nodes: &Nodes, named: NamedGrudge) -> Result<Fault, StepTextError>
     ensures parsed { IsParsedAs result (parsed_named (length nodes.now) named) }
     ensures all { IfOk result (λ _. IsOverAll (length nodes.now) named) }
     ensures fits { IfOk result (FitsCount (length nodes.now)) }

@@ -9,7 +9,7 @@ ghost use Rattle.jh_step_texts.specs.StepText.{parsed_step, parsed_begin, fault_
 ghost use Rattle.jh_step_texts.specs.StepText.{parsed_withdraw, parsed_keyword};
 ghost use Rattle.jh_nemesis.specs.Steps.{FitsNodes};
 
-use crate::{faults, shapes};
+use crate::{faults, spelling};
 use jh_edn::Value;
 use jh_env::{FaultError, Nodes};
 use jh_nemesis::Step;
@@ -74,13 +74,13 @@ fn begin_of(alloc: Global, nodes: &Nodes, id: i64, fault: &Value) -> Result<Step
         (λ _. IsRingOverAll (length nodes.now) (fault_spelling (view fault.now))) }
     ensures fits { IfOk result (FitsNodes (length nodes.now)) }
 {
-    let Some(shape) = shapes::shape_of(fault) else {
+    let Some(spelled) = spelling::fault_spelling(fault) else {
         return Err(StepTextError::BadStep);
     };
     let Some(id) = id_of(id) else {
         return Err(StepTextError::BadId);
     };
-    match faults::fault_of(alloc, nodes, shape) {
+    match faults::fault_of(alloc, nodes, spelled) {
         Ok(fault) => Ok(Step::Begin(id, fault)),
         Err(refusal) => Err(refusal),
     }

@@ -6,14 +6,14 @@ ghost use Rattle.std.specs.List.{list_all};
 ghost use Rattle.jh_edn.specs.View.{view, views, view_pair, view_pairs};
 ghost use Rattle.jh_env.specs.Naming as naming;
 ghost use Rattle.jh_step_texts.specs.FaultText as rule;
-ghost use Rattle.jh_step_texts.specs.ShapeInside.{IsRightSpelling, spelling_of};
+ghost use Rattle.jh_step_texts.specs.SpellingInside.{IsRightSpelling, spelling_of};
 
 use jh_edn::Value;
 use jh_env::{LinkFault, NodeFault, bump_spelled, is_link_amount, link_names, node_name};
 
 /// A cut that is named by its grudge over all nodes.
 #[derive(Clone, Copy, Debug, PartialEq, Eq)]
-pub enum Named {
+pub enum NamedGrudge {
     Halves,
     Bridge,
     Ring,
@@ -30,7 +30,7 @@ pub enum SpelledFault<'a> {
     Nodes(NodeFault, &'a [Value]),
     Bumps(&'a [(Value, Value)]),
     SplitOne(&'a str),
-    Grudge(Named),
+    Grudge(NamedGrudge),
 }
 
 /// Whether a value has the shape of a link.
@@ -124,23 +124,23 @@ fn bumps_in(value: &Value) -> Option<&[(Value, Value)]>
 }
 
 /// The fault that a keyword alone spells, if it does.
-fn named_fault(name: &str) -> Option<SpelledFault<'_>>
-    ensures { option_map spelling_of result ≡ rule.named_fault name.now }
+fn spelled_by_keyword(name: &str) -> Option<SpelledFault<'_>>
+    ensures { option_map spelling_of result ≡ rule.spelled_by_keyword name.now }
 {
     match name {
-        "halves" => Some(SpelledFault::Grudge(Named::Halves)),
-        "bridge" => Some(SpelledFault::Grudge(Named::Bridge)),
-        "ring" => Some(SpelledFault::Grudge(Named::Ring)),
+        "halves" => Some(SpelledFault::Grudge(NamedGrudge::Halves)),
+        "bridge" => Some(SpelledFault::Grudge(NamedGrudge::Bridge)),
+        "ring" => Some(SpelledFault::Grudge(NamedGrudge::Ring)),
         _ => None,
     }
 }
 
 /// The ring in the order that a seed gives, if the value is an integer.
-fn shuffled_ring(seed: &Value) -> Option<SpelledFault<'_>>
-    ensures { option_map spelling_of result ≡ rule.shuffled_ring (view seed.now) }
+fn spelled_ring(seed: &Value) -> Option<SpelledFault<'_>>
+    ensures { option_map spelling_of result ≡ rule.spelled_ring (view seed.now) }
 {
     match seed {
-        Value::Int(seed) => Some(SpelledFault::Grudge(Named::ShuffledRing(*seed))),
+        Value::Int(seed) => Some(SpelledFault::Grudge(NamedGrudge::ShuffledRing(*seed))),
         _ => None,
     }
 }
@@ -155,7 +155,7 @@ fn plain_fault<'a>(name: &str, value: &'a Value) -> Option<SpelledFault<'a>>
         "kill" => Some(SpelledFault::Nodes(NodeFault::Kill, nodes_in(value)?)),
         "bump" => Some(SpelledFault::Bumps(bumps_in(value)?)),
         "split-one" => Some(SpelledFault::SplitOne(node_name(value)?)),
-        "ring" => shuffled_ring(value),
+        "ring" => spelled_ring(value),
         _ => None,
     }
 }
@@ -207,12 +207,12 @@ fn measured_fault<'a>(name: &str, amount: i64, value: &'a Value) -> Option<Spell
 }
 
 /// How a value spells a fault, if it does.
-pub fn shape_of(fault: &Value) -> Option<SpelledFault<'_>>
+pub fn fault_spelling(fault: &Value) -> Option<SpelledFault<'_>>
     ensures spelled { option_map spelling_of result ≡ rule.fault_spelling (view fault.now) }
-    ensures right { IfSome result (λ shape. IsRightSpelling (spelling_of shape)) }
+    ensures right { IfSome result (λ spelled. IsRightSpelling (spelling_of spelled)) }
 {
     match fault.elements()? {
-        [Value::Keyword(name)] => named_fault(name.as_str()),
+        [Value::Keyword(name)] => spelled_by_keyword(name.as_str()),
         [Value::Keyword(name), value] => plain_fault(name.as_str(), value),
         [Value::Keyword(name), Value::Int(amount), value] => {
             measured_fault(name.as_str(), *amount, value)

@@ -4,7 +4,7 @@ use Rattle.jh_edn.specs.View.{views, view_pairs}
 use Rattle.jh_env.specs.Amounts.{IsLinkAmount}
 use Rattle.jh_step_texts.specs.FaultText.{FaultSpelling}
 use Rattle.jh_step_texts.specs.FaultText.FaultSpelling.{Links, Nodes, Bumps, SplitOne, Grudge}
-use Rattle.jh_step_texts.specs.declared.shapes.SpelledFault.{SpelledFault}
+use Rattle.jh_step_texts.specs.declared.spelling.SpelledFault.{SpelledFault}
 
 -- a fault, by the values that it borrows
 abbrev pub spelling_of : SpelledFault → FaultSpelling
