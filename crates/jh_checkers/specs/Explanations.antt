@@ -2,7 +2,7 @@
 -- which its search got stuck, and what was pending there; what of it is given here is this
 -- project's own). Operations of the register go by their numbers, as in orders: their places in
 -- the list of them.
-use Rattle.std.specs.Prelude.{◌≡◌, ℕ, ◌&&◌, Bool, true, false, not, nat_lt, List, map, filter}
+use Rattle.std.specs.Prelude.{◌≡◌, ℕ, ◌&&◌, Bool, true, false, nat_le, nat_lt, List, map, filter}
 use Rattle.std.specs.Prelude.{slice_get, Option, Some, None, option_map, IsSomeAnd}
 use Rattle.std.specs.List.{enumerate_from}
 use Rattle.jh_ops.specs.Operation.{Operation, operation}
@@ -14,20 +14,16 @@ use Rattle.jh_linear.specs.declared.verdict.LinVerdict.{LinVerdict}
 use Rattle.jh_linear.specs.declared.verdict.LinVerdict.TheVariants.{Invalid}
 use Rattle.jh_checkers.specs.declared.explanation.Explanation.{Explanation}
 
--- it is known whether the operation happened
-abbrev pub is_sure : Outcome → Bool
-is_sure Done = true
-is_sure Failed = true
-is_sure Unsure = false
+-- Whether an operation that ended so is still open at this place of the history, where `end` is where
+-- it ended. What failed did not happen, so no order has to place it; what crashed is open for ever.
+abbrev pub is_open_at : ℕ → Outcome → ℕ → Bool
+is_open_at place Done end = nat_le place end
+is_open_at place Failed end = false
+is_open_at place Unsure end = true
 
--- the operation has its `:ok` or its `:fail` before this place of the history
-abbrev pub is_over : ℕ → RegOp → Bool
-is_over end call = is_sure call.outcome && nat_lt (op_end call) end
-
--- The operation was invoked before this place of the history, and is not over there. One that
--- crashed never is.
+-- The operation was invoked before this place of the history, and is open there.
 abbrev pub is_pending : ℕ → RegOp → Bool
-is_pending end call = nat_lt call.invoked end && not (is_over end call)
+is_pending place call = nat_lt call.invoked place && is_open_at place call.outcome (op_end call)
 
 -- the numbers of the operations that are pending at this place of the history, ascending
 abbrev pub numbers_pending : List RegOp → ℕ → List ℕ

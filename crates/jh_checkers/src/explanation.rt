@@ -19,8 +19,8 @@ use std::alloc::{AllocError, Global};
 pub struct Explanation {
     /// The completion at which the history is stuck, as the history has it.
     pub completion: Op,
-    /// The numbers of the operations that are pending there: invoked before it, with no `:ok` and
-    /// no `:fail` before it. They ascend, and mean the places among the pairs, as in orders.
+    /// The numbers of the operations that are pending there: invoked before it, with no `:ok` before
+    /// it, and none that failed. They ascend, and mean the places among the pairs, as in orders.
     pub pending: Vec<usize>,
 }
 
@@ -31,21 +31,22 @@ fn end_of(call: RegOp) -> usize
     call.ended.unwrap_or(usize::MAX)
 }
 
-/// Whether an operation has its `:ok` or its `:fail` before this place of the history.
-fn is_over(end: usize, call: RegOp) -> bool
-    ensures { result ≡ rule.is_over end call }
+/// Whether an operation is still open at a place of the history.
+fn is_open_at(place: usize, call: RegOp) -> bool
+    ensures { result ≡ rule.is_open_at place call.outcome (op_end call) }
 {
     match call.outcome {
-        Outcome::Done | Outcome::Failed => end_of(call) < end,
-        Outcome::Unsure => false,
+        Outcome::Done => place <= end_of(call),
+        Outcome::Failed => false,
+        Outcome::Unsure => true,
     }
 }
 
-/// Whether an operation was invoked before this place of the history, and is not over there.
-fn is_pending(end: usize, call: RegOp) -> bool
-    ensures { result ≡ rule.is_pending end call }
+/// Whether an operation was invoked before a place of the history, and is open there.
+fn is_pending(place: usize, call: RegOp) -> bool
+    ensures { result ≡ rule.is_pending place call }
 {
-    call.invoked < end && !is_over(end, call)
+    call.invoked < place && is_open_at(place, call)
 }
 
 /// The numbers of the operations that are pending at this place of the history.

@@ -12,7 +12,7 @@ fn registers_say_where_they_are_stuck(rt: HostRuntime) {
 {:index 1, :type :invoke, :process 1, :f :read, :value nil}
 {:index 2, :type :ok, :process 1, :f :read, :value 5} {:index 3, :type :fail, :process 0, :f :write, :value 5}
 → 1
-{:valid? false, :stuck {:index 2, :type :ok, :process 1, :f :read, :value 5}, :order [], :value 0, :pending [0 1]}
+{:valid? false, :stuck {:index 2, :type :ok, :process 1, :f :read, :value 5}, :order [], :value 0, :pending [1]}
 § {:type :invoke, :process 0, :f :cas, :value [7 8]} {:type :info, :process 0, :f :cas, :value [7 8], :error :timeout}
 {:type :invoke, :process 1, :f :write, :value 1} {:type :ok, :process 1, :f :write, :value 1}
 {:type :invoke, :process 1, :f :cas, :value (2 3)} {:type :info, :process :nemesis, :f :start, :value 7}
