@@ -10,7 +10,7 @@ use Rattle.jh_conversation.specs.Laws.{AreTimely, Drivers, IsAtRate, IsBeforeFin
 use Rattle.jh_conversation.specs.Laws.{invocations_in, run, start, took}
 use Rattle.jh_conversation.specs.Lines.{is_test_over, is_end_phase, listen, reply, stops_after}
 use Rattle.jh_conversation.specs.Lines.{stops_by, take_in}
-use Rattle.jh_test_parts.specs.Said.{line_said}
+use Rattle.jh_test_parts.specs.LineMeanings.{line_meaning}
 use Rattle.jh_conversation.specs.Machine.{Machine}
 use Rattle.jh_test_parts.specs.Test.{TestValue}
 use Rattle.jh_conversation.specs.Turn.{has_come, keeps_rate, may_call, may_call_in, turn}
@@ -155,23 +155,23 @@ over_is Final e = absurd (false≢true e)
 over_is Over e = refl
 
 -- what a line is taken in for
-took_same : (t : TestValue) (m : Machine) (line : List ℕ) → invocations_in (take_in t (line_said line) (listen m)).history ≡ invocations_in m.history
-took_same t m line = kept_take_in t (λ n. invocations_in n.history ≡ invocations_in m.history) (same_calls t (invocations_in m.history)) (listen m) (line_said line) refl
+took_same : (t : TestValue) (m : Machine) (line : List ℕ) → invocations_in (take_in t (line_meaning line) (listen m)).history ≡ invocations_in m.history
+took_same t m line = kept_take_in t (λ n. invocations_in n.history ≡ invocations_in m.history) (same_calls t (invocations_in m.history)) (listen m) (line_meaning line) refl
 
 module _ (t : TestValue) (m : Machine) (line : List ℕ) where
-  main_stops : 1 ≤ (take_in t (line_said line) (listen m)).stops → HasGivenMain (invocations_in m.history) (reply t m line)
+  main_stops : 1 ≤ (take_in t (line_meaning line) (listen m)).stops → HasGivenMain (invocations_in m.history) (reply t m line)
   main_stops stopped =
-      (elim (is_test_over m) as (λ b. is_test_over m ≡ b → HasGivenMain (invocations_in m.history) (if b then listen m else turn t (take_in t (line_said line) (listen m)))) [
+      (elim (is_test_over m) as (λ b. is_test_over m ≡ b → HasGivenMain (invocations_in m.history) (if b then listen m else turn t (take_in t (line_meaning line) (listen m)))) [
         | true ↦ λ e. (inl (over_is m.phase e), λ _. refl)
-        | false ↦ λ _. kept_turn t (HasGivenMain (invocations_in m.history)) (main_in_turn t (invocations_in m.history)) (take_in t (line_said line) (listen m))
+        | false ↦ λ _. kept_turn t (HasGivenMain (invocations_in m.history)) (main_in_turn t (invocations_in m.history)) (take_in t (line_meaning line) (listen m))
             (inr stopped, λ _. took_same t m line)
       ]) refl
 
-  all_stop : 2 ≤ (take_in t (line_said line) (listen m)).stops → HasGiven (invocations_in m.history) (reply t m line)
+  all_stop : 2 ≤ (take_in t (line_meaning line) (listen m)).stops → HasGiven (invocations_in m.history) (reply t m line)
   all_stop stopped =
-      (elim (is_test_over m) as (λ b. is_test_over m ≡ b → HasGiven (invocations_in m.history) (if b then listen m else turn t (take_in t (line_said line) (listen m)))) [
+      (elim (is_test_over m) as (λ b. is_test_over m ≡ b → HasGiven (invocations_in m.history) (if b then listen m else turn t (take_in t (line_meaning line) (listen m)))) [
         | true ↦ λ e. (inl (over_is m.phase e), refl)
-        | false ↦ λ _. kept_turn t (HasGiven (invocations_in m.history)) (given_in_turn t (invocations_in m.history)) (take_in t (line_said line) (listen m))
+        | false ↦ λ _. kept_turn t (HasGiven (invocations_in m.history)) (given_in_turn t (invocations_in m.history)) (take_in t (line_meaning line) (listen m))
             (inr stopped, took_same t m line)
       ]) refl
 

@@ -12,11 +12,11 @@ use Rattle.jh_conversation.specs.Laws.{Drivers, complaint_of, complaint_of_answe
 use Rattle.jh_conversation.specs.Laws.{complaint_of_completion, complaint_of_end}
 use Rattle.jh_conversation.specs.Laws.{complaint_of_reply, first_bad, first_bad_or, run, start}
 use Rattle.jh_ops.specs.Pairing.{is_invoke}
-use Rattle.jh_test_parts.specs.Said.{LineSaid, Nothing, Clock, Stop, Reply, Bad}
+use Rattle.jh_test_parts.specs.LineMeanings.{MeaningValue, Nothing, Clock, Stop, Reply, Bad}
 use Rattle.jh_conversation.specs.Lines.{answer_step, answers_step, at_first, at_time, finish, first}
 use Rattle.jh_conversation.specs.Lines.{is_test_over, listen, refuse, reply, take_answer}
 use Rattle.jh_conversation.specs.Lines.{take_completion, take_end, take_in, take_reply}
-use Rattle.jh_test_parts.specs.Said.{line_said}
+use Rattle.jh_test_parts.specs.LineMeanings.{line_meaning}
 use Rattle.jh_test_parts.specs.Values.{fits_call}
 use Rattle.jh_test_parts.specs.Test.{thread_of_process}
 use Rattle.jh_conversation.specs.Machine.{Machine, caller_process, caller_of}
@@ -111,7 +111,7 @@ tells_completion t m process op time none (Some c) =
     ]
 
 -- what one line brings
-tells_take : (t : TestValue) (m : Machine) (line : LineSaid) → m.bad ≡ None → Tells (told_of (complaint_of t m line) m.read) m.read (take_in t line m)
+tells_take : (t : TestValue) (m : Machine) (line : MeaningValue) → m.bad ≡ None → Tells (told_of (complaint_of t m line) m.read) m.read (take_in t line m)
 tells_take t m Nothing none = (none, refl)
 tells_take t m (Clock time) none = (none, refl)
 tells_take t m Stop none = (none, refl)
@@ -123,7 +123,7 @@ tells_take t m (Reply op time) none = go op.process
     go (Process.Client process) = tells_completion t m process op time none (caller_of m (thread_of_process t process)).call
 
 -- a complaint is the same behind a listening
-same_complaint : (t : TestValue) (m : Machine) (line : LineSaid) → complaint_of t (listen m) line ≡ complaint_of t m line
+same_complaint : (t : TestValue) (m : Machine) (line : MeaningValue) → complaint_of t (listen m) line ≡ complaint_of t m line
 same_complaint t m Nothing = refl
 same_complaint t m (Clock time) = refl
 same_complaint t m Stop = refl
@@ -135,15 +135,15 @@ same_complaint t m (Reply op time) = go op.process
     go (Process.Client process) = refl
 
 tells_reply : (t : TestValue) (m : Machine) (line : List ℕ) → m.bad ≡ None
-    → Tells (told_of (if is_test_over m then None else complaint_of t m (line_said line)) (m.read + 1)) (m.read + 1) (reply t m line)
+    → Tells (told_of (if is_test_over m then None else complaint_of t m (line_meaning line)) (m.read + 1)) (m.read + 1) (reply t m line)
 tells_reply t m line none =
-    elim (is_test_over m) as (λ b. Tells (told_of (if b then None else complaint_of t m (line_said line)) (m.read + 1)) (m.read + 1) (if b then listen m else turn t (take_in t (line_said line) (listen m)))) [
+    elim (is_test_over m) as (λ b. Tells (told_of (if b then None else complaint_of t m (line_meaning line)) (m.read + 1)) (m.read + 1) (if b then listen m else turn t (take_in t (line_meaning line) (listen m)))) [
       | true ↦ (none, refl)
       | false ↦
-          let told = told_of (complaint_of t m (line_said line)) (m.read + 1) in
-          let took = tells_take t (listen m) (line_said line) none in
-          kept_turn t (Tells told (m.read + 1)) (tells_in_turn t told (m.read + 1)) (take_in t (line_said line) (listen m))
-          (took.0 ∙ ap (λ c. told_of c (m.read + 1)) (same_complaint t m (line_said line)), took.1)
+          let told = told_of (complaint_of t m (line_meaning line)) (m.read + 1) in
+          let took = tells_take t (listen m) (line_meaning line) none in
+          kept_turn t (Tells told (m.read + 1)) (tells_in_turn t told (m.read + 1)) (take_in t (line_meaning line) (listen m))
+          (took.0 ∙ ap (λ c. told_of c (m.read + 1)) (same_complaint t m (line_meaning line)), took.1)
     ]
 
 tells_all : (t : TestValue) (d : Drivers t) (lines : List (List ℕ)) (m : Machine) (n : ℕ) → Tells None n m → (after_lines (reply t) m lines).bad ≡ first_bad t m n lines
@@ -151,7 +151,7 @@ tells_all t d [] m n h = h.0
 tells_all t d (line ∷ lines) m n h =
     let one = tells_reply t m line h.0 in
     let number : m.read + 1 ≡ n + 1 = ap (λ k. k + 1) h.1 in
-    go (if is_test_over m then None else complaint_of t m (line_said line)) (one.0 ∙ ap (told_of (if is_test_over m then None else complaint_of t m (line_said line))) number)
+    go (if is_test_over m then None else complaint_of t m (line_meaning line)) (one.0 ∙ ap (told_of (if is_test_over m then None else complaint_of t m (line_meaning line))) number)
     (λ none. tells_all t d lines (reply t m line) (n + 1) (none, one.1 ∙ number))
   where
     go : (c : Option Complaint) → (reply t m line).bad ≡ told_of c (n + 1)

@@ -14,7 +14,7 @@ use Rattle.jh_edn.specs.Edn.{Edn}
 use Rattle.jh_conversation.specs.Laws.{Drivers, IsEndOfOpen, IsFormed, Status, after_end, run, status}
 use Rattle.jh_conversation.specs.Laws.Status.{Idle, Busy}
 use Rattle.jh_conversation.specs.Lines.{at_first, more_crashes}
-use Rattle.jh_test_parts.specs.Said.{kept_pairs}
+use Rattle.jh_test_parts.specs.LineMeanings.{kept_pairs}
 use Rattle.jh_conversation.specs.Machine.{Machine, are_free, has_no_call, new_callers, no_caller}
 use Rattle.jh_conversation.specs.Machine.{caller_process, caller_of}
 use Rattle.jh_conversation.specs.Sound.{IsBetween}

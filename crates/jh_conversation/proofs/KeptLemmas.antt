@@ -15,13 +15,13 @@ use Rattle.jh_ops.specs.declared.call.Request.{Request}
 use Rattle.jh_ops.specs.declared.operation.Process.{Process}
 use Rattle.jh_ops.specs.Pairing.{is_invoke}
 use Rattle.jh_ops.specs.Requests.{request_name}
-use Rattle.jh_test_parts.specs.Said.{LineSaid, Nothing, Clock, Stop, Reply, Bad}
+use Rattle.jh_test_parts.specs.LineMeanings.{MeaningValue, Nothing, Clock, Stop, Reply, Bad}
 use Rattle.jh_lines.specs.Replies.{after_lines}
 use Rattle.jh_nemesis.specs.State.{first_state}
 use Rattle.jh_conversation.specs.Lines.{answer_step, answers_step, at_first, at_time, finish}
 use Rattle.jh_conversation.specs.Lines.{is_test_over, listen, refuse, reply, stop, take_answer}
 use Rattle.jh_conversation.specs.Lines.{take_completion, take_end, take_in, take_reply}
-use Rattle.jh_test_parts.specs.Said.{line_said}
+use Rattle.jh_test_parts.specs.LineMeanings.{line_meaning}
 use Rattle.jh_test_parts.specs.Values.{fits_call}
 use Rattle.jh_test_parts.specs.Test.{thread_of_process}
 use Rattle.jh_conversation.specs.Machine.{Machine, has_no_call, caller_process, caller_of}
@@ -200,7 +200,7 @@ module _ (t : TestValue) (P : Machine → Type 0) (l : IsKeptByLine t P) where
       (λ _. kept_end m (thread_of_process t process) c op time e h)
       (λ _. l.refuses m _ h)
 
-  pub kept_take_in : (m : Machine) (line : LineSaid) → P m → P (take_in t line m)
+  pub kept_take_in : (m : Machine) (line : MeaningValue) → P m → P (take_in t line m)
   kept_take_in m Nothing h = h
   kept_take_in m (Clock time) h = l.clocks m time h
   kept_take_in m Stop h = l.stops m h
@@ -214,9 +214,9 @@ module _ (t : TestValue) (P : Machine → Type 0) (l : IsKeptByLine t P) where
 module _ (t : TestValue) (P : Machine → Type 0) (k : IsKeptInTurn t P) (l : IsKeptByLine t P) where
   pub kept_reply : (m : Machine) (line : List ℕ) → P m → P (reply t m line)
   kept_reply m line h =
-      cond_both (is_test_over m) (listen m) (turn t (take_in t (line_said line) (listen m))) P
+      cond_both (is_test_over m) (listen m) (turn t (take_in t (line_meaning line) (listen m))) P
       (λ _. l.listens m h)
-      (λ _. kept_turn t P k (take_in t (line_said line) (listen m)) (kept_take_in t P l (listen m) (line_said line) (l.listens m h)))
+      (λ _. kept_turn t P k (take_in t (line_meaning line) (listen m)) (kept_take_in t P l (listen m) (line_meaning line) (l.listens m h)))
 
   pub kept_lines : (lines : List (List ℕ)) (m : Machine) → P m → P (after_lines (reply t) m lines)
   kept_lines [] m h = h

@@ -5,9 +5,9 @@ use Rattle.std.specs.List.{AllByRecursion}
 use Rattle.jh_ops.specs.declared.operation.Process.{Process}
 use Rattle.jh_conversation.specs.Laws.{Drivers, IsHeard, IsSaid, answered_by, clock_at, ended_by}
 use Rattle.jh_conversation.specs.Laws.{heard, heard_from, is_end_of_call, run}
-use Rattle.jh_test_parts.specs.Said.{LineSaid, Nothing, Clock, Stop, Reply, Bad}
+use Rattle.jh_test_parts.specs.LineMeanings.{MeaningValue, Nothing, Clock, Stop, Reply, Bad}
 use Rattle.jh_conversation.specs.Lines.{answers_step, is_test_over, listen, reply, take_in}
-use Rattle.jh_test_parts.specs.Said.{kept_pairs, line_said}
+use Rattle.jh_test_parts.specs.LineMeanings.{kept_pairs, line_meaning}
 use Rattle.jh_test_parts.specs.Test.{thread_of_process}
 use Rattle.jh_conversation.specs.Machine.{Machine, caller_of}
 use Rattle.jh_test_parts.specs.Test.{TestValue}
@@ -35,15 +35,15 @@ said_by_turn t = record {
 
 reply_said : (t : TestValue) (m : Machine) (line : List ℕ) → AllByRecursion IsSaid (reply t m line).said
 reply_said t m line =
-    elim (is_test_over m) as (λ b. AllByRecursion IsSaid (if b then listen m else turn t (take_in t (line_said line) (listen m))).said) [
+    elim (is_test_over m) as (λ b. AllByRecursion IsSaid (if b then listen m else turn t (take_in t (line_meaning line) (listen m))).said) [
       | true ↦ tt
-      | false ↦ kept_turn t SaysSaid (said_by_turn t) (take_in t (line_said line) (listen m)) (none_said (sym (hears t (listen m) (line_said line) refl).1))
+      | false ↦ kept_turn t SaysSaid (said_by_turn t) (take_in t (line_meaning line) (listen m)) (none_said (sym (hears t (listen m) (line_meaning line) refl).1))
     ]
   where
     none_said : {l : List Recorded} → [] ≡ l → AllByRecursion IsSaid l
     none_said e = subst (AllByRecursion IsSaid) e tt
 
-all_heard : (t : TestValue) (m : Machine) (line : LineSaid) → AllByRecursion IsHeard (heard t m line)
+all_heard : (t : TestValue) (m : Machine) (line : MeaningValue) → AllByRecursion IsHeard (heard t m line)
 all_heard t m Nothing = tt
 all_heard t m (Clock time) = tt
 all_heard t m Stop = tt
@@ -63,5 +63,5 @@ all_heard t m (Reply op time) = go op.process
     go (Process.Client process) = completion process (caller_of m (thread_of_process t process)).call
 
 pub kinds_apart : (t : TestValue) (d : Drivers t) (lines : List (List ℕ)) (line : List ℕ)
-    → AllByRecursion IsSaid (reply t (run t d lines) line).said × AllByRecursion IsHeard (heard t (run t d lines) (line_said line))
-kinds_apart t d lines line = (reply_said t (run t d lines) line, all_heard t (run t d lines) (line_said line))
+    → AllByRecursion IsSaid (reply t (run t d lines) line).said × AllByRecursion IsHeard (heard t (run t d lines) (line_meaning line))
+kinds_apart t d lines line = (reply_said t (run t d lines) line, all_heard t (run t d lines) (line_meaning line))

@@ -15,11 +15,11 @@ use Rattle.jh_conversation.specs.Conversations.{ConversationIsRun, ConversationV
 use Rattle.jh_conversation.specs.Laws.{Drivers, answered_by, clock_at, ended_by, heard, heard_from}
 use Rattle.jh_conversation.specs.Laws.{run, start, talk, talk_at, talk_from}
 use Rattle.jh_ops.specs.Pairing.{is_invoke}
-use Rattle.jh_test_parts.specs.Said.{LineSaid, Nothing, Clock, Stop, Reply, Bad}
+use Rattle.jh_test_parts.specs.LineMeanings.{MeaningValue, Nothing, Clock, Stop, Reply, Bad}
 use Rattle.jh_conversation.specs.Lines.{answer_step, answers_step, at_first, at_time, clock_after}
 use Rattle.jh_conversation.specs.Lines.{finish, is_test_over, listen, refuse, reply, take_answer}
 use Rattle.jh_conversation.specs.Lines.{take_completion, take_end, take_in, take_reply}
-use Rattle.jh_test_parts.specs.Said.{kept_pairs, line_said}
+use Rattle.jh_test_parts.specs.LineMeanings.{kept_pairs, line_meaning}
 use Rattle.jh_test_parts.specs.Values.{fits_call}
 use Rattle.jh_test_parts.specs.Test.{thread_of_process}
 use Rattle.jh_conversation.specs.Machine.{Machine, caller_process, caller_of}
@@ -106,7 +106,7 @@ heard_completion t m process op time none (Some c) =
 hears_time : (m : Machine) (time : ℕ) → m.said ≡ [] → Hears m [] (at_time (Some time) m)
 hears_time m time none = (refl, none)
 
-pub hears : (t : TestValue) (m : Machine) (line : LineSaid) → m.said ≡ [] → Hears m (heard t m line) (take_in t line m)
+pub hears : (t : TestValue) (m : Machine) (line : MeaningValue) → m.said ≡ [] → Hears m (heard t m line) (take_in t line m)
 hears t m Nothing none = (refl, none)
 hears t m (Clock time) none = (refl, none)
 hears t m Stop none = (refl, none)
@@ -119,15 +119,15 @@ hears t m (Reply op time) none = go op.process
 
 talked : (t : TestValue) (d : Drivers t) (m : Machine) (line : List ℕ) → (reply t m line).history ≡ talk_at t m line ++ m.history
 talked t d m line =
-    elim (is_test_over m) as (λ b. (if b then listen m else turn t (take_in t (line_said line) (listen m))).history
-    ≡ ((if b then listen m else turn t (take_in t (line_said line) (listen m))).said ++ (if b then [] else heard t m (line_said line))) ++ m.history) [
+    elim (is_test_over m) as (λ b. (if b then listen m else turn t (take_in t (line_meaning line) (listen m))).history
+    ≡ ((if b then listen m else turn t (take_in t (line_meaning line) (listen m))).said ++ (if b then [] else heard t m (line_meaning line))) ++ m.history) [
       | true ↦ refl
       | false ↦
-          let took = hears t (listen m) (line_said line) refl in
-          let next = take_in t (line_said line) (listen m) in
+          let took = hears t (listen m) (line_meaning line) refl in
+          let next = take_in t (line_meaning line) (listen m) in
           kept_turn t (HasSaid next.history) (said_in_turn t next.history) next (ap (λ l. l ++ next.history) (sym took.1))
           ∙ ap (λ l. (turn t next).said ++ l) took.0
-          ∙ sym (append_assoc (turn t next).said (heard t m (line_said line)) m.history)
+          ∙ sym (append_assoc (turn t next).said (heard t m (line_meaning line)) m.history)
     ]
 
 talked_all : (t : TestValue) (d : Drivers t) (lines : List (List ℕ)) (m : Machine) → (after_lines (reply t) m lines).history ≡ talk_from t m lines ++ m.history

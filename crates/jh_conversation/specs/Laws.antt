@@ -16,9 +16,9 @@ use Rattle.jh_ops.specs.declared.operation.Kind.{Kind}
 use Rattle.jh_ops.specs.declared.operation.Process.{Process}
 use Rattle.jh_ops.specs.Pairing.{is_invoke}
 use Rattle.jh_ops.specs.Requests.{request_name}
-use Rattle.jh_test_parts.specs.Said.{LineSaid, Reply, Bad}
+use Rattle.jh_test_parts.specs.LineMeanings.{MeaningValue, Reply, Bad}
 use Rattle.jh_conversation.specs.Lines.{answers_step, at_first, clock_after, is_test_over}
-use Rattle.jh_test_parts.specs.Said.{kept_pairs, line_said}
+use Rattle.jh_test_parts.specs.LineMeanings.{kept_pairs, line_meaning}
 use Rattle.jh_conversation.specs.Lines.{listen, reply, take_in}
 use Rattle.jh_test_parts.specs.Values.{fits_call}
 use Rattle.jh_test_parts.specs.Test.{thread_of_process}
@@ -94,14 +94,14 @@ heard_from t m op now (Process.Client process) =
     ended_by t m process (caller_of m (thread_of_process t process)).call op now
 
 -- the record of what a line says, if it is a reply
-abbrev pub heard : TestValue → Machine → LineSaid → List Recorded
+abbrev pub heard : TestValue → Machine → MeaningValue → List Recorded
 heard t m (Reply op time) = heard_from t m op (clock_at time m.clock) op.process
 heard t m _ = []
 
 -- what is read and what is then said, the newest first; behind the end nothing is heard
 abbrev pub talk_at : TestValue → Machine → List ℕ → List Recorded
 talk_at t m line =
-    (reply t m line).said ++ (if is_test_over m then [] else heard t m (line_said line))
+    (reply t m line).said ++ (if is_test_over m then [] else heard t m (line_meaning line))
 
 abbrev pub talk_from : TestValue → Machine → List (List ℕ) → List Recorded
 talk_from t m [] = []
@@ -129,7 +129,7 @@ abbrev pub KindsAreApart : Type 0
 KindsAreApart =
     (t : TestValue) (d : Drivers t) (lines : List (List ℕ)) (line : List ℕ)
     → AllByRecursion IsSaid (reply t (run t d lines) line).said
-    × AllByRecursion IsHeard (heard t (run t d lines) (line_said line))
+    × AllByRecursion IsHeard (heard t (run t d lines) (line_meaning line))
 
 -- its times never go back
 abbrev pub time_of : Recorded → ℕ
@@ -255,7 +255,7 @@ IsBeforeFinal _ = ⊥
 
 -- the machine that has taken in a line, before its turn
 abbrev pub took : (t : TestValue) → Drivers t → List (List ℕ) → List ℕ → Machine
-took t d lines line = take_in t (line_said line) (listen (run t d lines))
+took t d lines line = take_in t (line_meaning line) (listen (run t d lines))
 
 -- from a line on that stops, there is no call until *final* begins
 abbrev pub StopEndsMainCalls : Type 0
@@ -319,7 +319,7 @@ complaint_of_reply t m op (Process.Client process) =
     complaint_of_completion t m process (caller_of m (thread_of_process t process)).call op
 
 -- why a line is no reply, if it is none
-abbrev pub complaint_of : TestValue → Machine → LineSaid → Option Complaint
+abbrev pub complaint_of : TestValue → Machine → MeaningValue → Option Complaint
 complaint_of t m (Bad why) = Some why
 complaint_of t m (Reply op time) = complaint_of_reply t m op op.process
 complaint_of t m _ = None
@@ -335,7 +335,7 @@ abbrev pub first_bad : TestValue → Machine → ℕ → List (List ℕ)
     → Option (ℕ × Complaint)
 first_bad t m n [] = None
 first_bad t m n (line ∷ lines) =
-    first_bad_or t (if is_test_over m then None else complaint_of t m (line_said line)) (n + 1)
+    first_bad_or t (if is_test_over m then None else complaint_of t m (line_meaning line)) (n + 1)
     (first_bad t (reply t m line) (n + 1) lines)
 
 abbrev pub FirstBadIsTold : Type 0

@@ -21,7 +21,7 @@ use Rattle.jh_ops.specs.Requests.{request_name}
 use Rattle.jh_txn_histories.specs.Written.{is_equal}
 use Rattle.jh_conversation.specs.Machine.{Machine}
 use Rattle.jh_conversation.specs.Machine.{hear, new_callers, caller_process, caller_of}
-use Rattle.jh_test_parts.specs.Said.{LineSaid, Nothing, Clock, Stop, Reply, Bad, kept_pairs, line_said}
+use Rattle.jh_test_parts.specs.LineMeanings.{MeaningValue, Nothing, Clock, Stop, Reply, Bad, kept_pairs, line_meaning}
 use Rattle.jh_test_parts.specs.Test.{thread_of_process}
 use Rattle.jh_test_parts.specs.Values.{fits_call}
 use Rattle.jh_test_parts.specs.Transactions.{first_source}
@@ -136,7 +136,7 @@ take_reply t op time Process.Nemesis m = take_answer op time m m.step
 take_reply t op time (Process.Client process) m =
     take_completion t process op time m (caller_of m (thread_of_process t process)).call
 
-abbrev pub take_in : TestValue → LineSaid → Machine → Machine
+abbrev pub take_in : TestValue → MeaningValue → Machine → Machine
 take_in t Nothing m = m
 take_in t (Clock time) m = at_time (Some time) m
 take_in t Stop m = stop m
@@ -150,7 +150,7 @@ listen m = record m { read = m.read + 1; said = [] }
 -- The machine after a line. Nothing is said or heard behind the end.
 abbrev pub reply : TestValue → Machine → List ℕ → Machine
 reply t m line =
-    if is_test_over m then listen m else turn t (take_in t (line_said line) (listen m))
+    if is_test_over m then listen m else turn t (take_in t (line_meaning line) (listen m))
 
 -- the machine before its first turn
 abbrev pub at_first : TestValue → DriverState → Option DriverState → State → Machine

@@ -156,7 +156,7 @@ impl jh_lines::Machine for Conversation {
     ghost use Rattle.jh_conversation.specs.Conversations.{answer_to_line, conversation_after};
     ghost use Rattle.jh_conversation.specs.Conversations.{has_no_more, opening_of};
     ghost use Rattle.jh_conversation.specs.Lines.{is_test_over, listen, reply, take_in};
-    ghost use Rattle.jh_test_parts.specs.Said.{line_said};
+    ghost use Rattle.jh_test_parts.specs.LineMeanings.{line_meaning};
     ghost use Rattle.jh_conversation.specs.Text.{said_lines};
     ghost use Rattle.jh_conversation.specs.Turn.{turn};
 
@@ -171,7 +171,7 @@ impl jh_lines::Machine for Conversation {
     ghost stays_over = { λ c line over. (
       ap (λ b. if b then [] else said_lines c.test (reply c.test c.machine line)) over,
       ap (λ b. is_test_over (if b then listen c.machine
-          else turn c.test (take_in c.test (line_said line) (listen c.machine)))) over ∙ over,
+          else turn c.test (take_in c.test (line_meaning line) (listen c.machine)))) over ∙ over,
     ) };
 
     fn open(&self, out: &mut Vec<u8>) -> Result<(), AllocError> {

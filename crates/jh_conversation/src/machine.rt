@@ -20,25 +20,40 @@ use std::marker::Model;
 #[derive(Drop)]
 pub struct Machine {
     pub(crate) phase: Phase,
+    /// What gives the calls of this phase.
     pub(crate) driver: Driver,
+    /// What will give those of *final*, where it is to come.
     pub(crate) last: Option<Driver>,
+    /// Whether the driver of this phase has no more.
     pub(crate) has_spent: bool,
+    /// The random numbers for the driver.
     pub(crate) random_numbers: Lcg128Xsl64,
+    /// The transactions to come.
     pub(crate) transactions: TransactionSource,
+    /// How many calls each group of threads was given.
     pub(crate) calls_by_group: Vec<u64>,
     pub(crate) callers: Vec<Caller>,
+    /// How many calls were given, and how many were answered.
     pub(crate) given: u64,
     pub(crate) answered: u64,
+    /// How many processes have crashed.
     pub(crate) crashed: u64,
     pub(crate) nemesis: Nemesis,
+    /// How many entries of the schedule were taken.
     pub(crate) taken: usize,
+    /// The step that waits for its answer.
     pub(crate) step: Option<OpenStep>,
+    /// How often it was told to stop, up to twice.
     pub(crate) stops: u64,
+    /// The greatest time that was told, and that at which *rest* began, in nanoseconds.
     pub(crate) clock: u64,
     pub(crate) rest_began: u64,
+    /// How many lines were read.
     pub(crate) read: u64,
+    /// The first line that is no reply, by its number from 1, with what is wrong with it.
     pub(crate) bad: Option<(u64, Complaint)>,
     pub(crate) history: Vec<Recorded>,
+    /// How many records at the end of the history were said to the last line.
     pub(crate) said: usize,
 }
 

@@ -4,7 +4,7 @@ ghost use Rattle.std.specs.Prelude.{◌≡◌, ◌<◌, ◌≤◌, ◌^◌, [], 
 ghost use Rattle.jh_ops.specs.Operation.{operation};
 ghost use Rattle.jh_conversation.specs.Lines as rule;
 ghost use Rattle.jh_conversation.specs.LinesInside as inside;
-ghost use Rattle.jh_test_parts.specs.Said.{line_said_by};
+ghost use Rattle.jh_test_parts.specs.LineMeanings.{line_meaning_by};
 ghost use Rattle.jh_conversation.specs.Machine as machine;
 ghost use Rattle.jh_test_parts.specs.Test.{thread_of_process};
 ghost use Rattle.jh_conversation.specs.Sound.{IsSoundMachine};
@@ -15,7 +15,9 @@ use crate::phase::Phase;
 use jh_edn::Value;
 use jh_gen::{Ended, Thread};
 use jh_ops::{Kind, Op, Process, Request};
-use jh_test_parts::{Complaint, Datum, Recorded, Said, Test, fits_call, kept_pairs, line_said};
+use jh_test_parts::{
+    Complaint, Datum, LineMeaning, Recorded, Test, fits_call, kept_pairs, line_meaning,
+};
 use jh_txn_histories::is_equal;
 use std::alloc::{AllocError, Global};
 
@@ -242,26 +244,26 @@ impl Machine {
     }
 
     /// Takes in what a line says.
-    fn take_in(&mut self, alloc: Global, test: &Test, said: Said) -> Result<(), AllocError>
+    fn take_in(&mut self, alloc: Global, test: &Test, said: LineMeaning) -> Result<(), AllocError>
         requires sound { IsSoundMachine test.now self.old }
         requires silent { self.old.said ≡ [] }
-        ensures { OnOk result (self.new ≡ rule.take_in test.now (line_said_by said) self.old) }
+        ensures { OnOk result (self.new ≡ rule.take_in test.now (line_meaning_by said) self.old) }
     {
         match said {
-            Said::Nothing => Ok(()),
-            Said::Clock(time) => {
+            LineMeaning::Nothing => Ok(()),
+            LineMeaning::Clock(time) => {
                 self.at_time(Some(time));
                 Ok(())
             }
-            Said::Stop => {
+            LineMeaning::Stop => {
                 self.stop();
                 Ok(())
             }
-            Said::Bad(why) => {
+            LineMeaning::Bad(why) => {
                 self.refuse(why);
                 Ok(())
             }
-            Said::Reply(op, time) => match op.process {
+            LineMeaning::Reply(op, time) => match op.process {
                 Process::Nemesis => self.take_answer(alloc, test, op, time),
                 Process::Client(process) => self.take_completion(alloc, test, process, op, time),
             },
@@ -308,7 +310,7 @@ impl Machine {
         if self.is_over() {
             return Ok(());
         }
-        let said = line_said(alloc, line)?;
+        let said = line_meaning(alloc, line)?;
         self.take_in(alloc, test, said)?;
         self.turn(alloc, test)
     }

@@ -5,7 +5,7 @@ pub mod NamedCells
 pub mod ToldInside
 pub mod Records
 pub mod Complaints
-pub mod Said
+pub mod LineMeanings
 pub mod Values
 pub mod Transactions
 pub mod SourceInside

@@ -16,7 +16,7 @@ mod values;
 
 pub use calls::{Datum, ValuedCall};
 pub use complaints::Complaint;
-pub use line::{Said, kept_pairs, line_said};
+pub use line::{LineMeaning, kept_pairs, line_meaning};
 pub use named::NamedCells;
 pub use operations::{operation_of, operations_of};
 pub use parts::{Entry, KeyShares, TransactionShape, When};

@@ -1,4 +1,4 @@
-//! What a line says by itself, and what is kept of it. `specs/Said.antt` has the rule.
+//! What a line says by itself, and what is kept of it. `specs/LineMeanings.antt` has the rule.
 
 ghost use Rattle.std.specs.Prelude.{◌≡◌, ◌↔◌, IfOk, IsTrue, filter};
 ghost use Rattle.std.specs.List.{list_any};
@@ -6,8 +6,8 @@ ghost use Rattle.jh_edn.specs.Edn.{is_keyword};
 ghost use Rattle.jh_edn.specs.declared.error.EdnError.TheVariants.{OutOfMemory};
 ghost use Rattle.jh_edn.specs.View.{view, view_pair, views};
 ghost use Rattle.jh_ops.specs.Operation.{operation};
-ghost use Rattle.jh_test_parts.specs.Said as rule;
-ghost use Rattle.jh_test_parts.specs.Said.{line_said_by};
+ghost use Rattle.jh_test_parts.specs.LineMeanings as rule;
+ghost use Rattle.jh_test_parts.specs.LineMeanings.{line_meaning_by};
 
 use crate::complaints::Complaint;
 use jh_edn::{EdnError, Pairs, Value, values_in_line};
@@ -17,7 +17,7 @@ use std::str;
 
 /// What a line says by itself.
 #[derive(Drop)]
-pub enum Said {
+pub enum LineMeaning {
     Nothing,
     /// So many nanoseconds have passed since the test began.
     Clock(u64),
@@ -43,73 +43,73 @@ fn has_odd_time(op: &Op) -> bool
 }
 
 /// What an operation says with its time.
-fn said_at_time(op: Op) -> Said
-    ensures { line_said_by result ≡ rule.said_at_time (operation op) op.time }
+fn meaning_at_time(op: Op) -> LineMeaning
+    ensures { line_meaning_by result ≡ rule.meaning_at_time (operation op) op.time }
 {
     match op.time {
         None => {
             if has_odd_time(&op) {
-                Said::Bad(Complaint::BadTime)
+                LineMeaning::Bad(Complaint::BadTime)
             } else {
-                Said::Reply(op, None)
+                LineMeaning::Reply(op, None)
             }
         }
         Some(time) => {
             if time < 0 {
-                Said::Bad(Complaint::BadTime)
+                LineMeaning::Bad(Complaint::BadTime)
             } else {
-                Said::Reply(op, Some(time as u64))
+                LineMeaning::Reply(op, Some(time as u64))
             }
         }
     }
 }
 
 /// What a value says that may be an operation.
-fn said_by_operation(alloc: Global, value: Value) -> Result<Said, AllocError>
-    ensures { IfOk result (λ said. line_said_by said ≡ rule.said_by_operation (view value)) }
+fn meaning_of_operation(alloc: Global, value: Value) -> Result<LineMeaning, AllocError>
+    ensures { IfOk result (λ meaning. line_meaning_by meaning ≡ rule.meaning_of_operation (view value)) }
 {
     match op_of(alloc, value) {
-        Ok(op) => Ok(said_at_time(op)),
+        Ok(op) => Ok(meaning_at_time(op)),
         Err(OpError::OutOfMemory) => Err(AllocError),
-        Err(error) => Ok(Said::Bad(Complaint::Op(error))),
+        Err(error) => Ok(LineMeaning::Bad(Complaint::Op(error))),
     }
 }
 
 /// What an integer says.
-fn said_by_number(number: i64) -> Said
-    ensures { line_said_by result ≡ rule.said_by_number number }
+fn meaning_of_number(number: i64) -> LineMeaning
+    ensures { line_meaning_by result ≡ rule.meaning_of_number number }
 {
     if number < 0 {
-        Said::Bad(Complaint::BadTime)
+        LineMeaning::Bad(Complaint::BadTime)
     } else {
-        Said::Clock(number as u64)
+        LineMeaning::Clock(number as u64)
     }
 }
 
 /// What a value says.
-fn said_by_value(alloc: Global, value: Value) -> Result<Said, AllocError>
-    ensures { IfOk result (λ said. line_said_by said ≡ rule.said_by_value (view value)) }
+fn meaning_of_value(alloc: Global, value: Value) -> Result<LineMeaning, AllocError>
+    ensures { IfOk result (λ meaning. line_meaning_by meaning ≡ rule.meaning_of_value (view value)) }
 {
     if let Some(number) = value.as_integer() {
-        return Ok(said_by_number(number));
+        return Ok(meaning_of_number(number));
     }
     if value.is_keyword("stop") {
-        return Ok(Said::Stop);
+        return Ok(LineMeaning::Stop);
     }
-    said_by_operation(alloc, value)
+    meaning_of_operation(alloc, value)
 }
 
 /// What the values of a line say.
-fn said_by_values(alloc: Global, values: Vec<Value>) -> Result<Said, AllocError>
-    ensures { IfOk result (λ said. line_said_by said ≡ rule.said_by_values (views values.items)) }
+fn meaning_of_values(alloc: Global, values: Vec<Value>) -> Result<LineMeaning, AllocError>
+    ensures { IfOk result (λ meaning. line_meaning_by meaning ≡ rule.meaning_of_values (views values.items)) }
 {
     let mut values = values;
     if values.len() > 1 {
-        return Ok(Said::Bad(Complaint::MoreThanOne));
+        return Ok(LineMeaning::Bad(Complaint::MoreThanOne));
     }
     match values.pop() {
-        None => Ok(Said::Nothing),
-        Some(value) => said_by_value(alloc, value),
+        None => Ok(LineMeaning::Nothing),
+        Some(value) => meaning_of_value(alloc, value),
     }
 }
 
@@ -121,19 +121,19 @@ fn is_memory(error: EdnError) -> bool
 }
 
 /// What the bytes of a line say, which stand without its line feed.
-pub fn line_said(alloc: Global, line: &[u8]) -> Result<Said, AllocError>
-    ensures { IfOk result (λ said. line_said_by said ≡ rule.line_said line.now) }
+pub fn line_meaning(alloc: Global, line: &[u8]) -> Result<LineMeaning, AllocError>
+    ensures { IfOk result (λ meaning. line_meaning_by meaning ≡ rule.line_meaning line.now) }
 {
     let Ok(text) = str::from_utf8(line) else {
-        return Ok(Said::Bad(Complaint::Utf8));
+        return Ok(LineMeaning::Bad(Complaint::Utf8));
     };
     match values_in_line(alloc, text) {
-        Ok(values) => said_by_values(alloc, values),
+        Ok(values) => meaning_of_values(alloc, values),
         Err(error) => {
             if is_memory(error) {
                 return Err(AllocError);
             }
-            Ok(Said::Bad(Complaint::Edn(error)))
+            Ok(LineMeaning::Bad(Complaint::Edn(error)))
         }
     }
 }

@@ -1,7 +1,7 @@
 use Rattle.std.proofs.Common.{◌∙◌, ap}
 use Rattle.jh_edn.specs.View.{view_pairs}
 use Rattle.jh_ops.proofs.MapPairLemmas.{filter-viewed}
-use Rattle.jh_test_parts.specs.Said.{is_kept, pairs_kept}
+use Rattle.jh_test_parts.specs.LineMeanings.{is_kept, pairs_kept}
 use Rattle.jh_test_parts.proofs.line.kept_pairs.Goals as goal
 
 pub returns : goal.returns

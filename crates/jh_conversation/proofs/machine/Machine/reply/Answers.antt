@@ -1,5 +1,5 @@
 use Rattle.std.proofs.Common.{subst, sym}
-use Rattle.jh_test_parts.specs.Said.{line_said_by}
+use Rattle.jh_test_parts.specs.LineMeanings.{line_meaning_by}
 use Rattle.jh_conversation.specs.Sound.{IsSoundMachine}
 use Rattle.jh_conversation.proofs.KeptLemmas.{kept_take_in}
 use Rattle.jh_conversation.proofs.SoundLemmas.{sound_by_line}
@@ -9,4 +9,4 @@ pub turn-requires : goal.turn-requires
 turn-requires c =
     let t = c.args.test.now in
     subst (IsSoundMachine t) (sym c.in_ok-take_in.ensures)
-    (kept_take_in t (IsSoundMachine t) (sound_by_line t c.clients-clients.ensures.fit) c.listen.new.self (line_said_by c.in_ok-said.said) (subst (IsSoundMachine t) (sym c.in_ok-listen.ensures) c.requires))
+    (kept_take_in t (IsSoundMachine t) (sound_by_line t c.clients-clients.ensures.fit) c.listen.new.self (line_meaning_by c.in_ok-said.said) (subst (IsSoundMachine t) (sym c.in_ok-listen.ensures) c.requires))
