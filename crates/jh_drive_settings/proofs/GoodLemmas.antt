@@ -14,7 +14,7 @@ use Rattle.jh_settings.specs.Refusals.{AreGood}
 use Rattle.jh_settings.proofs.OrderLemmas.{refused_front, refused_behind, good_append, is_parsed}
 use Rattle.jh_settings.proofs.StartLemmas.{nodes_once}
 use Rattle.jh_test_parts.specs.declared.parts.Entry.{Entry}
-use Rattle.jh_drive_settings.specs.declared.parts.Load.{Load}
+use Rattle.jh_drive_settings.specs.declared.parts.Asked.{Asked}
 use Rattle.jh_drive_settings.specs.declared.parts.Details.{Details}
 use Rattle.jh_drive_settings.specs.declared.parts.Pace.{Pace}
 use Rattle.jh_drive_settings.specs.declared.parts.Parts.{Parts}
@@ -36,7 +36,7 @@ module _ (document : Members) where
   abbrev pub behind_asked : List Key
   behind_asked = pace_keys ++ behind_pace
 
-  asked_good : (asked : Load) → IsParsedAsked document asked → AreGood (IsGoodForTest document) asked_keys
+  asked_good : (asked : Asked) → IsParsedAsked document asked → AreGood (IsGoodForTest document) asked_keys
   asked_good asked h = ((_, h.start), (is_parsed h.workload, ((_, h.generator), tt)))
 
   pace_good : (pace : Pace) → IsParsedPace document pace → AreGood (IsGoodForTest document) pace_keys
@@ -86,26 +86,26 @@ module _ (document : Members) where
   pub asked_refused : (e : SettingsError) → Refuses asked_keys e → Refuses drive_keys e
   asked_refused e h = refused_front (IsGoodForTest document) asked_keys behind_asked e h
 
-  after_asked : (e : SettingsError) (asked : Load) → IsParsedAsked document asked → Refuses behind_asked e → Refuses drive_keys e
+  after_asked : (e : SettingsError) (asked : Asked) → IsParsedAsked document asked → Refuses behind_asked e → Refuses drive_keys e
   after_asked e asked a h = refused_behind (IsGoodForTest document) asked_keys behind_asked e (asked_good asked a) h
 
-  pub pace_refused : (e : SettingsError) (asked : Load) → IsParsedAsked document asked → Refuses pace_keys e → Refuses drive_keys e
+  pub pace_refused : (e : SettingsError) (asked : Asked) → IsParsedAsked document asked → Refuses pace_keys e → Refuses drive_keys e
   pace_refused e asked a h = after_asked e asked a (refused_front (IsGoodForTest document) pace_keys behind_pace e h)
 
-  after_pace : (e : SettingsError) (asked : Load) → IsParsedAsked document asked → (pace : Pace) → IsParsedPace document pace → Refuses behind_pace e → Refuses drive_keys e
+  after_pace : (e : SettingsError) (asked : Asked) → IsParsedAsked document asked → (pace : Pace) → IsParsedPace document pace → Refuses behind_pace e → Refuses drive_keys e
   after_pace e asked a pace p h = after_asked e asked a (refused_behind (IsGoodForTest document) pace_keys behind_pace e (pace_good pace p) h)
 
-  pub last_refused : (e : SettingsError) (asked : Load) → IsParsedAsked document asked → (pace : Pace) → IsParsedPace document pace
+  pub last_refused : (e : SettingsError) (asked : Asked) → IsParsedAsked document asked → (pace : Pace) → IsParsedPace document pace
       → RefusesValue ((g : Option Generator) × IsParsedFinal document g) Key.Final e → Refuses drive_keys e
   last_refused e asked a pace p h = after_pace e asked a pace p (refused_front (IsGoodForTest document) (Key.Final ∷ []) behind_last e (last_bad e h))
 
-  after_last : (e : SettingsError) (asked : Load) → IsParsedAsked document asked → (pace : Pace) → IsParsedPace document pace → (g : Option Generator) → IsParsedFinal document g → Refuses behind_last e → Refuses drive_keys e
+  after_last : (e : SettingsError) (asked : Asked) → IsParsedAsked document asked → (pace : Pace) → IsParsedPace document pace → (g : Option Generator) → IsParsedFinal document g → Refuses behind_last e → Refuses drive_keys e
   after_last e asked a pace p g f h = after_pace e asked a pace p (refused_behind (IsGoodForTest document) (Key.Final ∷ []) behind_last e (last_good g f) h)
 
-  pub details_refused : (e : SettingsError) (asked : Load) → IsParsedAsked document asked → (pace : Pace) → IsParsedPace document pace → (g : Option Generator) → IsParsedFinal document g → Refuses detail_keys e → Refuses drive_keys e
+  pub details_refused : (e : SettingsError) (asked : Asked) → IsParsedAsked document asked → (pace : Pace) → IsParsedPace document pace → (g : Option Generator) → IsParsedFinal document g → Refuses detail_keys e → Refuses drive_keys e
   details_refused e asked a pace p g f h = after_last e asked a pace p g f (refused_front (IsGoodForTest document) detail_keys (Key.Schedule ∷ []) e h)
 
-  pub schedule_refused : (e : SettingsError) (asked : Load) → IsParsedAsked document asked → (pace : Pace) → IsParsedPace document pace → (g : Option Generator) → IsParsedFinal document g → (details : Details) → AreParsedDetails document details
+  pub schedule_refused : (e : SettingsError) (asked : Asked) → IsParsedAsked document asked → (pace : Pace) → IsParsedPace document pace → (g : Option Generator) → IsParsedFinal document g → (details : Details) → AreParsedDetails document details
       → RefusesValue ((entries : List Entry) × IsParsedTestSchedule asked.environment.names document entries) Key.Schedule e → Refuses drive_keys e
   schedule_refused e asked a pace p g f details d h =
       after_last e asked a pace p g f (refused_behind (IsGoodForTest document) detail_keys (Key.Schedule ∷ []) e (details_good details d) (entries_bad asked.environment e a.start h))

@@ -18,7 +18,7 @@ use Rattle.jh_test_parts.specs.declared.parts.KeyShares.{KeyShares}
 use Rattle.jh_test_parts.specs.declared.parts.TransactionShape.{TransactionShape}
 use Rattle.jh_test_parts.specs.declared.test.TestError.{TestError}
 use Rattle.jh_test_parts.specs.Test.{TestValue, IsFitTest, RefusesTest}
-use Rattle.jh_drive_settings.specs.declared.parts.Load.{Load}
+use Rattle.jh_drive_settings.specs.declared.parts.Asked.{Asked}
 use Rattle.jh_drive_settings.specs.declared.parts.Details.{Details}
 use Rattle.jh_drive_settings.specs.declared.parts.Pace.{Pace}
 use Rattle.jh_drive_settings.specs.declared.parts.Parts.{Parts}
@@ -40,7 +40,7 @@ IsTestEntryIn names value found =
 abbrev pub asked_keys : List Key
 asked_keys = Key.Start ∷ Key.Workload ∷ Key.Generator ∷ []
 
-pub record IsParsedAsked (document : Members) (asked : Load) : Type 0 where
+pub record IsParsedAsked (document : Members) (asked : Asked) : Type 0 where
   pub start : IsParsedStart document asked.environment
   pub workload : parsed_checker document ≡ Some asked.checker
   pub generator : IsParsedGenerator document (generator_of asked.generator)

@@ -107,9 +107,9 @@ parsed_model document =
 -- when an entry is due: after so many answered calls, or at `[:ms T]`, so many milliseconds after the
 -- test began
 
-abbrev pub calls_of : ℤ → Option When
-calls_of (pos n) = if nat_le n 1000000 then Some (When.Calls n) else None
-calls_of _ = None
+abbrev pub calls_due : ℤ → Option When
+calls_due (pos n) = if nat_le n 1000000 then Some (When.Calls n) else None
+calls_due _ = None
 
 abbrev pub milliseconds_of : ℤ → Option When
 milliseconds_of (pos n) = if nat_le n 86400000 then Some (When.Milliseconds n) else None
@@ -121,7 +121,7 @@ when_of_elements (keyword name ∷ int z ∷ []) =
 when_of_elements _ = None
 
 abbrev pub parsed_when : Edn → Option When
-parsed_when (int z) = calls_of z
+parsed_when (int z) = calls_due z
 parsed_when x = option_and_then when_of_elements (elements_of x)
 
 -- an entry, where its step is parsed

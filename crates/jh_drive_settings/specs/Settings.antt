@@ -46,22 +46,22 @@ abbrev pub IsFinalAllowed : TestValue → Type 0
 IsFinalAllowed test = (is_some test.keys && is_some test.final) ≡ false
 
 -- a document means this test, and how its history is judged: from what a register holds at first, by
--- this model, with so many tries
+-- this model, reaching at most so many configurations
 pub record AreDriveSettings (document : Members) (test : TestValue) (held : Option ℤ)
-    (consistency : ConsistencyModel) (tries : ℕ) : Type 0 where
+    (consistency : ConsistencyModel) (limit : ℕ) : Type 0 where
   pub known : HasKnownKeys drive_keys document
   pub parsed : IsParsedTest document test
   pub initial : parsed_test_initial document ≡ Some held
   pub model : parsed_model document ≡ Some consistency
-  pub budget : parsed_budget document ≡ Some tries
+  pub budget : parsed_budget document ≡ Some limit
   pub fit : IsFitTest test
   pub allowed : IsFinalAllowed test
 
 -- the settings that bytes spell
 abbrev pub AreDriveSettingsOf : List ℕ → TestValue → Option ℤ → ConsistencyModel → ℕ → Type 0
-AreDriveSettingsOf bytes test held consistency tries =
+AreDriveSettingsOf bytes test held consistency limit =
     (document : Members) × IsDocument bytes document
-    × AreDriveSettings document test held consistency tries
+    × AreDriveSettings document test held consistency limit
 
 -- of the two keys that say how keys are shared it is missing, and the other one is not
 abbrev pub IsLoneShare : Members → Key → Type 0

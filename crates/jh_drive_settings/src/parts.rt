@@ -8,7 +8,7 @@ use jh_txn::ConsistencyModel;
 
 /// What is asked of the database.
 #[derive(Drop)]
-pub(crate) struct Load {
+pub(crate) struct Asked {
     pub environment: Env,
     pub checker: Checker,
     pub generator: Gen,
@@ -39,7 +39,7 @@ pub(crate) struct Details {
 /// All parts.
 #[derive(Drop)]
 pub(crate) struct Parts {
-    pub asked: Load,
+    pub asked: Asked,
     pub pace: Pace,
     pub last: Option<Gen>,
     pub details: Details,

@@ -23,8 +23,8 @@ use std::alloc::{AllocError, Global};
 use toml::Table;
 
 /// So many answered calls: from 0 to 1,000,000, and no other number.
-fn calls_of(at: i64) -> Option<When>
-    ensures { result ≡ rule.calls_of at }
+fn calls_due(at: i64) -> Option<When>
+    ensures { result ≡ rule.calls_due at }
 {
     match u32::try_from(at) {
         Ok(calls) if calls <= MAX_CALLS => Some(When::Calls(calls)),
@@ -49,7 +49,7 @@ fn when_of(element: &Value) -> Option<When>
     ensures { result ≡ rule.parsed_when (view element.now) }
 {
     if let Value::Int(at) = element {
-        return calls_of(*at);
+        return calls_due(*at);
     }
     match element.elements() {
         Some([Value::Keyword(name), Value::Int(at)]) if name.as_str() == "ms" => {

@@ -21,7 +21,7 @@ use crate::choices::{checker_under, final_under, model_under, test_initial_under
 use crate::numbers::{
     rate_under, recovery_under, share_under, test_ops_under, time_limit_under, transaction_number,
 };
-use crate::parts::{Details, Load, Pace, Parts};
+use crate::parts::{Asked, Details, Pace, Parts};
 use crate::schedule::entries_under;
 use jh_checkers::Checker;
 use jh_gen::Gen;
@@ -47,7 +47,7 @@ pub struct DriveSettings {
 }
 
 /// What a table means under `start`, `workload` and `generator`.
-fn asked_of(alloc: Global, table: &Table) -> Result<Load, SettingsError>
+fn asked_of(alloc: Global, table: &Table) -> Result<Asked, SettingsError>
     ensures { MatchResult result
         (IsParsedAsked (table_view table.now))
         (RefusesKeyValues (IsGoodForTest (table_view table.now)) inside.asked_keys) }
@@ -55,7 +55,7 @@ fn asked_of(alloc: Global, table: &Table) -> Result<Load, SettingsError>
     let environment = start_under(alloc, table)?;
     let checker = checker_under(table)?;
     let generator = generator_under(alloc, table, Key::Generator)?;
-    Ok(Load {
+    Ok(Asked {
         environment,
         checker,
         generator,

@@ -1,5 +1,5 @@
 //! What nodes keep of the database, and what they answer. `specs/Replicas.antt` has the rules of
-//! marks and of first replicas.
+//! recency and of first replicas.
 
 ghost use Rattle.std.specs.Prelude.{◌≡◌, List, [], IfOk, replicate};
 ghost use Rattle.jh_simnode.specs.Replicas.{first_contents, first_replica, is_lower, version};
