@@ -45,7 +45,8 @@ impl Gate for Open {
     }
 }
 
-/// What a call asks. Each call picks its own.
+/// What is asked of the threads of one call, as a name in the types for the prover alone: `Brand` makes a
+/// new one for each call, so that no answer of another call is taken for one of this.
 pub trait Asking {
     /// The history, and what it is judged by.
     ghost asked: { KeysQuestion };

@@ -147,7 +147,8 @@ fn entries_with_faults(
     Ok(entries)
 }
 
-/// Puts the withdrawal of all faults among entries, where the candidate has one by its own number.
+/// Puts the withdrawal of all faults among entries, where the candidate has one: two candidates in three heal,
+/// as their first random number says.
 fn put_heal(plan: &Plan, own: u64, entries: &mut Vec<Entry>) -> Result<(), AllocError>
     requires kept { AreEntriesFor plan.now entries.old.items }
     ensures put { OnOk result

@@ -59,7 +59,8 @@ impl From<AllocError> for SearchError {
 /// What trying one candidate gave.
 type Answer = Result<Verdict, AllocError>;
 
-/// The candidates of a block. Each block picks its own.
+/// The candidates of a block, as a name in the types for the prover alone: how many there are, and what may
+/// come of each. `Brand` makes a new one for each block.
 pub trait Tries {
     /// How many there are.
     ghost count: { ℕ };

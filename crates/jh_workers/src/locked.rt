@@ -132,6 +132,7 @@ impl<L: Ledger> Counted<L> {
             left: _,
         } = self;
         let given = world.step(step)?;
+        // The journal bounds the book.
         let _events = world.journal();
         count_one(book, mine);
         Ok(given)
@@ -152,6 +153,7 @@ impl<L: Ledger> Counted<L> {
             left: _,
         } = self;
         let given = world.tick()?;
+        // The journal bounds the book.
         let _events = world.journal();
         count_one(book, mine);
         Ok(given)

@@ -15,7 +15,8 @@ use jh_slots::{Claim, Full, ROW_WORDS, Seat, Slots};
 use std::alloc::Global;
 use std::marker::{Brand, PhantomData};
 
-/// Which log a run writes into. Each run picks its own.
+/// The log that a run writes into, as a name in the types for the prover alone: `Brand` makes a new one for
+/// each run, so that a seat of one log is never taken for a seat of another.
 pub trait OfLog {
     /// The table of the log.
     ghost table: { TableId };
