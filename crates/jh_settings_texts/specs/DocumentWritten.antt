@@ -88,7 +88,7 @@ members_behind_initial p =
     ∷ (Key.Volatile, boolean p.settings.volatile)
     ∷ (Key.Workload, string (workload_name p.settings.workload)) ∷ []
 
--- the document of a plan that is run serially, with so many tries for a judgement
+-- the document of a plan that is run serially, whose judge reaches at most so many configurations
 abbrev pub document_of : PlanValue → ℕ → Members
 document_of p budget =
     keyed_members
