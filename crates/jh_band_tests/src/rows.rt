@@ -1,16 +1,24 @@
-//! Rows `STEPS | RECORDS => BANDS`: the steps of a schedule, the records of a history, and the bands that are wanted.
+//! Rows `STEPS | RECORDS => BANDS`: the steps of a schedule, the records of a history, and the bands or the lines that are wanted.
 //!
 //! Records are separated by `; `. `ask PLACE` asks for the step of an entry, and `ask PLACE STEP` has the step too; `done PLACE
-//! CODE` answers; `client` is a client's invocation, and `other` a record of another nemesis. Each band is `FROM TO LABEL;`, with
-//! `-` for TO where the fault is active at the end, and bands have a space between them.
+//! CODE` answers; `client` is a client's invocation, and `other KEYS` a record of another nemesis, with these keys. Each band is
+//! `FROM TO LABEL;`, with `-` for TO where the fault is active at the end, and each line is `INDEX LABEL;`. They have a space
+//! between them.
 
-use jh_bands::{Band, bands_of};
+use jh_bands::{Band, Line, bands_of, lines_of};
 use jh_edn::read_all;
 use jh_histories::history_in;
 use jh_ops::Op;
 use std::alloc::Global;
 use std::io::Write;
 use std::test::Fail;
+
+/// What is drawn of a history.
+#[derive(Clone, Copy)]
+pub(crate) enum Drawn {
+    Bands,
+    Lines,
+}
 
 /// Writes what the nemesis asks for: a place, and a step behind it, if there is one. None: memory was refused.
 fn write_asked(asked: &str, text: &mut Vec<u8>) -> Option<()> {
@@ -29,11 +37,8 @@ fn write_record(record: &str, text: &mut Vec<u8>) -> Option<()> {
     let start = "{:type :info, :process :nemesis";
     match record.split_once(' ') {
         Some(("ask", asked)) => write_asked(asked, text),
+        Some(("other", keys)) => write!(text, "{start}, {keys}").ok(),
         Some((_, answer)) => write!(text, "{start}, :f :step, :value [{answer}]").ok(),
-        None if record == "other" => write!(
-            text,
-            "{start}, :f :start-partition, :value :majority"
-        ).ok(),
         None => text
             .extend_from_slice(b"{:type :invoke, :process 0, :f :read")
             .ok(),
@@ -75,18 +80,31 @@ fn text_of_bands(alloc: Global, bands: &[Band]) -> Option<Vec<u8>> {
     Some(text)
 }
 
-/// The text of the bands of a row. None: memory was refused.
-fn answer_to(alloc: Global, steps: &str, records: &str) -> Option<Vec<u8>> {
-    let steps = read_all(alloc, &mut steps.as_bytes(), 10).ok()?;
-    let history = history_of_row(alloc, records)?;
-    let bands = bands_of(alloc, &steps, &history).ok()?;
-    text_of_bands(alloc, &bands)
+/// The text of lines. None: memory was refused.
+fn text_of_lines(alloc: Global, lines: &[Line]) -> Option<Vec<u8>> {
+    let mut text = Vec::new(alloc);
+    for line in lines {
+        write!(text, "{} ", line.index).ok()?;
+        text.extend_from_slice(&line.label).ok()?;
+        text.extend_from_slice(b"; ").ok()?;
+    }
+    Some(text)
 }
 
-/// Whether these are the bands of a row, asked once more where memory was refused.
-fn is_answered(alloc: Global, steps: &str, records: &str, expected: &str) -> bool {
-    let found = match answer_to(alloc, steps, records) {
-        None => answer_to(alloc, steps, records),
+/// The text of what is drawn of a row. None: memory was refused.
+fn answer_to(alloc: Global, drawn: Drawn, steps: &str, records: &str) -> Option<Vec<u8>> {
+    let steps = read_all(alloc, &mut steps.as_bytes(), 10).ok()?;
+    let history = history_of_row(alloc, records)?;
+    match drawn {
+        Drawn::Bands => text_of_bands(alloc, &bands_of(alloc, &steps, &history).ok()?),
+        Drawn::Lines => text_of_lines(alloc, &lines_of(alloc, &steps, &history).ok()?),
+    }
+}
+
+/// Whether this is drawn of a row, asked once more where memory was refused.
+fn is_answered(alloc: Global, drawn: Drawn, steps: &str, records: &str, expected: &str) -> bool {
+    let found = match answer_to(alloc, drawn, steps, records) {
+        None => answer_to(alloc, drawn, steps, records),
         found => found,
     };
     match found {
@@ -95,12 +113,12 @@ fn is_answered(alloc: Global, steps: &str, records: &str, expected: &str) -> boo
     }
 }
 
-/// Judges each row. One with other bands is the failure.
-pub(crate) fn judge_all(alloc: Global, rows: &str) -> Result<(), Fail> {
+/// Judges each row. One of which something else is drawn is the failure.
+pub(crate) fn judge_all(alloc: Global, drawn: Drawn, rows: &str) -> Result<(), Fail> {
     for row in rows.trim().lines() {
-        let (given, expected) = row.split_once(" => ").ok_or("no bands")?;
+        let (given, expected) = row.split_once(" => ").ok_or("nothing is drawn")?;
         let (steps, records) = given.split_once("| ").ok_or("no records")?;
-        if !is_answered(alloc, steps, records, expected) {
+        if !is_answered(alloc, drawn, steps, records, expected) {
             return Err(Fail::new(row));
         }
     }

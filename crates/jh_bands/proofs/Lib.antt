@@ -2,5 +2,7 @@ mod ActiveLemmas
 mod BandLemmas
 mod EditLemmas
 mod HistoryLemmas
+mod LineLemmas
 mod MomentLemmas
 mod ReplayLemmas
+mod WordsLemmas

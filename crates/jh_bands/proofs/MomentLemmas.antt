@@ -17,7 +17,7 @@ pub record Going (moment : Moment) (changes : List Change) (steps : List Edn) (h
   pub fit : AreFit moment.replay
   pub distinct : HasOwnIds (view_replay moment.replay)
 
-drop_one : (history : List Op) (i : ℕ) (op : Op) → i < length history → op ≡ get_or history i op
+pub drop_one : (history : List Op) (i : ℕ) (op : Op) → i < length history → op ≡ get_or history i op
     → drop i (operations history) ≡ operation op ∷ drop (i + 1) (operations history)
 drop_one [] i op below same = absurd (omega arith)
 drop_one (x ∷ xs) zero op below same = ap (λ o. operation o ∷ operations xs) (sym same)

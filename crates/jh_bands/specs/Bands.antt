@@ -3,7 +3,7 @@
 -- nemesis asks for the step of an entry of the schedule, and its next record answers with the entry's
 -- place and a code, which is 0 where the step was done (`code_of` of jh_nemesis, specs/Steps.antt).
 -- Indexes count the records of the history from 0.
-use Rattle.std.specs.Prelude.{ℕ, ◌+◌, ◌<◌, ℤ, pos, negsuc, Bool, false, not, ◌&&◌, List, [], ◌∷◌}
+use Rattle.std.specs.Prelude.{ℕ, ◌+◌, ◌<◌, ℤ, pos, negsuc, Bool, not, ◌&&◌, List, [], ◌∷◌}
 use Rattle.std.specs.Prelude.{◌++◌, map, filter, slice_get, codes, IfSome}
 use Rattle.std.specs.Prelude.{if◌then◌else◌, Option, Some, None, option_and_then, option_map}
 use Rattle.std.specs.Option.{option_map_or, option_or}
@@ -14,6 +14,7 @@ use Rattle.jh_ops.specs.Operation.{Operation, is_client, is_kind}
 use Rattle.jh_ops.specs.declared.operation.Kind.{Kind}
 use Rattle.jh_bands.specs.Replay.{ActiveList, StepValue, ReplayValue, first_replay, is_id_active}
 use Rattle.jh_bands.specs.Replay.{replay_after, step_in}
+use Rattle.jh_bands.specs.Words.{in_words}
 use Rattle.jh_bands.specs.declared.band.Band.{Band}
 
 -- ---- records of steps
@@ -43,19 +44,32 @@ abbrev pub asked_in : List Edn → Operation → Option (ℤ × StepValue)
 asked_in steps op =
     if is_of_step op then option_and_then (asked_at steps op.rest) (integer_of op.value) else None
 
--- the elements are this place and the code 0
-abbrev pub are_done : ℤ → List Edn → Bool
-are_done place (int answered ∷ int code ∷ []) = int_eq answered place && int_eq code (pos 0)
-are_done place _ = false
+-- the code that these elements have behind this place, if they are a place and a code
+abbrev pub code_behind : ℤ → List Edn → Option ℤ
+code_behind place (int answered ∷ int code ∷ []) = if int_eq answered place then Some code else None
+code_behind place _ = None
 
--- the record says that the step of the entry at this place was done
-abbrev pub says_done : ℤ → Operation → Bool
-says_done place op = is_of_step op && option_map_or (are_done place) (elements_of op.value) false
+-- the code with which a record answers the step of the entry at this place, if it answers it
+abbrev pub answer_code : ℤ → Operation → Option ℤ
+answer_code place op =
+    if is_of_step op then option_and_then (code_behind place) (elements_of op.value) else None
+
+-- the step that a record answers, behind the nemesis's record that asked for it, with the code
+abbrev pub answered_step : Option (ℤ × StepValue) → Operation → Option (StepValue × ℤ)
+answered_step None op = None
+answered_step (Some asked) op = option_map (λ code. (asked.1, code)) (answer_code asked.0 op)
+
+-- this code says that the step was done
+abbrev pub is_done_code : ℤ → Bool
+is_done_code code = int_eq code (pos 0)
+
+-- the step that was done, of one that was answered
+abbrev pub step_if_done : StepValue × ℤ → Option StepValue
+step_if_done answered = if is_done_code answered.1 then Some answered.0 else None
 
 -- the step that a record says was done, behind the nemesis's record that asked for it
 abbrev pub done_step : Option (ℤ × StepValue) → Operation → Option StepValue
-done_step None op = None
-done_step (Some asked) op = if says_done asked.0 op then Some asked.1 else None
+done_step waiting op = option_and_then step_if_done (answered_step waiting op)
 
 -- ---- active faults
 
@@ -99,9 +113,9 @@ pub record BandValue : Type 0 where
 abbrev pub view_band : Band → BandValue
 view_band band = record { from = band.from; to = band.to; label = band.label.items }
 
--- what names a fault: its id, a space and its text
+-- what names a fault: its id, and behind a colon the fault in words, as `1: cut n1 n2`
 abbrev pub label_of : ℤ × Edn → List ℕ
-label_of fault = print (int fault.0) ++ (codes " " ++ print fault.1)
+label_of fault = print (int fault.0) ++ (codes ": " ++ in_words fault.1)
 
 -- the faults that are active now and were not before
 abbrev pub new_faults : ActiveList → ActiveList → ActiveList

@@ -11,6 +11,7 @@ use Rattle.jh_edn.specs.View.{view}
 use Rattle.jh_bands.specs.Bands.{BandValue, MomentValue, label_of, new_faults}
 use Rattle.jh_bands.specs.Replay.{ActiveList, StepValue, begin, withdraw, withdraw_all, undo, redo}
 use Rattle.jh_bands.specs.Replay.{ReplayValue, is_id_active}
+use Rattle.jh_bands.specs.declared.step.Answered.{Answered}
 use Rattle.jh_bands.specs.declared.step.Asked.{Asked}
 use Rattle.jh_bands.specs.declared.step.Fault.{Fault}
 use Rattle.jh_bands.specs.declared.step.Step.{Step}
@@ -37,6 +38,9 @@ view_step Step.Redo = redo
 
 abbrev pub view_asked : Asked → ℤ × StepValue
 view_asked asked = (asked.place, view_step asked.step)
+
+abbrev pub view_answered : Answered → StepValue × ℤ
+view_answered answered = (view_step answered.step, answered.code)
 
 -- ---- edits
 

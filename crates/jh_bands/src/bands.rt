@@ -6,38 +6,15 @@ ghost use Rattle.jh_ops.specs.Operation.{operations};
 ghost use Rattle.jh_bands.specs.Bands as rule;
 ghost use Rattle.jh_bands.specs.Bands.{IsBandWithin, view_band};
 ghost use Rattle.jh_bands.specs.BandsInside.{bands_along, new_bands, view_change, view_changes};
-ghost use Rattle.jh_bands.specs.BandsInside.{view_fault};
 
 use crate::band::Band;
 use crate::edit::Change;
+use crate::labels::fault_label;
 use crate::moment::changes_in;
-use crate::step::Fault;
-use jh_edn::{EdnError, Value, put, write};
+use jh_edn::Value;
 use jh_ops::Op;
 use std::alloc::{AllocError, Global};
 use std::collections::BTreeMap;
-
-/// Writes what names a fault.
-fn write_label(fault: Fault, label: &mut Vec<u8>) -> Result<(), EdnError>
-    ensures { OnOk result (label.new.items
-        ≡ label.old.items ++ rule.label_of (view_fault fault.entry)) }
-{
-    write(&Value::Int(fault.id), label)?;
-    put(b" ", label)?;
-    write(fault.value, label)
-}
-
-/// What names a fault.
-fn label_of(alloc: Global, fault: Fault) -> Result<Vec<u8>, AllocError>
-    ensures { IfOk result (λ label. label.items ≡ rule.label_of (view_fault fault.entry)) }
-{
-    let mut label = Vec::new(alloc);
-    match write_label(fault, &mut label) {
-        Ok(()) => Ok(label),
-        // A vector refuses bytes only where memory runs out.
-        Err(_) => Err(AllocError),
-    }
-}
 
 /// Adds the band of a change that begins, up to an index.
 fn add_band(
@@ -50,7 +27,7 @@ fn add_band(
         ≡ map view_band bands.old.items ++ new_bands (view_change change.entry) to) }
 {
     if change.begins {
-        let label = label_of(alloc, change.fault)?;
+        let label = fault_label(alloc, change.fault)?;
         bands.push(Band {
             from: change.index,
             to,

@@ -5,7 +5,7 @@ ghost use Rattle.std.specs.Prelude.{◌≡◌, option_and_then, option_map};
 ghost use Rattle.jh_edn.specs.View.{view, views};
 ghost use Rattle.jh_ops.specs.Operation.{operation};
 ghost use Rattle.jh_bands.specs.Bands as rule;
-ghost use Rattle.jh_bands.specs.BandsInside.{view_asked, view_step};
+ghost use Rattle.jh_bands.specs.BandsInside.{view_answered, view_asked, view_step};
 ghost use Rattle.jh_bands.specs.Replay as replay;
 
 use jh_edn::{Value, value_under};
@@ -40,6 +40,14 @@ pub(crate) struct Asked<'a> {
     /// The place of its entry.
     pub(crate) place: i64,
     pub(crate) step: Step<'a>,
+}
+
+/// A step that was answered.
+#[derive(Clone, Copy)]
+pub(crate) struct Answered<'a> {
+    pub(crate) step: Step<'a>,
+    /// The code of the answer: 0, or why the step was refused.
+    pub(crate) code: i64,
 }
 
 /// The step that is a keyword alone.
@@ -124,34 +132,54 @@ pub(crate) fn asked_in<'a>(steps: &'a [Value], op: &'a Op) -> Option<Asked<'a>>
     }
 }
 
-/// Whether elements are a place and the code of a step that was done.
-fn are_done(place: i64, elements: &[Value]) -> bool
-    ensures { result ≡ rule.are_done place (views elements.now) }
+/// The code that elements have behind a place, if they are the place and a code.
+fn code_behind(place: i64, elements: &[Value]) -> Option<i64>
+    ensures { result ≡ rule.code_behind place (views elements.now) }
 {
     match elements {
-        [Value::Int(answered), Value::Int(code)] => *answered == place && *code == 0,
-        _ => false,
+        [Value::Int(answered), Value::Int(code)] if *answered == place => Some(*code),
+        _ => None,
     }
 }
 
-/// Whether a record says that the step at a place was done.
-fn says_done(place: i64, op: &Op) -> bool
-    ensures { result ≡ rule.says_done place (operation op.now) }
+/// The code with which a record answers the step at a place, if it answers it.
+fn answer_code(place: i64, op: &Op) -> Option<i64>
+    ensures { result ≡ rule.answer_code place (operation op.now) }
 {
-    is_of_step(op)
-        && match op.value.elements() {
-            Some(elements) => are_done(place, elements),
-            None => false,
-        }
+    if is_of_step(op) {
+        code_behind(place, op.value.elements()?)
+    } else {
+        None
+    }
+}
+
+/// The step that waited for its answer, where a record answers it.
+pub(crate) fn answered_step<'a>(waiting: Option<Asked<'a>>, op: &Op) -> Option<Answered<'a>>
+    ensures { option_map view_answered result
+        ≡ rule.answered_step (option_map view_asked waiting.entry) (operation op.now) }
+{
+    let asked = waiting?;
+    let code = answer_code(asked.place, op)?;
+    Some(Answered {
+        step: asked.step,
+        code,
+    })
+}
+
+/// Whether a code says that the step was done.
+pub(crate) fn is_done_code(code: i64) -> bool
+    ensures { result ≡ rule.is_done_code code }
+{
+    code == 0
 }
 
 /// The step that waited for its answer, where a record says that it was done.
-pub(crate) fn done_step<'a>(asked: Option<Asked<'a>>, op: &Op) -> Option<Step<'a>>
+pub(crate) fn done_step<'a>(waiting: Option<Asked<'a>>, op: &Op) -> Option<Step<'a>>
     ensures { option_map view_step result
-        ≡ rule.done_step (option_map view_asked asked.entry) (operation op.now) }
+        ≡ rule.done_step (option_map view_asked waiting.entry) (operation op.now) }
 {
-    match asked {
-        Some(asked) if says_done(asked.place, op) => Some(asked.step),
+    match answered_step(waiting, op) {
+        Some(answered) if is_done_code(answered.code) => Some(answered.step),
         _ => None,
     }
 }
