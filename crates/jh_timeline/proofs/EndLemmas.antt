@@ -284,24 +284,24 @@ kept_none ends index until busy free =
 -- what is kept of the bars of these calls, and of their lanes
 pub record Going (held : BTreeMap ℕ ℕ) (ends : Ends) (bars : List Bar) (done : List Call) : Type 0 where
   pub laned : Laned (get nat_cmp held) ends.until.items bars done
-  pub kept : (index : ℕ) → All (λ bar. bar.call.invoke ≤ index) bars → AreKept ends index (length ends.until.items)
+  pub kept : (index : ℕ) → All (λ bar. bar.call.first ≤ index) bars → AreKept ends index (length ends.until.items)
 
 -- lanes are kept at the next call
 pub going_here : (held : BTreeMap ℕ ℕ) (ends : Ends) (bars : List Bar) (calls : List Call) (k : ℕ) (d : Call) → AreCallsInOrder calls → k < length calls
-    → Going held ends bars (take k calls) → AreKept ends (get_or calls k d).invoke (length ends.until.items)
+    → Going held ends bars (take k calls) → AreKept ends (get_or calls k d).first (length ends.until.items)
 going_here held ends bars calls k d order below going =
     let call = get_or calls k d in
     let follows = all_follow calls bars k call order below (any_default calls k d call below) going.laned.calls in
-    going.kept call.invoke (λ j e inside. let one = (follows j e inside).invoke in omega (arith, one))
+    going.kept call.first (λ j e inside. let one = (follows j e inside).first in omega (arith, one))
 
 pub going_more : (old new : BTreeMap ℕ ℕ) (ends later : Ends) (bars grown : List Bar) (calls : List Call) (k lane : ℕ) (d : Call) → AreCallsInOrder calls → k < length calls
-    → TakesOrKeepsLane old new ends.until.items later.until.items (get_or calls k d) lane → AreKept later (get_or calls k d).invoke (length later.until.items)
+    → TakesOrKeepsLane old new ends.until.items later.until.items (get_or calls k d) lane → AreKept later (get_or calls k d).first (length later.until.items)
     → Going old ends bars (take k calls) → grown ≡ bars ++ record { call = get_or calls k d; lane = lane } ∷ [] → Going new later grown (take (k + 1) calls)
 going_more old new ends later bars grown calls k lane d order below takes kept going made =
     let bar : Bar = record { call = get_or calls k d; lane = lane } in
     record {
       laned = laned_more old new ends.until.items later.until.items bars grown calls k lane d order below takes going.laned made;
       kept = λ index all.
-          let here = (all_snoc (λ b. b.call.invoke ≤ index) bars bar (subst (All (λ b. b.call.invoke ≤ index)) made all)).1 in
-          kept_later later (get_or calls k d).invoke index (length later.until.items) here kept;
+          let here = (all_snoc (λ b. b.call.first ≤ index) bars bar (subst (All (λ b. b.call.first ≤ index)) made all)).1 in
+          kept_later later (get_or calls k d).first index (length later.until.items) here kept;
     }

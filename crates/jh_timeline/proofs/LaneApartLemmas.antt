@@ -3,42 +3,44 @@ use Rattle.std.proofs.Common.{◌≡◌, ℕ, ◌+◌, ◌<◌, ◌≤◌, Bool,
 use Rattle.std.specs.Prelude.{is_none, is_some, not, ◌&&◌, ◌||◌, filter, All, MatchOption, option_map}
 use Rattle.std.specs.List.{list_any}
 use Rattle.std.specs.Option.{option_or}
-use Rattle.std.proofs.lemmas.List.Elements.{filter-append, All-cons, All-push, All-head, All-tail}
+use Rattle.std.proofs.lemmas.List.Elements.{filter-append, All-cons, All-nil, All-push, All-head, All-tail}
 use Rattle.std.proofs.Math.Bool.{or-false, or-true}
 use Rattle.std.specs.Ordering.{nat_cmp}
 use Rattle.std.specs.BTreeSet as sets
 use Rattle.std.specs.BTreeSet.{BTreeSet}
-use Rattle.std.specs.BTreeMap.{Updates}
+use Rattle.std.proofs.Math.Nat.{le-max_right}
 use Rattle.std.proofs.lemmas.Bool.{eq-eqb}
 use Rattle.std.proofs.lemmas.Bool.Decides.{nat_tests}
 use Rattle.std.proofs.lemmas.List.{get_or_append_left, map-append, take_more}
 use Rattle.std.proofs.Math.Seq.{get_or-append_seam}
 use Rattle.jh_ops.specs.Operation.{Operation}
-use Rattle.jh_timeline.specs.Lanes.{first_bars, clients_of, lane_clients, AreBarsApart, AreBarsOf, AreKeptApart, call_end, IsFirstFree, TakeLanes, TakesLane, first_bar, is_held}
-use Rattle.jh_timeline.specs.LanesInside.{AreCallsInOrder, Follows}
+use Rattle.jh_timeline.specs.Lanes.{first_bars, clients_of, lane_clients, AreBarsApart, AreBarsOf, AreKeptApart, first_row_of, last_row_of, IsFirstFree, TakeLanes, TakesLane, first_bar, is_held}
+use Rattle.jh_timeline.specs.LanesInside.{AreDrawnInOrder, Follows, FollowsIn}
 use Rattle.jh_timeline.specs.declared.picture.Bar.{Bar}
 use Rattle.jh_timeline.specs.declared.picture.Call.{Call}
+use Rattle.jh_timeline.specs.declared.marks.Mark.{Mark}
 use Rattle.jh_timeline.specs.declared.picture.Lane.{Lane}
 use Rattle.jh_timeline.specs.declared.picture.Window.{Window}
 use Rattle.jh_timeline.proofs.CallLemmas.{differ, equal, missed}
 use Rattle.jh_timeline.proofs.LaneLemmas.{first_snoc, found_is, longer, ltb_is, ltb_not}
-use Rattle.jh_timeline.proofs.CallOrderLemmas.{all_none, self_eqb, within_order}
+use Rattle.jh_timeline.proofs.HistoryOrderLemmas.{self_eqb}
+use Rattle.jh_timeline.proofs.DrawnLemmas.{drawn_in_order}
 
 -- ---- bars of one lane are apart
 
 -- The processes of two bars in one lane are one, or the one has its last record before the other's bar begins.
 abbrev AreDisjoint : Bar → Bar → Type 0
-AreDisjoint a b = a.lane ≡ b.lane → (a.call.client ≡ b.call.client → ⊥) → (a.call.last < b.call.invoke) ⊎ (b.call.last < a.call.invoke)
+AreDisjoint a b = a.lane ≡ b.lane → (a.call.client ≡ b.call.client → ⊥) → (a.call.last < b.call.first) ⊎ (b.call.last < a.call.first)
 
 -- what is known of bars that took their lanes
-record Spread (bars : List Bar) : Type 0 where
+record Spread (window : Window) (bars : List Bar) : Type 0 where
   one : All (λ b. option_map (λ x. x.lane) (first_bar b.call.client bars) ≡ Some b.lane) bars
   disjoint : All (λ a. All (AreDisjoint a) bars) bars
-  apart : AreBarsApart bars
+  apart : AreBarsApart window bars
 
 -- the process of an earlier bar in the lane of a new one, if it is another, has its last record before
 abbrev IsBehind : Bar → Bar → Type 0
-IsBehind bar b = b.lane ≡ bar.lane → (b.call.client ≡ bar.call.client → ⊥) → b.call.last < bar.call.invoke
+IsBehind bar b = b.lane ≡ bar.lane → (b.call.client ≡ bar.call.client → ⊥) → b.call.last < bar.call.first
 
 some_same : (a b : ℕ) → Some a ≡ Some b → a ≡ b
 some_same a b e = cc
@@ -60,29 +62,29 @@ past_test : (a lane index last : ℕ) → (eqb a lane && leb index last) ≡ fal
 past_test a lane index last e same =
     leb_not index last (sym (ap (λ t. t && leb index last) (eq-eqb a lane same)) ∙ e)
 
-behind_free : (bars : List Bar) (bar : Bar) → is_held bars bar.call.invoke bar.lane ≡ false → All (IsBehind bar) bars
+behind_free : (bars : List Bar) (bar : Bar) → is_held bars bar.call.first bar.lane ≡ false → All (IsBehind bar) bars
 behind_free bars bar free =
-    let none = none_any (λ b. eqb b.lane bar.lane && leb bar.call.invoke b.call.last) bars free in
-    λ k d below same other. past_test (get_or bars k d).lane bar.lane bar.call.invoke (get_or bars k d).call.last (none k d below) same
+    let none = none_any (λ b. eqb b.lane bar.lane && leb bar.call.first b.call.last) bars free in
+    λ k d below same other. past_test (get_or bars k d).lane bar.lane bar.call.first (get_or bars k d).call.last (none k d below) same
 
 behind_one : (first b bar : Bar) → first.call.client ≡ bar.call.client → bar.lane ≡ first.lane → AreDisjoint first b → Follows first.call bar.call → Follows b.call bar.call → IsBehind bar b
 behind_one first b bar client lane disjoint follows later same other =
-    let order : (first.call.last < b.call.invoke) ⊎ (b.call.last < first.call.invoke) =
+    let order : (first.call.last < b.call.first) ⊎ (b.call.last < first.call.first) =
     disjoint (sym lane ∙ sym same) (λ one. other (sym one ∙ client)) in
     let last : first.call.last ≡ bar.call.last = follows.last client in
-    let begin : first.call.invoke < bar.call.invoke = follows.invoke in
-    let reach : bar.call.invoke ≤ bar.call.last = follows.reach in
-    let before : b.call.invoke < bar.call.invoke = later.invoke in
-    elim order as (λ _. b.call.last < bar.call.invoke) [ inl early ↦ absurd (omega arith) | inr late ↦ omega arith ]
+    let begin : first.call.first < bar.call.first = follows.first in
+    let reach : bar.call.first ≤ bar.call.last = follows.reach in
+    let before : b.call.first < bar.call.first = later.first in
+    elim order as (λ _. b.call.last < bar.call.first) [ inl early ↦ absurd (omega arith) | inr late ↦ omega arith ]
 
-behind_all : (bars : List Bar) (bar : Bar) (o : Option Bar) → first_bar bar.call.client bars ≡ o
-    → MatchOption o (IsFirstFree bars bar.call.invoke bar.lane) (λ first. bar.lane ≡ first.lane) → Spread bars → All (λ b. Follows b.call bar.call) bars → All (IsBehind bar) bars
-behind_all bars bar None is takes spread follows = behind_free bars bar takes.free
-behind_all bars bar (Some first) is takes spread follows =
-    let both : All (λ a. All (AreDisjoint a) bars × Follows a.call bar.call) bars = λ k d below. (spread.disjoint k d below, follows k d below) in
+behind_all : (window : Window) (bars : List Bar) (bar : Bar) (o : Option Bar) → first_bar bar.call.client bars ≡ o
+    → MatchOption o (IsFirstFree bars bar.call.first bar.lane) (λ first. bar.lane ≡ first.lane) → Spread window bars → All (λ b. FollowsIn window b.call bar.call) bars → All (IsBehind bar) bars
+behind_all window bars bar None is takes spread follows = behind_free bars bar takes.free
+behind_all window bars bar (Some first) is takes spread follows =
+    let both : All (λ a. All (AreDisjoint a) bars × Follows a.call bar.call) bars = λ k d below. (spread.disjoint k d below, (follows k d below).follows) in
     let found = found_is (λ a. All (AreDisjoint a) bars × Follows a.call bar.call) (λ b. eqb bar.call.client b.call.client) bars first both is in
     let client : first.call.client ≡ bar.call.client = sym (equal bar.call.client first.call.client found.passes) in
-    λ k d below. behind_one first (get_or bars k d) bar client takes (found.holds.0 k d below) found.holds.1 (follows k d below)
+    λ k d below. behind_one first (get_or bars k d) bar client takes (found.holds.0 k d below) found.holds.1 (follows k d below).follows
 
 lane_kept : (o p : Option Bar) (lane : ℕ) → option_map (λ x. x.lane) o ≡ Some lane → option_map (λ x. x.lane) (option_or o p) ≡ Some lane
 lane_kept None p lane e = absurd (let wrong : None ≡ Some lane = e in cc)
@@ -94,41 +96,46 @@ lane_taken None bar P true is takes = refl
 lane_taken None bar P false is takes = absurd (cc)
 lane_taken (Some first) bar P t is takes = ap (λ n. Some n) (sym takes)
 
-ends_by : (t : Bool) (b bar : Bar) → eqb b.call.client bar.call.client ≡ t → Follows b.call bar.call → IsBehind bar b → b.lane ≡ bar.lane → call_end b.call < bar.call.invoke
-ends_by true b bar is follows behind same = follows.ended (equal b.call.client bar.call.client is)
-ends_by false b bar is follows behind same =
-    let early : b.call.last < bar.call.invoke = behind same (λ e. differ b.call.client bar.call.client is e) in
-    let within : call_end b.call ≤ b.call.last = follows.within in
-    omega arith
+ends_by : (window : Window) (t : Bool) (b bar : Bar) → eqb b.call.client bar.call.client ≡ t → FollowsIn window b.call bar.call → IsBehind bar b → b.lane ≡ bar.lane
+    → last_row_of window b.call < first_row_of window bar.call
+ends_by window true b bar is follows behind same = follows.ended (equal b.call.client bar.call.client is)
+ends_by window false b bar is follows behind same =
+    let early : b.call.last < bar.call.first = behind same (λ e. differ b.call.client bar.call.client is e) in
+    let within : last_row_of window b.call ≤ b.call.last = follows.within in
+    let low : bar.call.first ≤ first_row_of window bar.call = le-max_right window.from bar.call.first in
+    omega (arith, early, within, low)
 
-ends_first : (b bar : Bar) → Follows b.call bar.call → IsBehind bar b → b.lane ≡ bar.lane → call_end b.call < bar.call.invoke
-ends_first b bar = ends_by (eqb b.call.client bar.call.client) b bar refl
+ends_first : (window : Window) (b bar : Bar) → FollowsIn window b.call bar.call → IsBehind bar b → b.lane ≡ bar.lane → last_row_of window b.call < first_row_of window bar.call
+ends_first window b bar = ends_by window (eqb b.call.client bar.call.client) b bar refl
 
-apart_at : (t : Bool) (bars : List Bar) (bar : Bar) (j k : ℕ) (d : Bar) → ltb k (length bars) ≡ t → AreBarsApart bars → All (λ b. Follows b.call bar.call) bars → All (IsBehind bar) bars
-    → j < k → k < length bars + 1 → (get_or bars j d).lane ≡ (get_or (bars ++ bar ∷ []) k d).lane → call_end (get_or bars j d).call < (get_or (bars ++ bar ∷ []) k d).call.invoke
-apart_at true bars bar j k d is apart follows behind before below same =
+apart_at : (window : Window) (t : Bool) (bars : List Bar) (bar : Bar) (j k : ℕ) (d : Bar) → ltb k (length bars) ≡ t → AreBarsApart window bars
+    → All (λ b. FollowsIn window b.call bar.call) bars → All (IsBehind bar) bars
+    → j < k → k < length bars + 1 → (get_or bars j d).lane ≡ (get_or (bars ++ bar ∷ []) k d).lane
+    → last_row_of window (get_or bars j d).call < first_row_of window (get_or (bars ++ bar ∷ []) k d).call
+apart_at window true bars bar j k d is apart follows behind before below same =
     let low : k < length bars = ltb_is k (length bars) is in
     let right : get_or (bars ++ bar ∷ []) k d ≡ get_or bars k d = get_or_append_left bars (bar ∷ []) d k low in
-    subst (λ b. call_end (get_or bars j d).call < b.call.invoke) (sym right) (apart j k d before low (same ∙ ap (λ b. b.lane) right))
-apart_at false bars bar j k d is apart follows behind before below same =
+    subst (λ b. last_row_of window (get_or bars j d).call < first_row_of window b.call) (sym right) (apart j k d before low (same ∙ ap (λ b. b.lane) right))
+apart_at window false bars bar j k d is apart follows behind before below same =
     let high : length bars ≤ k = ltb_not k (length bars) is in
     let at : k ≡ length bars = omega arith in
     let right : get_or (bars ++ bar ∷ []) k d ≡ bar = ap (λ n. get_or (bars ++ bar ∷ []) n d) at ∙ get_or-append_seam bars bar [] d in
     let inside : j < length bars = omega arith in
-    subst (λ b. call_end (get_or bars j d).call < b.call.invoke) (sym right)
-    (ends_first (get_or bars j d) bar (follows j d inside) (behind j d inside) (same ∙ ap (λ b. b.lane) right))
+    subst (λ b. last_row_of window (get_or bars j d).call < first_row_of window b.call) (sym right)
+    (ends_first window (get_or bars j d) bar (follows j d inside) (behind j d inside) (same ∙ ap (λ b. b.lane) right))
 
-apart_more : (bars : List Bar) (bar : Bar) → AreBarsApart bars → All (λ b. Follows b.call bar.call) bars → All (IsBehind bar) bars → AreBarsApart (bars ++ bar ∷ [])
-apart_more bars bar apart follows behind = λ j k d before below same.
+apart_more : (window : Window) (bars : List Bar) (bar : Bar) → AreBarsApart window bars → All (λ b. FollowsIn window b.call bar.call) bars → All (IsBehind bar) bars
+    → AreBarsApart window (bars ++ bar ∷ [])
+apart_more window bars bar apart follows behind = λ j k d before below same.
     let long : length (bars ++ bar ∷ []) ≡ length bars + 1 = simp length-append in
     let left : get_or (bars ++ bar ∷ []) j d ≡ get_or bars j d = get_or_append_left bars (bar ∷ []) d j (omega (arith, long)) in
     let shorter : k < length bars + 1 = omega (arith, long) in
-    subst (λ b. call_end b.call < (get_or (bars ++ bar ∷ []) k d).call.invoke) (sym left)
-    (apart_at (ltb k (length bars)) bars bar j k d refl apart follows behind before shorter (sym (ap (λ b. b.lane) left) ∙ same))
+    subst (λ b. last_row_of window b.call < first_row_of window (get_or (bars ++ bar ∷ []) k d).call) (sym left)
+    (apart_at window (ltb k (length bars)) bars bar j k d refl apart follows behind before shorter (sym (ap (λ b. b.lane) left) ∙ same))
 
-spread_more : (bars : List Bar) (bar : Bar) → Spread bars → TakesLane bars bar → All (λ b. Follows b.call bar.call) bars → Spread (bars ++ bar ∷ [])
-spread_more bars bar spread takes follows =
-    let behind = behind_all bars bar (first_bar bar.call.client bars) refl takes spread follows in
+spread_more : (window : Window) (bars : List Bar) (bar : Bar) → Spread window bars → TakesLane bars bar → All (λ b. FollowsIn window b.call bar.call) bars → Spread window (bars ++ bar ∷ [])
+spread_more window bars bar spread takes follows =
+    let behind = behind_all window bars bar (first_bar bar.call.client bars) refl takes spread follows in
     record {
       one =
           All-push (λ b. option_map (λ x. x.lane) (first_bar b.call.client (bars ++ bar ∷ [])) ≡ Some b.lane) bars bar
@@ -137,16 +144,16 @@ spread_more bars bar spread takes follows =
           ap (option_map (λ x. x.lane)) (first_snoc b.call.client bars bar)
           ∙ lane_kept (first_bar b.call.client bars) (cond (eqb b.call.client bar.call.client) (Some bar) None) b.lane (spread.one k d below))
           (ap (option_map (λ x. x.lane)) (first_snoc bar.call.client bars bar)
-          ∙ lane_taken (first_bar bar.call.client bars) bar (IsFirstFree bars bar.call.invoke bar.lane) (eqb bar.call.client bar.call.client) (self_eqb bar.call.client) takes);
+          ∙ lane_taken (first_bar bar.call.client bars) bar (IsFirstFree bars bar.call.first bar.lane) (eqb bar.call.client bar.call.client) (self_eqb bar.call.client) takes);
       disjoint =
           All-push (λ a. All (AreDisjoint a) (bars ++ bar ∷ [])) bars bar
           (λ k d below. All-push (AreDisjoint (get_or bars k d)) bars bar (spread.disjoint k d below) (λ same other. inl (behind k d below same other)))
           (All-push (AreDisjoint bar) bars bar (λ k d below same other. inr (behind k d below (sym same) (λ one. other (sym one)))) (λ same other. absurd (other refl)));
-      apart = apart_more bars bar spread.apart follows behind;
+      apart = apart_more window bars bar spread.apart follows behind;
     }
 
-spread_none : Spread []
-spread_none = record {
+spread_none : (window : Window) → Spread window []
+spread_none window = record {
   one = λ k d below. absurd (omega arith);
   disjoint = λ k d below. absurd (omega arith);
   apart = λ j k d before below same. absurd (omega arith);
@@ -156,28 +163,30 @@ all_mid : (P : Call → Type 0) (xs ys : List Call) (c : Call) → All P (xs ++ 
 all_mid P [] ys c all = All-head P c ys all
 all_mid P (x ∷ xs) ys c all = all_mid P xs ys c (All-tail P x (xs ++ c ∷ ys) all)
 
-order_mid : (xs ys : List Call) (c : Call) → AreCallsInOrder (xs ++ c ∷ ys) → All (λ x. Follows x c) xs
-order_mid [] ys c order = all_none (λ x. Follows x c)
-order_mid (x ∷ xs) ys c order = All-cons (λ a. Follows a c) x xs (all_mid (Follows x) xs ys c order.0) (order_mid xs ys c order.1)
+order_mid : (window : Window) (xs ys : List Call) (c : Call) → AreDrawnInOrder (FollowsIn window) (xs ++ c ∷ ys) → All (λ x. FollowsIn window x c) xs
+order_mid window [] ys c order = All-nil (λ x. FollowsIn window x c)
+order_mid window (x ∷ xs) ys c order = All-cons (λ a. FollowsIn window a c) x xs (all_mid (FollowsIn window x) xs ys c order.0) (order_mid window xs ys c order.1)
 
-all_mapped : (c : Call) (bars : List Bar) → All (λ x. Follows x c) (map (λ b. b.call) bars) → All (λ b. Follows b.call c) bars
-all_mapped c [] all = λ k d below. absurd (omega arith)
-all_mapped c (b ∷ bars) all =
-    All-cons (λ x. Follows x.call c) b bars (All-head (λ x. Follows x c) b.call (map (λ x. x.call) bars) all)
-    (all_mapped c bars (All-tail (λ x. Follows x c) b.call (map (λ x. x.call) bars) all))
+all_mapped : (P : Call → Type 0) (bars : List Bar) → All P (map (λ b. b.call) bars) → All (λ b. P b.call) bars
+all_mapped P [] all = λ k d below. absurd (omega arith)
+all_mapped P (b ∷ bars) all =
+    All-cons (λ x. P x.call) b bars (All-head P b.call (map (λ x. x.call) bars) all) (all_mapped P bars (All-tail P b.call (map (λ x. x.call) bars) all))
 
-spread_all : (before bars : List Bar) → Spread before → TakeLanes before bars → AreCallsInOrder (map (λ b. b.call) (before ++ bars)) → Spread (before ++ bars)
-spread_all before [] spread takes order = subst Spread (sym (append-nil before)) spread
-spread_all before (bar ∷ bars) spread takes order =
+spread_all : (window : Window) (before bars : List Bar) → Spread window before → TakeLanes before bars → AreDrawnInOrder (FollowsIn window) (map (λ b. b.call) (before ++ bars))
+    → Spread window (before ++ bars)
+spread_all window before [] spread takes order = subst (Spread window) (sym (append-nil before)) spread
+spread_all window before (bar ∷ bars) spread takes order =
     let calls : map (λ b. b.call) (before ++ bar ∷ bars) ≡ map (λ b. b.call) before ++ bar.call ∷ map (λ b. b.call) bars = map-append (λ (b : Bar). b.call) before (bar ∷ bars) in
-    let follows = all_mapped bar.call before (order_mid (map (λ b. b.call) before) (map (λ b. b.call) bars) bar.call (subst AreCallsInOrder calls order)) in
+    let follows = all_mapped (λ x. FollowsIn window x bar.call) before
+    (order_mid window (map (λ b. b.call) before) (map (λ b. b.call) bars) bar.call (subst (AreDrawnInOrder (FollowsIn window)) calls order)) in
     let whole : (before ++ bar ∷ []) ++ bars ≡ before ++ bar ∷ bars = append_assoc before (bar ∷ []) bars in
-    subst Spread whole
-    (spread_all (before ++ bar ∷ []) bars (spread_more before bar spread takes.0 follows) takes.1 (subst (λ bs. AreCallsInOrder (map (λ b. b.call) bs)) (sym whole) order))
+    subst (Spread window) whole
+    (spread_all window (before ++ bar ∷ []) bars (spread_more window before bar spread takes.0 follows) takes.1
+    (subst (λ bs. AreDrawnInOrder (FollowsIn window) (map (λ b. b.call) bs)) (sym whole) order))
 
-pub kept_apart : (window : Window) (history : List Operation) (bars : List Bar) → AreBarsOf window history bars → AreKeptApart bars
-kept_apart window history bars are =
-    let spread = spread_all [] bars spread_none are.lanes (subst AreCallsInOrder (sym are.calls) (within_order window history)) in
+pub kept_apart : (window : Window) (history : List Operation) (marks : List Mark) (bars : List Bar) → AreBarsOf window history marks bars → AreKeptApart window bars
+kept_apart window history marks bars are =
+    let spread = spread_all window [] bars (spread_none window) are.lanes (subst (AreDrawnInOrder (FollowsIn window)) (sym are.calls) (drawn_in_order window history marks)) in
     record {
       apart = spread.apart;
       one_lane = λ j k d left right same.

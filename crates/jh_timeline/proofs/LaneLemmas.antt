@@ -1,5 +1,5 @@
 -- The lanes of bars, one bar after another.
-use Rattle.std.proofs.Common.{◌≡◌, ℕ, ◌+◌, ◌<◌, ◌≤◌, Bool, true, false, cond, eqb, List, [], ◌∷◌, ◌++◌, length, get_or, map, Option, Some, None, refl, sym, ap, subst, ◌∙◌, arith, append-nil, append_assoc, ltb, leb, set, length-append, length-set, get_or-set_same, get_or-set_other}
+use Rattle.std.proofs.Common.{◌≡◌, ℕ, ◌<◌, ◌≤◌, Bool, true, false, cond, eqb, List, [], ◌∷◌, ◌++◌, length, get_or, map, Option, Some, None, refl, sym, ap, subst, ◌∙◌, arith, append-nil, append_assoc, ltb, leb, set, length-append, length-set, get_or-set_same, get_or-set_other}
 use Rattle.std.specs.Prelude.{◌&&◌, ◌||◌, nat_le, nat_lt, find, All, MatchOption, option_map}
 use Rattle.std.specs.List.{list_any}
 use Rattle.std.specs.Option.{option_or}
@@ -22,7 +22,7 @@ pub record Laned (kept : ℕ → Option ℕ) (ends : List ℕ) (bars : List Bar)
   pub calls : map (λ bar. bar.call) bars ≡ done
   pub lanes : TakeLanes [] bars
   pub held : (client : ℕ) → kept client ≡ option_map (λ bar. bar.lane) (first_bar client bars)
-  pub until : (index lane : ℕ) → All (λ bar. bar.call.invoke ≤ index) bars → is_held bars index lane ≡ (nat_lt lane (length ends) && nat_le index (get_or ends lane 0))
+  pub until : (index lane : ℕ) → All (λ bar. bar.call.first ≤ index) bars → is_held bars index lane ≡ (nat_lt lane (length ends) && nat_le index (get_or ends lane 0))
 
 take_snoc : (before bars : List Bar) (bar : Bar) → TakeLanes before bars → TakesLane (before ++ bars) bar → TakeLanes before (bars ++ bar ∷ [])
 take_snoc before [] bar all here = (subst (λ bs. TakesLane bs bar) (append-nil before) here, tt)
@@ -105,15 +105,15 @@ laned_keeping kept ends bars done call had first bar built laned follows is same
       calls = map-append (λ b. b.call) bars (bar ∷ []) ∙ ap (λ cs. cs ++ bar.call ∷ []) laned.calls ∙ ap (λ c. done ++ c ∷ []) mine;
       lanes =
           take_snoc [] bars bar laned.lanes
-          (subst (λ c. MatchOption (first_bar c.client bars) (IsFirstFree bars c.invoke bar.lane) (λ b. bar.lane ≡ b.lane)) (sym mine)
-          (subst (λ o. MatchOption o (IsFirstFree bars call.invoke bar.lane) (λ b. bar.lane ≡ b.lane)) (sym is) (sym same)));
+          (subst (λ c. MatchOption (first_bar c.client bars) (IsFirstFree bars c.first bar.lane) (λ b. bar.lane ≡ b.lane)) (sym mine)
+          (subst (λ o. MatchOption o (IsFirstFree bars call.first bar.lane) (λ b. bar.lane ≡ b.lane)) (sym is) (sym same)));
       held = λ other.
           laned.held other ∙ sym (ap (option_map (λ b. b.lane)) (first_snoc other bars bar)
           ∙ same_first (eqb other bar.call.client) bar first (first_bar other bars) same
           (λ yes. let one : other ≡ call.client = equal other bar.call.client yes ∙ ap (λ c. c.client) mine in ap (λ z. first_bar z bars) one ∙ is));
       until = λ index lane all.
           keeps_held (λ b. Follows b.call call) bars bar first index lane same (found.holds.last client ∙ ap (λ c. c.last) (sym mine)) found.among
-          ∙ laned.until index lane (all_snoc (λ b. b.call.invoke ≤ index) bars bar all).0;
+          ∙ laned.until index lane (all_snoc (λ b. b.call.first ≤ index) bars bar all).0;
     }
 
 some_first : (o : Option Bar) (had : ℕ) → option_map (λ b. b.lane) o ≡ Some had → (first : Bar) × (o ≡ Some first) × (first.lane ≡ had)
@@ -203,19 +203,19 @@ longer_other false ends index lane last n e within apart =
 -- ---- one bar more
 
 -- nothing is held at an index behind all that is
-until_free : (ends : List ℕ) (index lane invoke : ℕ) → (lane < length ends → get_or ends lane 0 < invoke) → invoke ≤ index → is_until ends index lane ≡ false
-until_free ends index lane invoke free behind =
+until_free : (ends : List ℕ) (index lane first : ℕ) → (lane < length ends → get_or ends lane 0 < first) → first ≤ index → is_until ends index lane ≡ false
+until_free ends index lane first free behind =
     both_false (ltb lane (length ends)) (leb index (get_or ends lane 0))
-    (λ yes. let low : get_or ends lane 0 < invoke = free (ltb_is lane (length ends) yes) in leb_false index (get_or ends lane 0) (omega arith))
+    (λ yes. let low : get_or ends lane 0 < first = free (ltb_is lane (length ends) yes) in leb_false index (get_or ends lane 0) (omega arith))
 
-until_more : (ends : List ℕ) (index lane last invoke n : ℕ) → lane ≤ length ends → (lane < length ends → get_or ends lane 0 < invoke) → invoke ≤ index
+until_more : (ends : List ℕ) (index lane last first n : ℕ) → lane ≤ length ends → (lane < length ends → get_or ends lane 0 < first) → first ≤ index
     → is_until ends index n || (eqb lane n && leb index last) ≡ is_until (longer ends lane last) index n
-until_more ends index lane last invoke n within free behind = by_lane (eqb lane n) refl
+until_more ends index lane last first n within free behind = by_lane (eqb lane n) refl
   where
     by_lane : (t : Bool) → eqb lane n ≡ t → is_until ends index n || (t && leb index last) ≡ is_until (longer ends lane last) index n
     by_lane true is =
         let same : lane ≡ n = equal lane n is in
-        ap (λ b. b || leb index last) (ap (is_until ends index) (sym same) ∙ until_free ends index lane invoke free behind)
+        ap (λ b. b || leb index last) (ap (is_until ends index) (sym same) ∙ until_free ends index lane first free behind)
         ∙ sym (longer_same (ltb lane (length ends)) ends index lane last refl within) ∙ ap (is_until (longer ends lane last) index) same
     by_lane false is =
         or-false (is_until ends index n)
@@ -234,23 +234,23 @@ new_first kept next other bar (Some first) false is e none here apart = apart re
 
 pub laned_takes : (kept next : ℕ → Option ℕ) (ends later : List ℕ) (bars : List Bar) (done : List Call) (call : Call) (bar : Bar) → bar.call ≡ call
     → Laned kept ends bars done → All (λ b. Follows b.call call) bars → kept call.client ≡ None
-    → bar.lane ≤ length ends → (bar.lane < length ends → get_or ends bar.lane 0 < call.invoke) → ((lower : ℕ) → lower < bar.lane → call.invoke ≤ get_or ends lower 0)
+    → bar.lane ≤ length ends → (bar.lane < length ends → get_or ends bar.lane 0 < call.first) → ((lower : ℕ) → lower < bar.lane → call.first ≤ get_or ends lower 0)
     → later ≡ longer ends bar.lane call.last → next call.client ≡ Some bar.lane → ((other : ℕ) → (call.client ≡ other → ⊥) → next other ≡ kept other)
     → Laned next later (bars ++ bar ∷ []) (done ++ call ∷ [])
 laned_takes kept next ends later bars done call bar mine laned follows nothing within free first grown here apart =
     let unseen : first_bar call.client bars ≡ None = none_first (first_bar call.client bars) (sym nothing ∙ laned.held call.client) in
-    let earlier : All (λ b. b.call.invoke ≤ call.invoke) bars = λ k d below. let one = (follows k d below).invoke in omega (arith, one) in
+    let earlier : All (λ b. b.call.first ≤ call.first) bars = λ k d below. let one = (follows k d below).first in omega (arith, one) in
     record {
       calls = map-append (λ b. b.call) bars (bar ∷ []) ∙ ap (λ cs. cs ++ bar.call ∷ []) laned.calls ∙ ap (λ c. done ++ c ∷ []) mine;
       lanes =
           take_snoc [] bars bar laned.lanes
-          (subst (λ c. MatchOption (first_bar c.client bars) (IsFirstFree bars c.invoke bar.lane) (λ b. bar.lane ≡ b.lane)) (sym mine)
-          (subst (λ o. MatchOption o (IsFirstFree bars call.invoke bar.lane) (λ b. bar.lane ≡ b.lane)) (sym unseen)
+          (subst (λ c. MatchOption (first_bar c.client bars) (IsFirstFree bars c.first bar.lane) (λ b. bar.lane ≡ b.lane)) (sym mine)
+          (subst (λ o. MatchOption o (IsFirstFree bars call.first bar.lane) (λ b. bar.lane ≡ b.lane)) (sym unseen)
           (record {
-            free = laned.until call.invoke bar.lane earlier ∙ until_free ends call.invoke bar.lane call.invoke free (omega arith);
+            free = laned.until call.first bar.lane earlier ∙ until_free ends call.first bar.lane call.first free (omega arith);
             first = λ lower low.
-                laned.until call.invoke lower earlier
-                ∙ both_true (ltb lower (length ends)) (leb call.invoke (get_or ends lower 0)) (ltb_true lower (length ends) (omega arith)) (leb_true call.invoke (get_or ends lower 0) (first lower low));
+                laned.until call.first lower earlier
+                ∙ both_true (ltb lower (length ends)) (leb call.first (get_or ends lower 0)) (ltb_true lower (length ends) (omega arith)) (leb_true call.first (get_or ends lower 0) (first lower low));
           })));
       held = λ other.
           new_first kept next other bar (first_bar other bars) (eqb other bar.call.client) refl (laned.held other)
@@ -259,9 +259,9 @@ laned_takes kept next ends later bars done call bar mine laned follows nothing w
           (λ no. apart other (λ same. differ other bar.call.client no (sym same ∙ ap (λ c. c.client) (sym mine))))
           ∙ sym (ap (option_map (λ b. b.lane)) (first_snoc other bars bar));
       until = λ index lane all.
-          let both = all_snoc (λ b. b.call.invoke ≤ index) bars bar all in
-          let behind : call.invoke ≤ index = subst (λ c. c.invoke ≤ index) mine both.1 in
+          let both = all_snoc (λ b. b.call.first ≤ index) bars bar all in
+          let behind : call.first ≤ index = subst (λ c. c.first ≤ index) mine both.1 in
           held_snoc bars bar index lane ∙ ap (λ b. b || (eqb bar.lane lane && leb index bar.call.last)) (laned.until index lane both.0)
           ∙ ap (λ c. is_until ends index lane || (eqb bar.lane lane && leb index c.last)) mine
-          ∙ until_more ends index bar.lane call.last call.invoke lane within free behind ∙ ap (λ l. is_until l index lane) (sym grown);
+          ∙ until_more ends index bar.lane call.last call.first lane within free behind ∙ ap (λ l. is_until l index lane) (sym grown);
     }

@@ -1,4 +1,6 @@
 mod CallLemmas
+mod HistoryOrderLemmas
+mod DrawnLemmas
 mod LaneLemmas
 mod CallOrderLemmas
 mod LaneApartLemmas

@@ -1,119 +1,20 @@
-//! Which operations are drawn, and in which lanes. `specs/Lanes.antt` has the rule.
+//! The lanes of the calls that are drawn. `specs/Lanes.antt` has the rule.
 
 ghost use Rattle.std.specs.Prelude.{◌≡◌, ◌==◌, ℕ, ◌<◌, ◌≤◌, [], ◌∷◌, ◌++◌, IfNone, IfOk, IfSome};
 ghost use Rattle.std.specs.Prelude.{OnOk, if◌then◌else◌, length, map};
 ghost use Rattle.jh_ops.specs.Operation.{operations};
-ghost use Rattle.jh_timeline.specs.Lanes as rule;
 ghost use Rattle.jh_timeline.specs.Lanes.{AreBarsOf, AreKeptApart, AreLanesOf, TakeLanes};
-ghost use Rattle.jh_timeline.specs.Lanes.{fault_indexes, lane_clients};
-ghost use Rattle.jh_timeline.specs.LanesInside as inside;
+ghost use Rattle.jh_timeline.specs.Lanes.{count_left_out, lane_clients};
 ghost use Rattle.jh_timeline.specs.LanesInside.{AreHeld, AreCallsInOrder, AreKept, IsFirst};
-ghost use Rattle.jh_timeline.specs.LanesInside.{IsPopped, TakesOrKeepsLane, new_calls};
+ghost use Rattle.jh_timeline.specs.LanesInside.{IsPopped, TakesOrKeepsLane};
 ghost use Rattle.jh_timeline.specs.LanesInside.{lane_ends_with};
 
+use crate::drawn::drawn_in;
+use crate::marks::Mark;
 use crate::picture::{Bar, Call, Lane, Picture, Window};
-use jh_ops::{Kind, Op, Process};
+use jh_ops::Op;
 use std::alloc::{AllocError, Global};
 use std::collections::{BTreeMap, BTreeSet};
-
-/// What the records of a process from an index on say of the record that it has before them.
-#[derive(Clone, Copy, Debug)]
-struct Ahead {
-    /// The index of its completion, if it is an invocation and has one.
-    completion: Option<usize>,
-    /// The index of the last of them.
-    last: usize,
-}
-
-/// What records of a process say of the one before them, with one more in front.
-fn ahead_with(kind: Kind, index: usize, behind: Option<Ahead>) -> Ahead
-    ensures { result ≡ inside.ahead_with kind index behind }
-{
-    let completion = match kind {
-        Kind::Invoke => None,
-        _ => Some(index),
-    };
-    match behind {
-        Some(behind) => Ahead {
-            completion,
-            last: behind.last,
-        },
-        None => Ahead {
-            completion,
-            last: index,
-        },
-    }
-}
-
-/// The call of an invocation.
-fn call_with(client: u64, index: usize, behind: Option<Ahead>) -> Call
-    ensures { result ≡ inside.call_with client index behind }
-{
-    match behind {
-        Some(behind) => Call {
-            client,
-            invoke: index,
-            completion: behind.completion,
-            last: behind.last,
-        },
-        None => Call {
-            client,
-            invoke: index,
-            completion: None,
-            last: index,
-        },
-    }
-}
-
-/// Whether an index is in the window.
-fn is_within(window: Window, index: usize) -> bool
-    ensures { result ≡ rule.is_in_window window index }
-{
-    window.from <= index && index < window.to
-}
-
-/// Adds the call of a record, if it is an invocation that is drawn.
-fn add_call(
-    window: Window,
-    kind: Kind,
-    client: u64,
-    index: usize,
-    behind: Option<Ahead>,
-    calls: &mut Vec<Call>,
-) -> Result<(), AllocError>
-    ensures { OnOk result (calls.new.items
-        ≡ calls.old.items ++ new_calls (rule.is_in_window window index) kind client index behind) }
-{
-    match kind {
-        Kind::Invoke => {
-            if is_within(window, index) {
-                calls.push(call_with(client, index, behind))?;
-            }
-            Ok(())
-        }
-        _ => Ok(()),
-    }
-}
-
-/// The calls that begin in the window, in order.
-fn calls_in(alloc: Global, window: Window, history: &[Op]) -> Result<Vec<Call>, AllocError>
-    ensures { IfOk result (λ calls. calls.items ≡ rule.calls_in window (operations history.now)) }
-{
-    let mut ahead = BTreeMap::new(alloc);
-    let mut calls = Vec::new(alloc);
-    let mut index = history.len();
-    while index > 0 {
-        index -= 1;
-        let op = &history[index];
-        if let Process::Client(client) = op.process {
-            let behind = ahead.get(&client).copied();
-            add_call(window, op.kind, client, index, behind, &mut calls)?;
-            ahead.insert(client, ahead_with(op.kind, index, behind))?;
-        }
-    }
-    calls.reverse();
-    Ok(calls)
-}
 
 /// Up to which index each lane is held.
 #[derive(Drop)]
@@ -201,16 +102,16 @@ fn take_lane(
     held: &mut BTreeMap<u64, usize>,
     ends: &mut Ends,
 ) -> Result<usize, AllocError>
-    requires { AreKept ends.old call.now.invoke (length ends.old.until.items) }
+    requires { AreKept ends.old call.now.first (length ends.old.until.items) }
     ensures takes { IfOk result
         (TakesOrKeepsLane held.old held.new ends.old.until.items ends.new.until.items call.now) }
-    ensures kept { OnOk result (AreKept ends.new call.now.invoke (length ends.new.until.items)) }
+    ensures kept { OnOk result (AreKept ends.new call.now.first (length ends.new.until.items)) }
 {
     let had = held.get(&call.client).copied();
     match had {
         Some(lane) => Ok(lane),
         None => {
-            let lane = free_lane(ends, call.invoke)?;
+            let lane = free_lane(ends, call.first)?;
             hold(ends, lane, call.last)?;
             held.insert(call.client, lane)?;
             Ok(lane)
@@ -236,37 +137,6 @@ fn bars_of(alloc: Global, calls: &[Call]) -> Result<Vec<Bar>, AllocError>
         bars.push(Bar { call: *call, lane })?;
     }
     Ok(bars)
-}
-
-/// The bars of a history, each in its lane.
-fn bars_in(alloc: Global, window: Window, history: &[Op]) -> Result<Vec<Bar>, AllocError>
-    ensures drawn { IfOk result (λ bars. AreBarsOf window (operations history.now) bars.items) }
-    ensures apart { IfOk result (λ bars. AreKeptApart bars.items) }
-{
-    let calls = calls_in(alloc, window, history)?;
-    bars_of(alloc, &calls)
-}
-
-/// Whether a record is drawn, and is the nemesis's.
-fn is_fault(window: Window, index: usize, op: &Op) -> bool
-    ensures { result ≡ rule.is_fault window index op.now }
-{
-    match op.process {
-        Process::Nemesis => is_within(window, index),
-        Process::Client(_) => false,
-    }
-}
-
-/// The indexes of the records of the nemesis in the window, in order.
-fn faults_in(alloc: Global, window: Window, history: &[Op]) -> Result<Vec<usize>, AllocError>
-    ensures { IfOk result (λ faults. faults.items ≡ rule.fault_indexes window history.now) }
-{
-    history
-        .iter()
-        .enumerate()
-        .filter(|(index, op)| is_fault(window, *index, op))
-        .map(|(index, _)| index)
-        .collect(alloc)
 }
 
 /// Makes lanes up to one, with no process yet.
@@ -312,29 +182,43 @@ fn lanes_of(alloc: Global, bars: &[Bar]) -> Result<Vec<Lane>, AllocError>
     Ok(lanes)
 }
 
-/// What is drawn of a history in a window. One bar for each invocation of a client, in order, each
-/// in the lane of its process: a process takes the first lane that is free at its first bar, and
-/// has it up to its last record in the whole history. The records of the nemesis. And the processes
-/// that each lane had, in order.
+/// What is drawn of a history in a window: a bar for each call that is drawn, in order, and the
+/// processes that each lane had, in order. `marks` stand at the calls of the history, by their numbers
+/// in [calls_of](crate::calls_of): what they say of an order decides which calls of unknown outcome are
+/// drawn. The first mark of a number counts.
+///
+/// A call that begins in the window is drawn. One that began before is drawn where it ends in the
+/// window or behind it. A call of unknown outcome ends nowhere: one that began before the window is
+/// drawn where marks place it behind a call that begins in the window and its process does nothing
+/// more, and `left_out` counts the others.
+///
+/// A process takes the first lane that is free at its first bar, and has it up to its last record in
+/// the whole history, or at least up to the begin of the window.
 ///
 /// Any history has a picture: where a process has an invocation right behind another, the first has
-/// no completion. Takes O(n log n) for n records.
+/// no completion, and a completion that answers no invocation has a bar of its own. Takes O(n log n)
+/// for n records and marks.
 ///
 /// Errors: where memory runs out.
-pub fn picture_in(alloc: Global, window: Window, history: &[Op]) -> Result<Picture, AllocError>
+pub fn picture_in(
+    alloc: Global,
+    window: Window,
+    history: &[Op],
+    marks: &[Mark],
+) -> Result<Picture, AllocError>
     ensures bars { IfOk result
-        (λ picture. AreBarsOf window (operations history.now) picture.bars.items) }
-    ensures apart { IfOk result (λ picture. AreKeptApart picture.bars.items) }
-    ensures faults { IfOk result
-        (λ picture. picture.faults.items ≡ fault_indexes window history.now) }
+        (λ picture. AreBarsOf window (operations history.now) marks.now picture.bars.items) }
+    ensures apart { IfOk result (λ picture. AreKeptApart window picture.bars.items) }
+    ensures left_out { IfOk result (λ picture. picture.left_out
+        ≡ count_left_out window (operations history.now) marks.now) }
     ensures lanes { IfOk result (λ picture. AreLanesOf picture.bars.items picture.lanes.items) }
 {
-    let bars = bars_in(alloc, window, history)?;
-    let faults = faults_in(alloc, window, history)?;
+    let drawn = drawn_in(alloc, window, history, marks)?;
+    let bars = bars_of(alloc, &drawn.calls)?;
     let lanes = lanes_of(alloc, &bars)?;
     Ok(Picture {
         bars,
-        faults,
+        left_out: drawn.left_out,
         lanes,
     })
 }

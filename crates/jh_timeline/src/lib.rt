@@ -1,10 +1,13 @@
-//! What is drawn of a history: operations as bars in lanes, faults, and marks at bars.
+//! What is drawn of a history: calls as bars in lanes, and marks at calls.
 #![tactic(auto)]
 
+mod calls;
+mod drawn;
 mod lanes;
 mod marks;
 mod picture;
 
+pub use calls::calls_of;
 pub use lanes::picture_in;
 pub use marks::{Mark, Note, StepKind};
 pub use picture::{Bar, Call, Lane, Picture, Window};

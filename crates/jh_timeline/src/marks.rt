@@ -51,10 +51,11 @@ pub enum Note {
     BadRead,
 }
 
-/// A mark at a bar.
+/// A mark at a call, or at its bar.
 #[derive(Clone, Copy, Debug, PartialEq, Eq)]
 pub struct Mark {
-    /// The number of the bar in the picture, from 0.
-    pub bar: usize,
+    /// The number of the call among those that are marked, from 0: among the calls of a history, or
+    /// those of the bars of a picture.
+    pub call: usize,
     pub note: Note,
 }

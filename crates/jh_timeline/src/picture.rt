@@ -8,21 +8,21 @@ pub struct Window {
     pub to: usize,
 }
 
-/// An operation of a client: an invocation, with its completion. Indexes count the records of the
-/// whole history from 0.
+/// What a client did: an operation, which is an invocation with its completion, or a completion that
+/// answers no invocation. Indexes count the records of the whole history from 0.
 #[derive(Clone, Copy, Debug, PartialEq, Eq)]
 pub struct Call {
     /// Who did it.
     pub client: u64,
-    /// The index of its invocation.
-    pub invoke: usize,
+    /// The index of its first record: its invocation, or the completion that stands alone.
+    pub first: usize,
     /// The index of its completion, if it has one.
     pub completion: Option<usize>,
     /// The index of the last record of its process.
     pub last: usize,
 }
 
-/// An operation as it is drawn: a bar in a lane, from its invocation down to its completion.
+/// A call as it is drawn: a bar in a lane, from its first record down to its completion.
 #[derive(Clone, Copy, Debug, PartialEq, Eq)]
 pub struct Bar {
     pub call: Call,
@@ -33,10 +33,10 @@ pub struct Bar {
 /// What is drawn of a history.
 #[derive(Debug, Drop)]
 pub struct Picture {
-    /// A bar for each invocation, in order.
+    /// A bar for each call that is drawn, in order.
     pub bars: Vec<Bar>,
-    /// The indexes of the records of the nemesis, in order.
-    pub faults: Vec<usize>,
+    /// How many operations of unknown outcome began before what is drawn, and are not drawn.
+    pub left_out: usize,
     /// The lanes, from the left.
     pub lanes: Vec<Lane>,
 }

@@ -1,12 +1,12 @@
--- Marks bar by bar, the places of numbers from the last on, and what does not depend on an order.
-use Rattle.std.proofs.Common.{◌≡◌, ℕ, zero, suc, ◌+◌, ◌<◌, ◌≤◌, Bool, true, false, cond, eqb, List, [], ◌∷◌, ◌++◌, length, drop, take, get_or, map, Option, Some, None, refl, sym, ap, ◌∙◌, arith, is_eq}
-use Rattle.std.specs.Prelude.{◌&&◌, not, codes, filter, option_and_then, option_map}
+-- Marks call by call, the places of numbers from the last on, and what does not depend on an order.
+use Rattle.std.proofs.Common.{◌≡◌, ℕ, zero, suc, ◌+◌, ◌<◌, ◌≤◌, Bool, true, false, cond, eqb, ltb, List, [], ◌∷◌, ◌++◌, length, drop, take, get_or, map, Option, Some, None, refl, sym, ap, ◌∙◌, arith, is_eq}
+use Rattle.std.specs.Prelude.{◌&&◌, ◌||◌, IsTrue, not, codes, filter, option_and_then, option_map}
 use Rattle.std.specs.List.{cons_option, enumerate_from, filter_map, position_from}
 use Rattle.std.specs.Option.{option_map_or, option_to_list}
 use Rattle.std.specs.Ordering.{nat_cmp}
 use Rattle.std.specs.BTreeMap.{BTreeMap, get, Updates}
 use Rattle.std.proofs.lemmas.Bool.Decides.{nat_tests}
-use Rattle.std.proofs.lemmas.List.{map-append, take_more}
+use Rattle.std.proofs.lemmas.List.{map-append, take-map, take_more}
 use Rattle.std.proofs.lemmas.List.Elements.{filter_map-append}
 use Rattle.std.proofs.Math.Seq.{drop-cons}
 use Rattle.jh_edn.specs.Edn.{Edn}
@@ -19,6 +19,7 @@ use Rattle.jh_ops.specs.Pairing.{pair_of, pairs_from}
 use Rattle.jh_ops.specs.declared.operation.Kind.{Kind}
 use Rattle.jh_ops.specs.declared.operation.Op.{Op}
 use Rattle.jh_ops.specs.declared.operation.Process.{Process}
+use Rattle.jh_check.specs.Distinct.{has_same_value}
 use Rattle.jh_check.specs.IdsView.{view_duplicate, view_duplicates}
 use Rattle.jh_check.specs.SetResults.{final_read}
 use Rattle.jh_check.specs.declared.ids.Duplicate.{Duplicate}
@@ -27,12 +28,13 @@ use Rattle.jh_check.proofs.ListLemmas.{mapped_more}
 use Rattle.jh_check.proofs.SearchLemmas.{among_in_order}
 use Rattle.jh_timeline.specs.declared.marks.Mark.{Mark}
 use Rattle.jh_timeline.specs.declared.marks.Note.{Note}
-use Rattle.jh_timeline.specs.declared.picture.Bar.{Bar}
 use Rattle.jh_timeline.specs.declared.picture.Call.{Call}
-use Rattle.jh_timeline_marks.specs.Marked.{adds_one_of, call_completion, found_note, has_one_of, invocation_of, invocations_of, is_completed_at, mark_at, marks_by, note_if, place_among}
-use Rattle.jh_timeline_marks.specs.MarkedInside.{found_note_with, gives_one_of, invocations, is_by_client, is_invocation, unexpected_place}
+use Rattle.jh_timeline.specs.Lanes.{call_end}
+use Rattle.jh_timeline_marks.specs.Marked.{acknowledged_before, acknowledges, acknowledges_lost, adds_one_of, call_completion, ends_with_one_of, found_note, has_one_of, invocation_of, invocations_of, is_completed_at, late_losses, mark_at, marks_by, note_if, place_among, shows_unexpected}
+use Rattle.jh_timeline_marks.specs.MarkedInside.{found_note_with, invocations, is_by_client, is_invocation, is_lost_with}
+use Rattle.jh_timeline_marks.specs.declared.set.Elements.{Elements}
 
--- ---- bar by bar
+-- ---- call by call
 
 numbered_more : {X : Type 0} (n : ℕ) (xs : List X) (x : X) → enumerate_from n (xs ++ x ∷ []) ≡ enumerate_from n xs ++ (n + length xs, x) ∷ []
 numbered_more n [] x = let e : n ≡ n + 0 = omega arith in ap (λ m. (m, x) ∷ []) e
@@ -49,24 +51,24 @@ one_at_most : (mark : Option Mark) → option_to_list mark ≡ cons_option mark 
 one_at_most None = refl
 one_at_most (Some mark) = refl
 
--- the mark of one more bar
-pub marks_more : (note : Call → Option Note) (bars : List Bar) (i : ℕ) (d : Bar) (before after : List Mark)
-    → i < length bars → before ≡ marks_by note (take i bars) → after ≡ before ++ option_to_list (mark_at i (note (get_or bars i d).call))
-    → after ≡ marks_by note (take (i + 1) bars)
-marks_more note bars i d before after below is grown =
-    let bar = get_or bars i d in
-    let marked : ℕ × Bar → Option Mark = λ numbered. mark_at numbered.0 (note numbered.1.call) in
-    let number : 0 + length (take i bars) ≡ i = (let long = length_take bars i (omega arith) in omega (arith, long)) in
-    let whole : enumerate_from 0 (take (i + 1) bars) ≡ enumerate_from 0 (take i bars) ++ (i, bar) ∷ [] =
-    ap (enumerate_from 0) (take_more bars i d below) ∙ numbered_more 0 (take i bars) bar ∙ ap (λ n. enumerate_from 0 (take i bars) ++ (n, bar) ∷ []) number in
-    grown ∙ ap (λ ms. ms ++ option_to_list (marked (i, bar))) is
-    ∙ ap (λ ms. marks_by note (take i bars) ++ ms) (one_at_most (marked (i, bar)))
-    ∙ sym (ap (filter_map marked) whole ∙ filter_map-append marked (enumerate_from 0 (take i bars)) ((i, bar) ∷ []))
+-- the mark of one more call
+pub marks_more : (note : Call → Option Note) (calls : List Call) (i : ℕ) (d : Call) (before after : List Mark)
+    → i < length calls → before ≡ marks_by note (take i calls) → after ≡ before ++ option_to_list (mark_at i (note (get_or calls i d)))
+    → after ≡ marks_by note (take (i + 1) calls)
+marks_more note calls i d before after below is grown =
+    let call = get_or calls i d in
+    let marked : ℕ × Call → Option Mark = λ numbered. mark_at numbered.0 (note numbered.1) in
+    let number : 0 + length (take i calls) ≡ i = (let long = length_take calls i (omega arith) in omega (arith, long)) in
+    let whole : enumerate_from 0 (take (i + 1) calls) ≡ enumerate_from 0 (take i calls) ++ (i, call) ∷ [] =
+    ap (enumerate_from 0) (take_more calls i d below) ∙ numbered_more 0 (take i calls) call ∙ ap (λ n. enumerate_from 0 (take i calls) ++ (n, call) ∷ []) number in
+    grown ∙ ap (λ ms. ms ++ option_to_list (marked (i, call))) is
+    ∙ ap (λ ms. marks_by note (take i calls) ++ ms) (one_at_most (marked (i, call)))
+    ∙ sym (ap (filter_map marked) whole ∙ filter_map-append marked (enumerate_from 0 (take i calls)) ((i, call) ∷ []))
 
 -- of no note there are no marks
-pub no_marks : (bars : List Bar) → marks_by (λ call. None) bars ≡ []
-no_marks bars = none (enumerate_from 0 bars) where
-  none : (numbered : List (ℕ × Bar)) → filter_map (λ one. mark_at one.0 None) numbered ≡ []
+pub no_marks : (calls : List Call) → marks_by (λ call. None) calls ≡ []
+no_marks calls = none (enumerate_from 0 calls) where
+  none : (numbered : List (ℕ × Call)) → filter_map (λ one. mark_at one.0 None) numbered ≡ []
   none [] = refl
   none (one ∷ numbered) = none numbered
 
@@ -88,32 +90,75 @@ ids_more ids duplicated i duplicate id below at same before =
     ∙ sym (ap (map first) (mapped_more view_duplicate duplicated i duplicate below at)
     ∙ map-append first (view_duplicates (take i duplicated)) (view_duplicate duplicate ∷ []))
 
-pub ids_same : (sorted ids : List Edn) (history : List Operation) (bars : List Bar) → sorted ≡ in_order is_below ids
-    → marks_by (λ call. note_if (gives_one_of sorted history call) Note.Repeated) bars ≡ marks_by (λ call. note_if (gives_one_of ids history call) Note.Repeated) bars
-ids_same sorted ids history bars e =
-    ap (λ xs. marks_by (λ call. note_if (gives_one_of xs history call) Note.Repeated) bars) e
-    ∙ (λ i. marks_by (λ call. note_if (has_same Kind.Ok (codes "generate") ids (call_completion history call) i) Note.Repeated) bars)
+-- the note of an id does not depend on the order of ids
+pub ids_same : (sorted ids : List Edn) (history : List Operation) (calls : List Call) → sorted ≡ in_order is_below ids
+    → marks_by (λ call. note_if (ends_with_one_of (codes "generate") sorted history call) Note.Repeated) calls
+    ≡ marks_by (λ call. note_if (ends_with_one_of (codes "generate") ids history call) Note.Repeated) calls
+ids_same sorted ids history calls e =
+    ap (λ xs. marks_by (λ call. note_if (ends_with_one_of (codes "generate") xs history call) Note.Repeated) calls) e
+    ∙ (λ i. marks_by (λ call. note_if (has_same Kind.Ok (codes "generate") ids (call_completion history call) i) Note.Repeated) calls)
+
+-- ---- sets
 
 adds_same : (values : List Edn) (history : List Operation) (call : Call) → adds_one_of (in_order is_below values) history call ≡ adds_one_of values history call
 adds_same values history call = has_same Kind.Invoke (codes "add") values (invocation_of history call)
 
-unexpected_same : (none : Bool) (read : Option (ℕ × Operation)) (call : Call)
-    → option_map_or (λ index. is_completed_at index call) (cond none None (option_map (λ one. one.0) read)) false
-    ≡ (not none && option_map_or (λ one. is_completed_at one.0 call) read false)
-unexpected_same true None call = refl
-unexpected_same true (Some read) call = refl
-unexpected_same false None call = refl
-unexpected_same false (Some read) call = refl
+acknowledged_same : (values : List Edn) (history : List Operation) (call : Call) → acknowledges (in_order is_below values) history call ≡ acknowledges values history call
+acknowledged_same values history call = has_same Kind.Ok (codes "add") values (call_completion history call)
 
--- nor do the notes of a set
-pub found_same : (lost recovered : List Edn) (found : SetFound) (history : List Operation) (bars : List Bar)
-    → lost ≡ in_order is_below found.lost → recovered ≡ in_order is_below found.recovered
-    → marks_by (found_note_with lost recovered (unexpected_place found history) history) bars ≡ marks_by (found_note found history) bars
-found_same lost recovered found history bars e f =
-    (λ i. marks_by (found_note_with (e i) (f i) (unexpected_place found history) history) bars)
-    ∙ (λ i. marks_by (λ call. cond (adds_same found.lost history call i) (Some Note.Lost)
-    (cond (adds_same found.recovered history call i) (Some Note.Recovered)
-    (note_if (unexpected_same (eqb (length found.unexpected) 0) (final_read history) call i) Note.Unexpected))) bars)
+read_same : {X : Type 0} (read : Option (ℕ × Operation)) (at : ℕ → X) (none : X) → option_map_or at (option_map (λ one. one.0) read) none ≡ option_map_or (λ one. at one.0) read none
+read_same None at none = refl
+read_same (Some read) at none = refl
+
+not_none : (n : ℕ) → false ≡ eqb (suc n) 0
+not_none n = grind (arith, nat_tests)
+
+-- a list is empty where it has no element
+pub empty_is : (t : Bool) (xs : List Edn) → (IsTrue t → xs ≡ []) → (xs ≡ [] → IsTrue t) → t ≡ eqb (length xs) 0
+empty_is true [] then back = refl
+empty_is true (x ∷ xs) then back = absurd (let wrong : x ∷ xs ≡ [] = then refl in cc)
+empty_is false [] then back = absurd (let wrong : false ≡ true = back refl in cc)
+empty_is false (x ∷ xs) then back = not_none (length xs)
+
+-- what of the lost is late does not depend on the order of what was acknowledged
+late_same : (lost acknowledged : List Edn) → filter (λ x. not (has_same_value (in_order is_below acknowledged) x)) lost ≡ filter (λ x. not (has_same_value acknowledged x)) lost
+late_same lost acknowledged = λ i. filter (λ x. not (among_in_order x acknowledged i)) lost
+
+-- what is late, by what is lost and what was acknowledged before the last read
+pub late_are : (lost acknowledged : List Edn) (found : SetFound) (history : List Operation) → lost ≡ found.lost → acknowledged ≡ in_order is_below (acknowledged_before history)
+    → filter (λ x. not (has_same_value acknowledged x)) lost ≡ late_losses found history
+late_are lost acknowledged found history given known =
+    (λ i. filter (λ x. not (has_same_value (known i) x)) (given i)) ∙ late_same found.lost (acknowledged_before history)
+
+-- the records before the last read, as they are looked for
+pub before_same : (history : List Op) (read : Option (ℕ × Operation))
+    → operations (option_map_or (λ place. take place history) (option_map (λ one. one.0) read) history) ≡ option_map_or (λ one. take one.0 (operations history)) read (operations history)
+before_same history None = refl
+before_same history (Some read) = sym (take-map operation read.0 history)
+
+-- the notes of a set, from elements in order
+pub found_same : (elements : Elements) (found : SetFound) (history : List Operation) (call : Call)
+    → views elements.lost.items ≡ in_order is_below found.lost
+    → views elements.late.items ≡ in_order is_below (late_losses found history)
+    → views elements.recovered.items ≡ in_order is_below found.recovered
+    → elements.read ≡ option_map (λ read. read.0) (final_read history)
+    → elements.is_unexpected ≡ not (eqb (length found.unexpected) 0)
+    → found_note_with elements history call ≡ found_note found history call
+found_same elements found history call lost late recovered read unexpected =
+    let is_lost : is_lost_with elements history call ≡ acknowledges_lost found history call =
+    (λ i. (acknowledges (lost i) history call && option_map_or (λ index. ltb (call_end call) index) (read i) true) || acknowledges (late i) history call)
+    ∙ (λ i. (acknowledged_same found.lost history call i && read_same (final_read history) (λ index. ltb (call_end call) index) true i)
+    || acknowledged_same (late_losses found history) history call i) in
+    let is_recovered : adds_one_of (views elements.recovered.items) history call ≡ adds_one_of found.recovered history call =
+    ap (λ xs. adds_one_of xs history call) recovered ∙ adds_same found.recovered history call in
+    let shows : elements.is_unexpected && option_map_or (λ index. is_completed_at index call) elements.read false ≡ shows_unexpected found history call =
+    (λ i. unexpected i && option_map_or (λ index. is_completed_at index call) (read i) false)
+    ∙ ap (λ t. not (eqb (length found.unexpected) 0) && t) (read_same (final_read history) (λ index. is_completed_at index call) false) in
+    λ i. cond (is_lost i) (Some Note.Lost) (cond (is_recovered i) (Some Note.Recovered) (note_if (shows i) Note.Unexpected))
+
+-- the same at each call
+pub marks_same : (f g : Call → Option Note) (calls : List Call) → ((call : Call) → f call ≡ g call) → marks_by f calls ≡ marks_by g calls
+marks_same f g calls same = λ i. marks_by (λ call. same call i) calls
 
 -- ---- invocations
 

@@ -1,9 +1,9 @@
--- What a checker found in a history, as marks at the bars of its page (what each checker finds
--- stands in the definitions of its own crate; which bars that marks is this project's own). Each
--- bar has at most one note.
-use Rattle.std.specs.Prelude.{ℕ, ◌==◌, ◌&&◌, Bool, false, not, List, [], length, map, codes}
-use Rattle.std.specs.Prelude.{if◌then◌else◌, slice_get, Option, Some, None, option_map}
-use Rattle.std.specs.Prelude.{option_and_then, is_some}
+-- What a checker found in a history, as marks at its calls (what each checker finds stands in the
+-- definitions of its own crate; which calls that marks is this project's own). Each call has at most
+-- one note.
+use Rattle.std.specs.Prelude.{ℕ, ◌==◌, ◌&&◌, ◌||◌, Bool, true, false, not, nat_lt, List, []}
+use Rattle.std.specs.Prelude.{length, map, filter, take, codes, if◌then◌else◌, slice_get, Option}
+use Rattle.std.specs.Prelude.{Some, None, option_map, option_and_then, is_some}
 use Rattle.std.specs.List.{enumerate_from, filter_map, position_from}
 use Rattle.std.specs.Option.{option_map_or}
 use Rattle.jh_edn.specs.Edn.{Edn}
@@ -13,7 +13,7 @@ use Rattle.jh_ops.specs.Pairing.{history_pairs}
 use Rattle.jh_ops.specs.declared.operation.Kind.{Kind}
 use Rattle.jh_check.specs.CounterResults.{is_in_bounds, read_ends}
 use Rattle.jh_check.specs.Distinct.{has_same_value}
-use Rattle.jh_check.specs.SetResults.{final_read}
+use Rattle.jh_check.specs.SetResults.{acknowledged_values, final_read}
 use Rattle.jh_check.specs.declared.counter.ReadBounds.{ReadBounds}
 use Rattle.jh_check.specs.declared.set.SetFound.{SetFound}
 use Rattle.jh_checkers.specs.declared.explanation.Explanation.{Explanation}
@@ -23,10 +23,10 @@ use Rattle.jh_checkers.specs.declared.finding.Finding.TheVariants.{ListAppend}
 use Rattle.jh_linear.specs.declared.verdict.LinVerdict.{LinVerdict}
 use Rattle.jh_linear.specs.declared.verdict.LinVerdict.TheVariants.{Valid, Invalid, Unknown}
 use Rattle.jh_linear.specs.declared.verdict.Stuck.{Stuck}
+use Rattle.jh_timeline.specs.Lanes.{call_end}
 use Rattle.jh_timeline.specs.declared.marks.Mark.{Mark}
 use Rattle.jh_timeline.specs.declared.marks.Note.{Note}
 use Rattle.jh_timeline.specs.declared.marks.StepKind.{StepKind}
-use Rattle.jh_timeline.specs.declared.picture.Bar.{Bar}
 use Rattle.jh_timeline.specs.declared.picture.Call.{Call}
 use Rattle.jh_txn_findings.specs.declared.finding.FoundStep.{FoundStep}
 use Rattle.jh_txn_findings.specs.declared.finding.FoundWhy.{FoundWhy}
@@ -40,8 +40,9 @@ use Rattle.jh_txn_findings.specs.declared.finding.TxnFinding.TheVariants as txns
 abbrev pub note_if : Bool → Note → Option Note
 note_if holds note = if holds then Some note else None
 
+-- the record with which the call begins
 abbrev pub invocation_of : List Operation → Call → Option Operation
-invocation_of history call = slice_get history call.invoke
+invocation_of history call = slice_get history call.first
 
 abbrev pub call_completion : List Operation → Call → Option Operation
 call_completion history call = option_and_then (slice_get history) call.completion
@@ -53,6 +54,11 @@ is_completed_at index call = option_map_or (λ completion. completion == index) 
 -- a client's operation of this kind, of the function of this name, has one of these values
 abbrev pub has_one_of : Kind → List ℕ → List Edn → Operation → Bool
 has_one_of kind name values op = is_asked kind name op && has_same_value values (normal op.value)
+
+-- the call ends with a client's `:ok` of this function, which has one of these values
+abbrev pub ends_with_one_of : List ℕ → List Edn → List Operation → Call → Bool
+ends_with_one_of name values history call =
+    option_map_or (has_one_of Kind.Ok name values) (call_completion history call) false
 
 -- the place that a number has among these, if it is one: the first
 abbrev pub place_among : List ℕ → ℕ → Option ℕ
@@ -67,7 +73,7 @@ invocations_of history = map (λ pair. pair.invoke) (history_pairs history)
 -- the place of a call in an order, if it has one
 abbrev pub place_in : List ℕ → List Operation → Call → Option ℕ
 place_in order history call =
-    option_and_then (place_among order) (place_among (invocations_of history) call.invoke)
+    option_and_then (place_among order) (place_among (invocations_of history) call.first)
 
 -- its place in an order
 abbrev pub placed_note : List ℕ → List Operation → Call → Option Note
@@ -103,8 +109,7 @@ register_note (Unknown reached) explanation history call = None
 abbrev pub ids_note : List (Edn × ℕ) → List Operation → Call → Option Note
 ids_note duplicated history call =
     let ids = map (λ id. id.0) duplicated in
-    note_if (option_map_or (has_one_of Kind.Ok (codes "generate") ids)
-    (call_completion history call) false) Note.Repeated
+    note_if (ends_with_one_of (codes "generate") ids history call) Note.Repeated
 
 -- ---- counters
 
@@ -130,7 +135,36 @@ abbrev pub adds_one_of : List Edn → List Operation → Call → Bool
 adds_one_of elements history call =
     option_map_or (has_one_of Kind.Invoke (codes "add") elements) (invocation_of history call) false
 
--- it is completed by the last read that happened, by which the set is judged
+-- the call acknowledges one of these: it ends with a client's `:ok` of its add
+abbrev pub acknowledges : List Edn → List Operation → Call → Bool
+acknowledges elements history call = ends_with_one_of (codes "add") elements history call
+
+-- the call ends before the last read that happened, by which the set is judged, if there is one
+abbrev pub ends_before_read : List Operation → Call → Bool
+ends_before_read history call =
+    option_map_or (λ read. nat_lt (call_end call) read.0) (final_read history) true
+
+-- the records before that read, and all where there is none
+abbrev pub before_final_read : List Operation → List Operation
+before_final_read history = option_map_or (λ read. take read.0 history) (final_read history) history
+
+-- what was acknowledged by then
+abbrev pub acknowledged_before : List Operation → List Edn
+acknowledged_before history = acknowledged_values (before_final_read history)
+
+-- the elements that are lost and were not acknowledged by then
+abbrev pub late_losses : SetFound → List Operation → List Edn
+late_losses found history =
+    filter (λ x. not (has_same_value (acknowledged_before history) x)) found.lost
+
+-- It acknowledges a lost element before that read, which should have shown it. One that was not
+-- acknowledged by then is lost by what acknowledged it behind the read.
+abbrev pub acknowledges_lost : SetFound → List Operation → Call → Bool
+acknowledges_lost found history call =
+    (acknowledges found.lost history call && ends_before_read history call)
+    || acknowledges (late_losses found history) history call
+
+-- it is completed by the last read that happened
 abbrev pub is_final_read : List Operation → Call → Bool
 is_final_read history call =
     option_map_or (λ read. is_completed_at read.0 call) (final_read history) false
@@ -140,10 +174,10 @@ abbrev pub shows_unexpected : SetFound → List Operation → Call → Bool
 shows_unexpected found history call =
     not (length found.unexpected == 0) && is_final_read history call
 
--- it tried to add what is lost, or what is recovered, or showed what is unexpected
+-- it acknowledged what is lost, or tried to add what is recovered, or showed what is unexpected
 abbrev pub found_note : SetFound → List Operation → Call → Option Note
 found_note found history call =
-    if adds_one_of found.lost history call then Some Note.Lost
+    if acknowledges_lost found history call then Some Note.Lost
     else if adds_one_of found.recovered history call then Some Note.Recovered
     else note_if (shows_unexpected found history call) Note.Unexpected
 
@@ -178,7 +212,7 @@ is_at_number number found = option_map_or (λ other. other == number) found fals
 -- it is the transaction at this place
 abbrev pub has_bad_read : ℕ → List Operation → Call → Bool
 has_bad_read place history call =
-    is_at_number place (place_among (invocations_of history) call.invoke)
+    is_at_number place (place_among (invocations_of history) call.first)
 
 -- its first place in an order, of a snapshot order where it starts; its bad read; its step of a cycle
 abbrev pub transactions_note : TxnFinding → List Operation → Call → Option Note
@@ -198,15 +232,15 @@ note_of (Ids found) history call = ids_note found.duplicated history call
 note_of (Register judged explanation) history call = register_note judged explanation history call
 note_of (ListAppend found) history call = transactions_note found history call
 
--- the mark of a note at a bar
+-- the mark of a note at the call of a number
 abbrev pub mark_at : ℕ → Option Note → Option Mark
-mark_at bar note = option_map (λ shown. record { bar = bar; note = shown }) note
+mark_at call note = option_map (λ shown. record { call = call; note = shown }) note
 
--- bar by bar its mark, where the call of the bar has a note
-abbrev pub marks_by : (Call → Option Note) → List Bar → List Mark
-marks_by note bars =
-    filter_map (λ numbered. mark_at numbered.0 (note numbered.1.call)) (enumerate_from 0 bars)
+-- call by call its mark, where it has a note
+abbrev pub marks_by : (Call → Option Note) → List Call → List Mark
+marks_by note calls =
+    filter_map (λ numbered. mark_at numbered.0 (note numbered.1)) (enumerate_from 0 calls)
 
--- the marks of a picture's bars
-abbrev pub marks_of : List Operation → Finding → List Bar → List Mark
-marks_of history finding bars = marks_by (note_of finding history) bars
+-- the marks of calls
+abbrev pub marks_of : List Operation → Finding → List Call → List Mark
+marks_of history finding calls = marks_by (note_of finding history) calls

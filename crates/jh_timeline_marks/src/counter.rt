@@ -12,22 +12,22 @@ use crate::notes::{noted, push_note};
 use crate::places::{place_of, places_of};
 use jh_check::{ReadBounds, read_ends};
 use jh_ops::{Kind, Op, Pair, Process};
-use jh_timeline::{Bar, Call, Mark, Note};
+use jh_timeline::{Call, Mark, Note};
 use std::alloc::{AllocError, Global};
 use std::collections::BTreeMap;
 
-/// Puts the call of a client's record last, if the record is an invocation, where this is the place
+/// Puts the pair of a client's record last, if the record is an invocation, where this is the place
 /// of the client's next record.
-fn push_call(
+fn push_pair(
     kind: Kind,
     place: usize,
     next: Option<usize>,
-    calls: &mut Vec<Pair>,
+    pairs: &mut Vec<Pair>,
 ) -> Result<(), AllocError>
-    ensures { OnOk result (calls.new.items ≡ calls.old.items ++ pair_with kind place next) }
+    ensures { OnOk result (pairs.new.items ≡ pairs.old.items ++ pair_with kind place next) }
 {
     match kind {
-        Kind::Invoke => calls.push(Pair {
+        Kind::Invoke => pairs.push(Pair {
             invoke: place,
             outcome: next,
         })?,
@@ -36,25 +36,25 @@ fn push_call(
     Ok(())
 }
 
-/// The calls of clients, in the order of their invocations. `jh_ops::pair` refuses a history that is
+/// The pairs of clients, in the order of their invocations. `jh_ops::pair` refuses a history that is
 /// not well formed, and the marks of such a history are defined too.
-fn calls_of(alloc: Global, history: &[Op]) -> Result<Vec<Pair>, AllocError>
-    ensures { IfOk result (λ calls. calls.items ≡ history_pairs (operations history.now)) }
+fn pairs_of(alloc: Global, history: &[Op]) -> Result<Vec<Pair>, AllocError>
+    ensures { IfOk result (λ pairs. pairs.items ≡ history_pairs (operations history.now)) }
 {
     let mut next = BTreeMap::new(alloc);
-    let mut calls = Vec::new(alloc);
+    let mut pairs = Vec::new(alloc);
     let mut place = history.len();
     while place > 0 {
         place -= 1;
         let op = &history[place];
         if let Process::Client(client) = op.process {
             let outcome = next.get(&client).copied();
-            push_call(op.kind, place, outcome, &mut calls)?;
+            push_pair(op.kind, place, outcome, &mut pairs)?;
             next.insert(client, place)?;
         }
     }
-    calls.reverse();
-    Ok(calls)
+    pairs.reverse();
+    Ok(pairs)
 }
 
 /// Where the reads that happened end, in order.
@@ -62,8 +62,8 @@ fn ends_of(alloc: Global, history: &[Op]) -> Result<Vec<usize>, AllocError>
     ensures { IfOk result (λ ends. ends.items
         ≡ counter.read_ends (operations history.now) (history_pairs (operations history.now))) }
 {
-    let calls = calls_of(alloc, history)?;
-    read_ends(alloc, history, &calls)
+    let pairs = pairs_of(alloc, history)?;
+    read_ends(alloc, history, &pairs)
 }
 
 /// Whether a read lies within its bounds.
@@ -112,16 +112,16 @@ pub(crate) fn counter_marks(
     alloc: Global,
     reads: &[ReadBounds],
     history: &[Op],
-    bars: &[Bar],
+    calls: &[Call],
 ) -> Result<Vec<Mark>, AllocError>
     ensures { IfOk result (λ marks. marks.items
-        ≡ marks_by (rule.counter_note reads.now (operations history.now)) bars.now) }
+        ≡ marks_by (rule.counter_note reads.now (operations history.now)) calls.now) }
 {
     let ends = ends_of(alloc, history)?;
     let places = places_of(alloc, &ends)?;
     let mut marks = Vec::new(alloc);
-    for (number, bar) in bars.iter().enumerate() {
-        push_note(counter_note(reads, &places, &bar.call), number, &mut marks)?;
+    for (number, call) in calls.iter().enumerate() {
+        push_note(counter_note(reads, &places, call), number, &mut marks)?;
     }
     Ok(marks)
 }

@@ -11,46 +11,50 @@ use crate::set::set_marks;
 use crate::transactions::transactions_marks;
 use jh_checkers::Finding;
 use jh_ops::Op;
-use jh_timeline::{Bar, Mark};
+use jh_timeline::{Call, Mark};
 use std::alloc::{AllocError, Global};
 
-/// The marks that a finding has at the bars of a picture, in the order of the bars: at most one at
-/// each.
+/// The marks that a finding has at calls, in the order of the calls: at most one at each. A mark has
+/// the number of its call among those that are given, from 0.
 ///
 /// A register: of a yes each call's place in the order. Of a no the call at whose completion the
 /// history is stuck; else a call that is pending there, where the finding is explained, with its
 /// place in the order of what is before, if it has one; else that place. Where nothing is known of
 /// it there are no marks. Unique ids: a call that gave an id that was given more than once. A
-/// counter: a read outside its bounds, with these. A set: a call that tried to add what is lost or
-/// recovered, and the last read that happened, where it shows what nobody tried to add. Transactions:
-/// of a yes the first place of each in the order, which of a snapshot order is where it starts; of a no
-/// the transaction of the bad read, or each of the cycle with its step to the next one.
+/// counter: a read outside its bounds, with these. Transactions: of a yes the first place of each in
+/// the order, which of a snapshot order is where it starts; of a no the transaction of the bad read, or
+/// each of the cycle with its step to the next one.
 ///
-/// The bars are those of a picture of the history, of whatever window. A call is known by where it
-/// is invoked and completed, and a number of an order means the client's invocation of this number.
-/// Where other bars are given, those are marked of which the same holds; and where the finding is
+/// A set: a call that acknowledged what is lost, before the last read that happened; behind it where
+/// nobody acknowledged the element before. So what failed to add it, or may have, has no mark. Else a
+/// call that tried to add what is recovered; else the last read that happened, where it shows what
+/// nobody tried to add. A completion that answers no invocation acknowledges too.
+///
+/// The calls are those of the history, as `jh_timeline::calls_of` has them. A call is known by where
+/// it begins and is completed, and a number of an order means the client's invocation of this number.
+/// Where other calls are given, those are marked of which the same holds; and where the finding is
 /// none of this history, what it says is taken as it is.
 ///
 /// Errors: where memory runs out.
 ///
-/// Takes O(n log n) for n records, bars and values found.
+/// Takes O(n log n) for n records, calls and values found.
 pub fn marks_of(
     alloc: Global,
     history: &[Op],
     finding: &Finding,
-    bars: &[Bar],
+    calls: &[Call],
 ) -> Result<Vec<Mark>, AllocError>
     ensures { IfOk result
-        (λ marks. marks.items ≡ rule.marks_of (operations history.now) finding.now bars.now) }
+        (λ marks. marks.items ≡ rule.marks_of (operations history.now) finding.now calls.now) }
 {
     match finding {
-        Finding::Set(found) => set_marks(alloc, &found.found, history, bars),
-        Finding::Counter(found) => counter_marks(alloc, found.reads.as_slice(), history, bars),
-        Finding::Ids(found) => ids_marks(alloc, found.duplicated.as_slice(), history, bars),
+        Finding::Set(found) => set_marks(alloc, &found.found, history, calls),
+        Finding::Counter(found) => counter_marks(alloc, found.reads.as_slice(), history, calls),
+        Finding::Ids(found) => ids_marks(alloc, found.duplicated.as_slice(), history, calls),
         Finding::Register {
             judged,
             explanation,
-        } => register_marks(alloc, judged, explanation, history, bars),
-        Finding::ListAppend(found) => transactions_marks(alloc, found, history, bars),
+        } => register_marks(alloc, judged, explanation, history, calls),
+        Finding::ListAppend(found) => transactions_marks(alloc, found, history, calls),
     }
 }

@@ -5,7 +5,7 @@ ghost use Rattle.std.specs.Option.{option_to_list};
 ghost use Rattle.jh_timeline_marks.specs.Marked as rule;
 ghost use Rattle.jh_timeline_marks.specs.Marked.{mark_at, marks_by};
 
-use jh_timeline::{Bar, Mark, Note};
+use jh_timeline::{Call, Mark, Note};
 use std::alloc::{AllocError, Global};
 
 /// A note, where something holds.
@@ -15,9 +15,9 @@ pub(crate) fn noted(holds: bool, note: Note) -> Option<Note>
     if holds { Some(note) } else { None }
 }
 
-/// No marks, at bars that have no note.
-pub(crate) fn no_marks(alloc: Global, bars: &[Bar]) -> Vec<Mark>
-    ensures { result.items ≡ marks_by (λ call. None) bars.now }
+/// No marks, at calls that have no note.
+pub(crate) fn no_marks(alloc: Global, calls: &[Call]) -> Vec<Mark>
+    ensures { result.items ≡ marks_by (λ call. None) calls.now }
 {
     Vec::new(alloc)
 }
@@ -25,13 +25,13 @@ pub(crate) fn no_marks(alloc: Global, bars: &[Bar]) -> Vec<Mark>
 /// Puts the mark of a note last, where there is one.
 pub(crate) fn push_note(
     note: Option<Note>,
-    bar: usize,
+    call: usize,
     marks: &mut Vec<Mark>,
 ) -> Result<(), AllocError>
-    ensures { OnOk result (marks.new.items ≡ marks.old.items ++ option_to_list (mark_at bar note)) }
+    ensures { OnOk result (marks.new.items ≡ marks.old.items ++ option_to_list (mark_at call note)) }
 {
     if let Some(note) = note {
-        marks.push(Mark { bar, note })?;
+        marks.push(Mark { call, note })?;
     }
     Ok(())
 }

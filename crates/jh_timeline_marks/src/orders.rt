@@ -11,7 +11,7 @@ ghost use Rattle.jh_timeline_marks.specs.MarkedInside as inside;
 use crate::notes::push_note;
 use crate::places::{place_through, places_of};
 use jh_ops::{Kind, Op, Process};
-use jh_timeline::{Bar, Mark, Note};
+use jh_timeline::{Call, Mark, Note};
 use std::alloc::{AllocError, Global};
 use std::collections::BTreeMap;
 
@@ -65,17 +65,17 @@ pub(crate) fn placed_marks(
     alloc: Global,
     order: &[usize],
     history: &[Op],
-    bars: &[Bar],
+    calls: &[Call],
 ) -> Result<Vec<Mark>, AllocError>
     ensures { IfOk result
         (λ marks. marks.items
-        ≡ marks_by (placed_note order.now (operations history.now)) bars.now) }
+        ≡ marks_by (placed_note order.now (operations history.now)) calls.now) }
 {
     let numbers = numbers_of(alloc, history)?;
     let places = places_of(alloc, order)?;
     let mut marks = Vec::new(alloc);
-    for (number, bar) in bars.iter().enumerate() {
-        let place = place_through(&numbers, &places, bar.call.invoke);
+    for (number, call) in calls.iter().enumerate() {
+        let place = place_through(&numbers, &places, call.first);
         push_note(placed(place), number, &mut marks)?;
     }
     Ok(marks)

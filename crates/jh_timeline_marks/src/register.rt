@@ -13,7 +13,7 @@ use crate::places::{place_through, places_of};
 use jh_checkers::Explanation;
 use jh_linear::{LinVerdict, Stuck};
 use jh_ops::Op;
-use jh_timeline::{Bar, Call, Mark, Note};
+use jh_timeline::{Call, Mark, Note};
 use std::alloc::{AllocError, Global};
 
 /// The numbers of what is pending, where that is known.
@@ -46,19 +46,19 @@ fn invalid_marks(
     stuck: &Stuck,
     explanation: &Option<Explanation>,
     history: &[Op],
-    bars: &[Bar],
+    calls: &[Call],
 ) -> Result<Vec<Mark>, AllocError>
     ensures { IfOk result (λ marks. marks.items
-        ≡ marks_by (rule.stuck_note stuck.now explanation.now (operations history.now)) bars.now) }
+        ≡ marks_by (rule.stuck_note stuck.now explanation.now (operations history.now)) calls.now) }
 {
     let numbers = numbers_of(alloc, history)?;
     let pending = places_of(alloc, pending_in(explanation))?;
     let places = places_of(alloc, stuck.order.as_slice())?;
     let mut marks = Vec::new(alloc);
-    for (number, bar) in bars.iter().enumerate() {
-        let is_pending = place_through(&numbers, &pending, bar.call.invoke).is_some();
-        let place = place_through(&numbers, &places, bar.call.invoke);
-        let note = stuck_note(stuck.end, is_pending, place, &bar.call);
+    for (number, call) in calls.iter().enumerate() {
+        let is_pending = place_through(&numbers, &pending, call.first).is_some();
+        let place = place_through(&numbers, &places, call.first);
+        let note = stuck_note(stuck.end, is_pending, place, call);
         push_note(note, number, &mut marks)?;
     }
     Ok(marks)
@@ -70,14 +70,14 @@ pub(crate) fn register_marks(
     judged: &LinVerdict,
     explanation: &Option<Explanation>,
     history: &[Op],
-    bars: &[Bar],
+    calls: &[Call],
 ) -> Result<Vec<Mark>, AllocError>
     ensures { IfOk result (λ marks. marks.items
-        ≡ marks_by (register_note judged.now explanation.now (operations history.now)) bars.now) }
+        ≡ marks_by (register_note judged.now explanation.now (operations history.now)) calls.now) }
 {
     match judged {
-        LinVerdict::Valid(order) => placed_marks(alloc, order.as_slice(), history, bars),
-        LinVerdict::Invalid(stuck) => invalid_marks(alloc, stuck, explanation, history, bars),
-        LinVerdict::Unknown(_) => Ok(no_marks(alloc, bars)),
+        LinVerdict::Valid(order) => placed_marks(alloc, order.as_slice(), history, calls),
+        LinVerdict::Invalid(stuck) => invalid_marks(alloc, stuck, explanation, history, calls),
+        LinVerdict::Unknown(_) => Ok(no_marks(alloc, calls)),
     }
 }

@@ -10,7 +10,7 @@ use crate::notes::{no_marks, noted, push_note};
 use crate::orders::{numbers_of, placed_marks};
 use crate::places::{place_of, place_through, places_of};
 use jh_ops::Op;
-use jh_timeline::{Bar, Mark, Note, StepKind};
+use jh_timeline::{Call, Mark, Note, StepKind};
 use jh_txn_findings::{FoundStep, FoundWhy, TxnFinding};
 use std::alloc::{AllocError, Global};
 
@@ -50,16 +50,16 @@ fn cycle_marks(
     alloc: Global,
     steps: &[FoundStep],
     history: &[Op],
-    bars: &[Bar],
+    calls: &[Call],
 ) -> Result<Vec<Mark>, AllocError>
     ensures { IfOk result (λ marks. marks.items
-        ≡ marks_by (cycle_note steps.now (operations history.now)) bars.now) }
+        ≡ marks_by (cycle_note steps.now (operations history.now)) calls.now) }
 {
     let numbers = numbers_of(alloc, history)?;
     let places = places_of(alloc, &places_in(alloc, steps)?)?;
     let mut marks = Vec::new(alloc);
-    for (number, bar) in bars.iter().enumerate() {
-        let index = place_through(&numbers, &places, bar.call.invoke);
+    for (number, call) in calls.iter().enumerate() {
+        let index = place_through(&numbers, &places, call.first);
         push_note(note_at(steps, index), number, &mut marks)?;
     }
     Ok(marks)
@@ -80,16 +80,16 @@ fn bad_read_marks(
     alloc: Global,
     place: usize,
     history: &[Op],
-    bars: &[Bar],
+    calls: &[Call],
 ) -> Result<Vec<Mark>, AllocError>
     ensures { IfOk result (λ marks. marks.items
         ≡ marks_by (λ call. note_if (has_bad_read place (operations history.now) call) Note.BadRead)
-        bars.now) }
+        calls.now) }
 {
     let numbers = numbers_of(alloc, history)?;
     let mut marks = Vec::new(alloc);
-    for (number, bar) in bars.iter().enumerate() {
-        let is_bad = is_number(place_of(&numbers, bar.call.invoke), place);
+    for (number, call) in calls.iter().enumerate() {
+        let is_bad = is_number(place_of(&numbers, call.first), place);
         push_note(noted(is_bad, Note::BadRead), number, &mut marks)?;
     }
     Ok(marks)
@@ -100,15 +100,15 @@ pub(crate) fn transactions_marks(
     alloc: Global,
     found: &TxnFinding,
     history: &[Op],
-    bars: &[Bar],
+    calls: &[Call],
 ) -> Result<Vec<Mark>, AllocError>
     ensures { IfOk result (λ marks. marks.items
-        ≡ marks_by (transactions_note found.now (operations history.now)) bars.now) }
+        ≡ marks_by (transactions_note found.now (operations history.now)) calls.now) }
 {
     match found {
-        TxnFinding::Valid { order } => placed_marks(alloc, order, history, bars),
-        TxnFinding::BadRead { place, .. } => bad_read_marks(alloc, *place, history, bars),
-        TxnFinding::Cycle { steps, .. } => cycle_marks(alloc, steps, history, bars),
-        TxnFinding::Unknown => Ok(no_marks(alloc, bars)),
+        TxnFinding::Valid { order } => placed_marks(alloc, order, history, calls),
+        TxnFinding::BadRead { place, .. } => bad_read_marks(alloc, *place, history, calls),
+        TxnFinding::Cycle { steps, .. } => cycle_marks(alloc, steps, history, calls),
+        TxnFinding::Unknown => Ok(no_marks(alloc, calls)),
     }
 }

@@ -8,7 +8,7 @@ use Rattle.jh_timeline.proofs.lanes.lanes_of.Goals.{then-branch+in_ok-add_client
 pub loop-bar-preserved : goal.loop-bar-preserved
 loop-bar-preserved c =
     let l = c.loop-bar in
-    let d : Bar = record { call = record { client = 0; invoke = 0; completion = None; last = 0 }; lane = 0 } in
+    let d : Bar = record { call = record { client = 0; first = 0; completion = None; last = 0 }; lane = 0 } in
     let new = c.in_ok-insert.ensures in
     elim c.if-branch.branch [
       | then-branch+in_ok-add_client w ↦

@@ -1,7 +1,7 @@
 use Rattle.std.proofs.Common.{None, get_or, ◌++◌, ap, ◌∙◌}
 use Rattle.std.specs.Option.{is_some, option_and_then, option_to_list}
 use Rattle.jh_ops.specs.Operation.{operations}
-use Rattle.jh_timeline.specs.declared.picture.Bar.{Bar}
+use Rattle.jh_timeline.specs.declared.picture.Call.{Call}
 use Rattle.jh_timeline_marks.specs.Marked.{invocations_of, mark_at, place_among, stuck_note}
 use Rattle.jh_timeline_marks.specs.MarkedInside.{stuck_note_with}
 use Rattle.jh_timeline_marks.proofs.MarkLemmas.{marks_more, through}
@@ -10,17 +10,17 @@ use Rattle.jh_timeline_marks.proofs.register.invalid_marks.Goals as goal
 pub loop-number-preserved : goal.loop-number-preserved
 loop-number-preserved c =
     let l = c.loop-number in
-    let d : Bar = record { call = record { client = 0; invoke = 0; completion = None; last = 0 }; lane = 0 } in
-    let call = (get_or c.args.bars.now l.number d).call in
+    let d : Call = record { client = 0; first = 0; completion = None; last = 0 } in
+    let call = get_or c.args.calls.now l.number d in
     let history = operations c.args.history.now in
     let known = invocations_of history in
     let pending = c.is_some-is_pending.ensures ∙ ap is_some (c.place_through.ensures
-    ∙ through c.in_ok-numbers.numbers c.in_ok-pending.pending known _ call.invoke c.in_ok-numbers.ensures c.in_ok-pending.ensures
-    ∙ ap (λ numbers. option_and_then (place_among numbers) (place_among known call.invoke)) c.pending_in.ensures) in
+    ∙ through c.in_ok-numbers.numbers c.in_ok-pending.pending known _ call.first c.in_ok-numbers.ensures c.in_ok-pending.ensures
+    ∙ ap (λ numbers. option_and_then (place_among numbers) (place_among known call.first)) c.pending_in.ensures) in
     let place = c.place_through-place.ensures
-    ∙ through c.in_ok-numbers.numbers c.in_ok-places.places known _ call.invoke c.in_ok-numbers.ensures c.in_ok-places.ensures
-    ∙ ap (λ numbers. option_and_then (place_among numbers) (place_among known call.invoke)) c.as_slice.ensures in
-    marks_more (stuck_note c.args.stuck.now c.args.explanation.now history) c.args.bars.now l.number d l.marks.items c.push_note.new.marks.items
+    ∙ through c.in_ok-numbers.numbers c.in_ok-places.places known _ call.first c.in_ok-numbers.ensures c.in_ok-places.ensures
+    ∙ ap (λ numbers. option_and_then (place_among numbers) (place_among known call.first)) c.as_slice.ensures in
+    marks_more (stuck_note c.args.stuck.now c.args.explanation.now history) c.args.calls.now l.number d l.marks.items c.push_note.new.marks.items
     c.loop-number-test.true l.invariant
     (c.in_ok-push_note.ensures ∙ ap (λ note. l.marks.items ++ option_to_list (mark_at l.number note))
     (c.stuck_note-note.ensures ∙ (λ i. stuck_note_with c.args.stuck.now.end (pending i) (place i) call)))

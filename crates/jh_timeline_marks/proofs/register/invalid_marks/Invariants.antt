@@ -4,4 +4,4 @@ use Rattle.jh_timeline_marks.specs.Marked.{marks_by, stuck_note}
 use Rattle.jh_timeline_marks.proofs.register.invalid_marks.Given as goal
 
 abbrev pub invariant-loop-number : goal.invariant-loop-number
-invariant-loop-number l = l.marks.items ≡ marks_by (stuck_note l.stuck l.explanation (operations l.history)) (take l.number l.bars)
+invariant-loop-number l = l.marks.items ≡ marks_by (stuck_note l.stuck l.explanation (operations l.history)) (take l.number l.calls)

@@ -1,9 +1,7 @@
 use Rattle.std.proofs.Common.{◌≡◌, take}
-use Rattle.jh_edn.specs.View.{views}
 use Rattle.jh_ops.specs.Operation.{operations}
-use Rattle.jh_timeline_marks.specs.Marked.{marks_by}
-use Rattle.jh_timeline_marks.specs.MarkedInside.{found_note_with}
+use Rattle.jh_timeline_marks.specs.Marked.{found_note, marks_by}
 use Rattle.jh_timeline_marks.proofs.set.found_marks.Given as goal
 
 abbrev pub invariant-loop-number : goal.invariant-loop-number
-invariant-loop-number l = l.marks.items ≡ marks_by (found_note_with (views l.lost.items) (views l.recovered.items) l.read (operations l.history)) (take l.number l.bars)
+invariant-loop-number l = l.marks.items ≡ marks_by (found_note l.found (operations l.history)) (take l.number l.calls)

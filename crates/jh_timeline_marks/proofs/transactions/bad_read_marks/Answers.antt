@@ -2,19 +2,19 @@ use Rattle.std.proofs.Common.{None, get_or, ◌++◌, ap, ◌∙◌}
 use Rattle.std.specs.Option.{option_to_list}
 use Rattle.jh_ops.specs.Operation.{operations}
 use Rattle.jh_timeline.specs.declared.marks.Note.{Note}
-use Rattle.jh_timeline.specs.declared.picture.Bar.{Bar}
-use Rattle.jh_timeline_marks.specs.Marked.{has_bad_read, invocations_of, is_at_number, mark_at, note_if}
+use Rattle.jh_timeline.specs.declared.picture.Call.{Call}
+use Rattle.jh_timeline_marks.specs.Marked.{has_bad_read, is_at_number, mark_at, note_if}
 use Rattle.jh_timeline_marks.proofs.MarkLemmas.{marks_more}
 use Rattle.jh_timeline_marks.proofs.transactions.bad_read_marks.Goals as goal
 
 pub loop-number-preserved : goal.loop-number-preserved
 loop-number-preserved c =
     let l = c.loop-number in
-    let d : Bar = record { call = record { client = 0; invoke = 0; completion = None; last = 0 }; lane = 0 } in
-    let call = (get_or c.args.bars.now l.number d).call in
+    let d : Call = record { client = 0; first = 0; completion = None; last = 0 } in
+    let call = get_or c.args.calls.now l.number d in
     let history = operations c.args.history.now in
-    let bad = c.is_number-is_bad.ensures ∙ ap (is_at_number c.args.place) (c.place_of.ensures ∙ c.in_ok-numbers.ensures call.invoke) in
-    marks_more (λ one. note_if (has_bad_read c.args.place history one) Note.BadRead) c.args.bars.now l.number d l.marks.items c.push_note.new.marks.items
+    let bad = c.is_number-is_bad.ensures ∙ ap (is_at_number c.args.place) (c.place_of.ensures ∙ c.in_ok-numbers.ensures call.first) in
+    marks_more (λ one. note_if (has_bad_read c.args.place history one) Note.BadRead) c.args.calls.now l.number d l.marks.items c.push_note.new.marks.items
     c.loop-number-test.true l.invariant
     (c.in_ok-push_note.ensures ∙ ap (λ note. l.marks.items ++ option_to_list (mark_at l.number note))
     (c.noted.ensures ∙ ap (λ is. note_if is Note.BadRead) bad))
