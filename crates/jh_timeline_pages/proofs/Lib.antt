@@ -1,2 +1,3 @@
 mod MarkupLemmas
-mod ListLemmas
+mod BandLemmas
+pub mod ListLemmas

@@ -1,26 +1,32 @@
 -- The picture of a history, byte for byte (this project's own; SVG within HTML that is XML too).
-use Rattle.std.specs.Prelude.{ℕ, ◌-◌, ◌==◌, Bool, true, false, List, [], ◌++◌, codes, min}
+use Rattle.std.specs.Prelude.{ℕ, ◌-◌, ◌==◌, ◌&&◌, Bool, true, false, List, [], ◌++◌, codes}
 use Rattle.std.specs.Prelude.{if◌then◌else◌, slice_get, vec_len, Option, Some, None}
 use Rattle.std.specs.Prelude.{option_map, option_and_then}
 use Rattle.std.specs.Fmt.{decimal}
 use Rattle.std.specs.List.{flat_map}
+use Rattle.jh_bands.specs.declared.band.Line.{Line}
 use Rattle.jh_edn.specs.Edn.{Edn}
 use Rattle.jh_ops.specs.Operation.{Operation, operations}
+use Rattle.jh_ops.specs.Pairing.{is_invoke}
 use Rattle.jh_ops.specs.declared.operation.Kind.{Kind}
-use Rattle.jh_timeline_pages.specs.Labels.{answered_text, asked_text, label_text, record_text}
-use Rattle.jh_timeline_pages.specs.Marks.{class_of, is_pointer, meaning_text, note_text}
-use Rattle.jh_timeline_pages.specs.Markup.{short_bytes}
-use Rattle.jh_timeline_pages.specs.Pixels.{bar_end, height_of, lane_width, left_of, middle_of, top_of}
-use Rattle.jh_timeline_pages.specs.declared.section.Section.{Section}
 use Rattle.jh_timeline.specs.declared.marks.Mark.{Mark}
 use Rattle.jh_timeline.specs.declared.picture.Bar.{Bar}
-use Rattle.jh_timeline.specs.declared.picture.Window.{Window}
+use Rattle.jh_timeline_pages.specs.Bands.{bands_text}
+use Rattle.jh_bands.specs.Words.{answered_text, asked_text}
+use Rattle.jh_timeline_pages.specs.Records.{record_text}
+use Rattle.jh_timeline_pages.specs.Marks.{class_of, is_pointer, meaning_text, note_text}
+use Rattle.jh_timeline_pages.specs.Markup.{escaped_bytes, short_bytes}
+use Rattle.jh_timeline_pages.specs.Pixels.{bar_end, bottom_of, frame_of, height_of, left_of}
+use Rattle.jh_timeline_pages.specs.Pixels.{margin_width, middle_of, top_of}
+use Rattle.jh_timeline_pages.specs.Times.{duration, times_text, took_text}
+use Rattle.jh_timeline_pages.specs.declared.pixels.Frame.{Frame}
+use Rattle.jh_timeline_pages.specs.declared.section.Section.{Section}
 
 -- the record that a section has at an index, if there is one
 abbrev pub section_record : Section → ℕ → Option Operation
 section_record section index = slice_get (operations section.history.items) index
 
--- ---- bars
+-- ---- how operations ended
 
 -- how an operation ended, if it did
 abbrev pub ending_of : Option Operation → Option Kind
@@ -40,6 +46,23 @@ ending_sign (Some Kind.Fail) = codes "&#10007; "
 ending_sign (Some _) = codes "? "
 ending_sign None = codes "&#8230; "
 
+-- the class of the bar of a completion that answers no invocation
+abbrev pub alone_class : Kind → List ℕ
+alone_class kind = codes "alone " ++ ending_class (Some kind)
+
+-- the sign in it: an arrow before the sign of how it ended
+abbrev pub alone_sign : Kind → List ℕ
+alone_sign kind = codes "&#8627; " ++ ending_sign (Some kind)
+
+-- It is not known whether an operation that ended so took effect, nor when (jepsen.history: `:info` is
+-- indeterminate, and so is what has no completion).
+abbrev pub may_happen_later : Option Kind → Bool
+may_happen_later None = true
+may_happen_later (Some Kind.Info) = true
+may_happen_later ending = false
+
+-- ---- bars
+
 -- the label of an operation that ended so: where it happened its function with what it answered,
 -- else with what it asked
 abbrev pub ended_label : Kind → (f asked answered : Edn) → List ℕ
@@ -52,11 +75,12 @@ bar_label invocation None = asked_text invocation.f invocation.value
 bar_label invocation (Some completion) =
     ended_label completion.kind invocation.f invocation.value completion.value
 
--- both records of an operation, one above the other
+-- both records of an operation, one above the other, and how long it took
 abbrev pub records_text : Operation → Option Operation → List ℕ
 records_text invocation None = record_text invocation
 records_text invocation (Some completion) =
     record_text invocation ++ codes "\n" ++ record_text completion
+    ++ took_text (duration invocation.time completion.time)
 
 -- where a box begins, and how high it is
 abbrev pub place_text : ℕ → ℕ → ℕ → List ℕ
@@ -66,85 +90,104 @@ place_text left top height =
     ++ (decimal height ++ codes "\"><rect width=\"100%\" height=\"100%\"/>")))))
 
 -- the place of a bar: in its lane, from its first row to its last
-abbrev pub bar_place : Window → Bar → List ℕ
-bar_place window bar =
-    place_text (left_of bar.lane) (top_of window bar.call.invoke) (height_of window bar.call)
+abbrev pub bar_place : Frame → Bar → List ℕ
+bar_place frame bar =
+    place_text (left_of frame bar.lane) (top_of frame bar.call.first) (height_of frame bar.call)
 
 -- the box of a bar, of a class in the style
-abbrev pub box_text : List ℕ → Window → Bar → List ℕ
-box_text class window bar = codes "<svg class=\"" ++ class ++ bar_place window bar
+abbrev pub box_text : List ℕ → Frame → Bar → List ℕ
+box_text class frame bar = codes "<svg class=\"" ++ class ++ bar_place frame bar
 
--- an operation: its box, its records, and its label behind a sign; nothing where there is no
--- invocation
-abbrev pub bar_text : Window → Bar → Option Operation → Option Operation → List ℕ
-bar_text window bar None completion = []
-bar_text window bar (Some invocation) completion =
-    box_text (ending_class (ending_of completion)) window bar ++ codes "<title>"
+-- the end of a bar: its label behind a sign
+abbrev pub signed_text : List ℕ → List ℕ → List ℕ
+signed_text sign label =
+    codes "</title><text x=\"4\" y=\"12\">" ++ sign ++ short_bytes label ++ codes "</text></svg>\n"
+
+-- this process, where it is not the first one
+abbrev pub other_process : ℕ → ℕ → Option ℕ
+other_process client first = if first == client then None else Some client
+
+-- the process that a bar's label names: its own, where its lane had another one before
+abbrev pub named_process : Section → Bar → Option ℕ
+named_process section bar =
+    option_and_then (other_process bar.call.client)
+    (option_and_then (λ lane. slice_get lane.clients.items 0)
+    (slice_get section.picture.lanes.items bar.lane))
+
+-- a label, behind the process that it names, if it names one
+abbrev pub named_label : Option ℕ → List ℕ → List ℕ
+named_label None label = label
+named_label (Some client) label = decimal client ++ (codes ": " ++ label)
+
+-- an operation: its box, its records, and its label
+abbrev pub operation_text : Frame → Bar → Option ℕ → Operation → Option Operation → List ℕ
+operation_text frame bar named invocation completion =
+    box_text (ending_class (ending_of completion)) frame bar ++ codes "<title>"
     ++ records_text invocation completion
-    ++ codes "</title><text x=\"4\" y=\"12\">" ++ ending_sign (ending_of completion)
-    ++ short_bytes (bar_label invocation completion) ++ codes "</text></svg>\n"
+    ++ signed_text (ending_sign (ending_of completion))
+    (named_label named (bar_label invocation completion))
+
+-- a completion that answers no invocation: its box, its record, and its label
+abbrev pub alone_text : Frame → Bar → Option ℕ → Operation → List ℕ
+alone_text frame bar named op =
+    box_text (alone_class op.kind) frame bar ++ codes "<title>" ++ record_text op
+    ++ signed_text (alone_sign op.kind) (named_label named (answered_text op.f op.value))
+
+-- a bar with this first record and this completion; nothing where it has no first record
+abbrev pub bar_text : Frame → Bar → Option ℕ → Option Operation → Option Operation → List ℕ
+bar_text frame bar named None completion = []
+bar_text frame bar named (Some first) completion =
+    if is_invoke first.kind
+    then operation_text frame bar named first completion
+    else alone_text frame bar named first
 
 -- a bar, with the records that it has in the history
-abbrev pub drawn_bar : Section → Bar → List ℕ
-drawn_bar section bar =
-    bar_text section.window bar (section_record section bar.call.invoke)
+abbrev pub drawn_bar : Frame → Section → Bar → List ℕ
+drawn_bar frame section bar =
+    bar_text frame bar (named_process section bar) (section_record section bar.call.first)
     (option_and_then (λ index. section_record section index) bar.call.completion)
 
 -- ---- what is not known
 
--- the index before which records are drawn
-abbrev pub end_in : Window → ℕ → ℕ
-end_in window total = min window.to total
-
--- how far down the records that are drawn end
-abbrev pub bottom_of : Section → ℕ
-bottom_of section = top_of section.window (end_in section.window (vec_len section.history))
-
--- It is not known whether an operation that ended so took effect, nor when (jepsen.history: `:info` is
--- indeterminate, and so is what has no completion).
-abbrev pub may_happen_later : Option Kind → Bool
-may_happen_later None = true
-may_happen_later (Some Kind.Info) = true
-may_happen_later ending = false
-
 -- a line from the end of a bar down to the bottom
-abbrev pub tail_text : Window → Bar → ℕ → List ℕ
-tail_text window bar bottom =
-    codes "<path class=\"tail\" d=\"M" ++ (decimal (middle_of bar.lane) ++ (codes " "
-    ++ (decimal (bar_end window bar) ++ (codes "V"
-    ++ (decimal bottom ++ codes "\"/>\n")))))
+abbrev pub tail_text : Frame → Bar → List ℕ
+tail_text frame bar =
+    codes "<path class=\"tail\" d=\"M" ++ (decimal (middle_of frame bar.lane) ++ (codes " "
+    ++ (decimal (bar_end frame bar) ++ (codes "V"
+    ++ (decimal (bottom_of frame) ++ codes "\"/>\n")))))
 
 -- what becomes of an operation behind its bar: it may take effect at any later time where its outcome is
 -- not known; nothing where there is no invocation
-abbrev pub outcome_text : Section → Bar → Option Operation → Option Kind → List ℕ
-outcome_text section bar None ending = []
-outcome_text section bar (Some invocation) ending =
-    if may_happen_later ending then tail_text section.window bar (bottom_of section) else []
+abbrev pub outcome_text : Frame → Bar → Option Operation → Option Kind → List ℕ
+outcome_text frame bar None ending = []
+outcome_text frame bar (Some first) ending =
+    if is_invoke first.kind && may_happen_later ending then tail_text frame bar else []
 
 -- the same of a bar, with the records that it has in the history
-abbrev pub drawn_tail : Section → Bar → List ℕ
-drawn_tail section bar =
-    outcome_text section bar (section_record section bar.call.invoke)
+abbrev pub drawn_tail : Frame → Section → Bar → List ℕ
+drawn_tail frame section bar =
+    outcome_text frame bar (section_record section bar.call.first)
     (ending_of (option_and_then (λ index. section_record section index) bar.call.completion))
 
--- ---- faults
+-- ---- lines
 
 -- a line across all lanes, in the row of an index
-abbrev pub line_text : Window → ℕ → List ℕ
-line_text window index =
+abbrev pub line_head : Frame → ℕ → List ℕ
+line_head frame index =
     codes "<svg class=\"fault\" y=\""
-    ++ (decimal (top_of window index)
+    ++ (decimal (top_of frame index)
     ++ codes "\" width=\"100%\" height=\"16\"><line x2=\"100%\"/><title>")
 
--- a record of the nemesis, and nothing where there is none
-abbrev pub fault_text : Window → ℕ → Option Operation → List ℕ
-fault_text window index None = []
-fault_text window index (Some op) =
-    line_text window index ++ record_text op ++ codes "</title><text x=\"4\" y=\"12\">"
-    ++ label_text op.f op.value ++ codes "</text></svg>\n"
+-- a record of the nemesis with its label, and nothing where there is no record
+abbrev pub line_text : Frame → Line → Option Operation → List ℕ
+line_text frame line None = []
+line_text frame line (Some op) =
+    line_head frame line.index ++ record_text op ++ codes "</title><text x=\"4\" y=\"12\">"
+    ++ escaped_bytes line.label.items ++ codes "</text></svg>\n"
 
-abbrev pub drawn_fault : Section → ℕ → List ℕ
-drawn_fault section index = fault_text section.window index (section_record section index)
+-- a line, with the record that it has in the history
+abbrev pub drawn_line : Frame → Section → Line → List ℕ
+drawn_line frame section line = line_text frame line (section_record section line.index)
 
 -- ---- marks
 
@@ -155,21 +198,21 @@ mark_name number bar = codes "found-" ++ (decimal number ++ (codes "-" ++ decima
 -- a mark that points at something has its name
 abbrev pub named_text : ℕ → Mark → List ℕ
 named_text number mark =
-    if is_pointer mark.note then codes "\" id=\"" ++ mark_name number mark.bar else []
+    if is_pointer mark.note then codes "\" id=\"" ++ mark_name number mark.call else []
 
 -- a mark, which says what it means, with its text at the right end of a bar; nothing where there is
 -- no bar
-abbrev pub mark_text : ℕ → Window → Mark → Option Bar → List ℕ
-mark_text number window mark None = []
-mark_text number window mark (Some bar) =
-    codes "<svg class=\"" ++ class_of mark.note ++ named_text number mark ++ bar_place window bar
+abbrev pub mark_text : ℕ → Frame → Mark → Option Bar → List ℕ
+mark_text number frame mark None = []
+mark_text number frame mark (Some bar) =
+    codes "<svg class=\"" ++ class_of mark.note ++ named_text number mark ++ bar_place frame bar
     ++ codes "<title>" ++ meaning_text mark.note
     ++ codes "</title><text x=\"228\" y=\"12\">" ++ note_text mark.note ++ codes "</text></svg>\n"
 
 -- a mark at the bar that it names, in the section of a number
-abbrev pub drawn_mark : ℕ → Section → Mark → List ℕ
-drawn_mark number section mark =
-    mark_text number section.window mark (slice_get section.picture.bars.items mark.bar)
+abbrev pub drawn_mark : ℕ → Frame → Section → Mark → List ℕ
+drawn_mark number frame section mark =
+    mark_text number frame mark (slice_get section.picture.bars.items mark.call)
 
 -- ---- the picture
 
@@ -190,21 +233,29 @@ opening_text left width height =
     codes "<div class=\"picture\">\n<svg xmlns=\"http://www.w3.org/2000/svg\""
     ++ sides_text width height ++ view_text left width height
 
--- how much is not shown at the left: the lane of the nemesis, where it did nothing
-abbrev pub left_out : Section → ℕ
-left_out section = if vec_len section.picture.faults == 0 then lane_width else 0
+-- how much is not shown at the left: the margin of the nemesis, where nothing stands in it
+abbrev pub cut_off : Section → ℕ
+cut_off section =
+    if vec_len section.lines == 0 && vec_len section.bands == 0 then margin_width else 0
 
--- the opening of the picture: as wide as its lanes, with the one of the nemesis where that is shown, and
--- as high as the records that are drawn
-abbrev pub picture_head : Section → List ℕ
-picture_head section =
-    opening_text (left_out section) (left_of (vec_len section.picture.lanes) - left_out section)
-    (bottom_of section)
+-- the opening of the picture: as wide as its lanes, with what is shown at the left of them, and as high
+-- as the records that are drawn
+abbrev pub picture_head : Frame → Section → List ℕ
+picture_head frame section =
+    opening_text (cut_off section)
+    (left_of frame (vec_len section.picture.lanes) - cut_off section) (bottom_of frame)
 
--- of the section of a number: faults below what is not known, that below bars, and bars below marks
+-- of the section of a number, from the back to the front: bands, times, lines, what is not known, bars and
+-- marks
+abbrev pub framed_text : ℕ → Frame → Section → List ℕ
+framed_text number frame section =
+    picture_head frame section ++ bands_text frame section.bands.items
+    ++ times_text frame section.history.items
+    ++ flat_map (drawn_line frame section) section.lines.items
+    ++ flat_map (drawn_tail frame section) section.picture.bars.items
+    ++ flat_map (drawn_bar frame section) section.picture.bars.items ++ codes "<g class=\"marks\">\n"
+    ++ flat_map (drawn_mark number frame section) section.marks.items
+    ++ codes "</g>\n</svg>\n</div>\n"
+
 abbrev pub picture_text : ℕ → Section → List ℕ
-picture_text number section =
-    picture_head section ++ flat_map (drawn_fault section) section.picture.faults.items
-    ++ flat_map (drawn_tail section) section.picture.bars.items
-    ++ flat_map (drawn_bar section) section.picture.bars.items ++ codes "<g class=\"marks\">\n"
-    ++ flat_map (drawn_mark number section) section.marks.items ++ codes "</g>\n</svg>\n</div>\n"
+picture_text number section = framed_text number (frame_of section) section

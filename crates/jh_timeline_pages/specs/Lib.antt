@@ -1,6 +1,8 @@
 pub mod Markup
-pub mod Labels
+pub mod Records
 pub mod Marks
 pub mod Pixels
+pub mod Times
+pub mod Bands
 pub mod Drawings
 pub mod Page

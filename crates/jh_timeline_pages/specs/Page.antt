@@ -3,9 +3,10 @@ use Rattle.std.specs.Prelude.{ℕ, Bool, ◌-◌, ◌==◌, ◌&&◌, nat_le, na
 use Rattle.std.specs.Prelude.{if◌then◌else◌, codes, length, vec_len, Option, Some, None}
 use Rattle.std.specs.Fmt.{decimal}
 use Rattle.std.specs.List.{enumerate_from, flat_map}
-use Rattle.jh_timeline_pages.specs.Drawings.{end_in, mark_name, picture_text}
+use Rattle.jh_timeline_pages.specs.Drawings.{mark_name, picture_text}
 use Rattle.jh_timeline_pages.specs.Markup.{escaped_bytes}
 use Rattle.jh_timeline_pages.specs.Marks.{first_pointer}
+use Rattle.jh_timeline_pages.specs.Pixels.{end_in}
 use Rattle.jh_timeline_pages.specs.declared.section.Section.{Section}
 use Rattle.jh_timeline_pages.specs.declared.top.TheConstants.{HEAD, LEGEND}
 use Rattle.jh_timeline_pages.specs.declared.top.Top.{Top}
@@ -65,11 +66,21 @@ window_text window total =
     then drawn_records_text window.from (end_in window total - 1) total
     else codes "No record of " ++ (decimal total ++ codes "; --from and --to choose others.</p>\n")
 
+-- how many operations of unknown outcome began before the records that are drawn and are not drawn, if
+-- there are any
+abbrev pub left_out_text : ℕ → List ℕ
+left_out_text count =
+    if count == 0 then []
+    else if count == 1
+    then codes "<p>1 operation of unknown outcome began before and is not drawn.</p>\n"
+    else codes "<p>" ++ (decimal count
+    ++ codes " operations of unknown outcome began before and are not drawn.</p>\n")
+
 -- a link to the first mark that points at something, if one does
 abbrev pub jump_text : ℕ → Option Mark → List ℕ
 jump_text number None = []
 jump_text number (Some mark) =
-    codes "<p><a href=\"#" ++ mark_name number mark.bar ++ codes "\">Go to what was found</a></p>\n"
+    codes "<p><a href=\"#" ++ mark_name number mark.call ++ codes "\">Go to what was found</a></p>\n"
 
 -- a process that a lane had
 abbrev pub client_text : ℕ → List ℕ
@@ -79,12 +90,13 @@ client_text client = codes " " ++ decimal client
 abbrev pub lane_text : Lane → List ℕ
 lane_text lane = codes "<li>process" ++ flat_map client_text lane.clients.items ++ codes "</li>\n"
 
--- a history: its heading, which of its records are drawn, a link to what was found, the lanes numbered
--- from 1, and its picture
+-- a history: its heading, which of its records are drawn, what is left out, a link to what was found, the
+-- lanes numbered from 1, and its picture
 abbrev pub section_text : ℕ → Section → List ℕ
 section_text number section =
     codes "<section>\n" ++ heading_text number section.heading.items
     ++ window_text section.window (vec_len section.history)
+    ++ left_out_text section.picture.left_out
     ++ jump_text number (first_pointer section.marks.items) ++ codes "<ol class=\"lanes\">\n"
     ++ flat_map lane_text section.picture.lanes.items ++ codes "</ol>\n"
     ++ picture_text number section

@@ -1,18 +1,23 @@
-//! What marks say. `specs/Marks.antt` has the rule.
+//! What marks say, and where they stand. `specs/Marks.antt` and `specs/Drawings.antt` have the rule.
 
 ghost use Rattle.std.specs.Prelude.{◌≡◌, IfErr, OnOk, option_map};
 ghost use Rattle.std.specs.Io.KnownBytes.{Appends};
+ghost use Rattle.std.specs.List.{flat_map};
+ghost use Rattle.jh_timeline_pages.specs.Drawings.{drawn_mark, mark_name, mark_text, named_text};
 ghost use Rattle.jh_timeline_pages.specs.Marks as rule;
 ghost use Rattle.jh_timeline_pages.specs.Marks.{meaning_text, note_text, step_text};
 ghost use Rattle.jh_timeline.specs.declared.marks.Note.{Note};
 
+use crate::bars::write_bar_place;
 use crate::error::PageError;
 use crate::markup::put;
-use jh_timeline::{Mark, Note, StepKind};
+use crate::pixels::Frame;
+use crate::section::Section;
+use jh_timeline::{Bar, Mark, Note, StepKind};
 use std::io::Write;
 
 /// Whether a note points at something.
-pub(crate) fn is_pointer(note: Note) -> bool
+fn is_pointer(note: Note) -> bool
     ensures { result ≡ rule.is_pointer note }
 {
     match note {
@@ -30,7 +35,7 @@ pub fn first_pointer(marks: &[Mark]) -> Option<&Mark>
 }
 
 /// The class of a note in the style.
-pub(crate) fn class_of(note: Note) -> &'static str
+fn class_of(note: Note) -> &'static str
     ensures { result.now ≡ rule.class_of note }
 {
     match note {
@@ -71,7 +76,7 @@ fn write_step<W: Write>(place: usize, kind: StepKind, writer: &mut W) -> Result<
 }
 
 /// Writes the text of a note.
-pub(crate) fn write_note<W: Write>(note: Note, writer: &mut W) -> Result<(), PageError>
+fn write_note<W: Write>(note: Note, writer: &mut W) -> Result<(), PageError>
     ensures bytes { OnOk result
         (Appends (W.contents writer.old) (W.contents writer.new) (note_text note)) }
     ensures error { IfErr result (λ e. e ≡ PageError.Write) }
@@ -127,7 +132,7 @@ fn plain_meaning(note: Note) -> &'static [u8]
 }
 
 /// Writes what a note means.
-pub(crate) fn write_meaning<W: Write>(note: Note, writer: &mut W) -> Result<(), PageError>
+fn write_meaning<W: Write>(note: Note, writer: &mut W) -> Result<(), PageError>
     ensures bytes { OnOk result
         (Appends (W.contents writer.old) (W.contents writer.new) (meaning_text note)) }
     ensures error { IfErr result (λ e. e ≡ PageError.Write) }
@@ -148,4 +153,86 @@ pub(crate) fn write_meaning<W: Write>(note: Note, writer: &mut W) -> Result<(), 
         .map_err(|_| PageError::Write),
         _ => put(plain_meaning(note), writer),
     }
+}
+
+/// Writes the name of a mark, to which a link may lead.
+pub(crate) fn write_mark_name<W: Write>(
+    number: usize,
+    bar: usize,
+    writer: &mut W,
+) -> Result<(), PageError>
+    ensures { OnOk result
+        (Appends (W.contents writer.old) (W.contents writer.new) (mark_name number bar)) }
+{
+    write!(writer, "found-{number}-{bar}").map_err(|_| PageError::Write)
+}
+
+/// Writes the name of a mark that points at something, behind its class.
+fn write_named<W: Write>(number: usize, mark: &Mark, writer: &mut W) -> Result<(), PageError>
+    ensures { OnOk result
+        (Appends (W.contents writer.old) (W.contents writer.new) (named_text number mark.now)) }
+{
+    if is_pointer(mark.note) {
+        put(b"\" id=\"", writer)?;
+        write_mark_name(number, mark.call, writer)
+    } else {
+        Ok(())
+    }
+}
+
+/// Writes a mark at a bar, with what it means.
+fn write_mark<W: Write>(
+    number: usize,
+    frame: Frame,
+    mark: &Mark,
+    bar: &Bar,
+    writer: &mut W,
+) -> Result<(), PageError>
+    ensures { OnOk result
+        (Appends (W.contents writer.old) (W.contents writer.new)
+        (mark_text number frame mark.now (Some bar.now))) }
+{
+    put(b"<svg class=\"", writer)?;
+    put(class_of(mark.note).as_bytes(), writer)?;
+    write_named(number, mark, writer)?;
+    write_bar_place(frame, bar, writer)?;
+    put(b"<title>", writer)?;
+    write_meaning(mark.note, writer)?;
+    put(b"</title><text x=\"228\" y=\"12\">", writer)?;
+    write_note(mark.note, writer)?;
+    put(b"</text></svg>\n", writer)
+}
+
+/// Writes a mark at the bar that it names.
+fn draw_mark<W: Write>(
+    number: usize,
+    frame: Frame,
+    section: &Section,
+    mark: &Mark,
+    writer: &mut W,
+) -> Result<(), PageError>
+    ensures { OnOk result
+        (Appends (W.contents writer.old) (W.contents writer.new)
+        (drawn_mark number frame section.now mark.now)) }
+{
+    match section.bar(mark.call) {
+        Some(bar) => write_mark(number, frame, mark, &bar, writer),
+        None => Ok(()),
+    }
+}
+
+/// Writes all marks.
+pub(crate) fn draw_marks<W: Write>(
+    number: usize,
+    frame: Frame,
+    section: &Section,
+    writer: &mut W,
+) -> Result<(), PageError>
+    ensures { OnOk result (Appends (W.contents writer.old) (W.contents writer.new)
+        (flat_map (drawn_mark number frame section.now) section.now.marks.items)) }
+{
+    for mark in &section.marks {
+        draw_mark(number, frame, section, mark, writer)?;
+    }
+    Ok(())
 }

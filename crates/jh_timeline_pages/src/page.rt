@@ -1,22 +1,21 @@
 //! The page of histories. `specs/Page.antt` has the rule.
 
-ghost use Rattle.std.specs.Prelude.{◌≡◌, All, OnOk, option_map};
+ghost use Rattle.std.specs.Prelude.{All, OnOk, option_map};
 ghost use Rattle.std.specs.Io.KnownBytes.{Appends};
 ghost use Rattle.std.specs.List.{enumerate_from, flat_map};
 ghost use Rattle.jh_ops.specs.OperationWritten.{IsWritable};
-ghost use Rattle.jh_timeline_pages.specs.Page as rule;
-ghost use Rattle.jh_timeline_pages.specs.Page.{below_text, client_text, contents_text, heading_text};
-ghost use Rattle.jh_timeline_pages.specs.Page.{lane_text, section_link_text};
-ghost use Rattle.jh_timeline_pages.specs.Page.{anchor_text, page_text, drawn_records_text, section_text};
-ghost use Rattle.jh_timeline_pages.specs.Page.{jump_text, window_text};
+ghost use Rattle.jh_timeline_pages.specs.Page.{anchor_text, below_text, client_text, contents_text};
+ghost use Rattle.jh_timeline_pages.specs.Page.{heading_text, jump_text, lane_text, page_text};
+ghost use Rattle.jh_timeline_pages.specs.Page.{section_link_text, section_text};
 
-use crate::drawing::{end_in, write_mark_name, write_picture};
 use crate::error::PageError;
-use crate::marks::first_pointer;
+use crate::marks::{first_pointer, write_mark_name};
 use crate::markup::{put, write_escaped_bytes};
+use crate::picture::write_picture;
 use crate::section::Section;
+use crate::shown::{write_left_out, write_window};
 use crate::top::{Top, write_top};
-use jh_timeline::{Lane, Mark, Window};
+use jh_timeline::{Lane, Mark};
 use std::alloc::Global;
 use std::io::Write;
 
@@ -47,50 +46,6 @@ fn write_heading<W: Write>(
     put(b"</h2>\n<p>", writer)
 }
 
-/// Whether all records are drawn.
-fn is_whole(window: Window, total: usize) -> bool
-    ensures { result ≡ rule.is_whole window total }
-{
-    window.from == 0 && total <= window.to
-}
-
-/// Writes that records from one to another are drawn.
-fn write_range<W: Write>(
-    first: usize,
-    last: usize,
-    total: usize,
-    writer: &mut W,
-) -> Result<(), PageError>
-    ensures { OnOk result
-        (Appends (W.contents writer.old) (W.contents writer.new)
-        (drawn_records_text first last total)) }
-{
-    write!(
-        writer,
-        "Records {first} to {last} of {total}; --from and --to choose others.</p>\n"
-    )
-    .map_err(|_| PageError::Write)
-}
-
-/// Writes which of so many records are drawn.
-fn write_window<W: Write>(window: Window, total: usize, writer: &mut W) -> Result<(), PageError>
-    ensures { OnOk result
-        (Appends (W.contents writer.old) (W.contents writer.new) (window_text window total)) }
-{
-    let end = end_in(window, total);
-    if is_whole(window, total) {
-        write!(writer, "All {total} records.</p>\n").map_err(|_| PageError::Write)
-    } else if window.from < end {
-        write_range(window.from, end - 1, total, writer)
-    } else {
-        write!(
-            writer,
-            "No record of {total}; --from and --to choose others.</p>\n"
-        )
-        .map_err(|_| PageError::Write)
-    }
-}
-
 /// Writes a link to a mark, if there is one.
 fn write_jump<W: Write>(number: usize, mark: Option<&Mark>, writer: &mut W) -> Result<(), PageError>
     ensures { OnOk result
@@ -100,7 +55,7 @@ fn write_jump<W: Write>(number: usize, mark: Option<&Mark>, writer: &mut W) -> R
     match mark {
         Some(mark) => {
             put(b"<p><a href=\"#", writer)?;
-            write_mark_name(number, mark.bar, writer)?;
+            write_mark_name(number, mark.call, writer)?;
             put(b"\">Go to what was found</a></p>\n", writer)
         }
         None => Ok(()),
@@ -154,6 +109,7 @@ fn write_section<W: Write>(
     put(b"<section>\n", writer)?;
     write_heading(alloc, number, section.heading.as_slice(), writer)?;
     write_window(section.window, section.history.len(), writer)?;
+    write_left_out(section.picture.left_out, writer)?;
     write_jump(number, first_pointer(section.marks.as_slice()), writer)?;
     put(b"<ol class=\"lanes\">\n", writer)?;
     write_lanes(section.picture.lanes.as_slice(), writer)?;
@@ -245,9 +201,10 @@ fn write_below<W: Write>(alloc: Global, below: &[u8], writer: &mut W) -> Result<
 /// Writes a page: its top, a table of contents where there is more than one section, then each
 /// section with its picture, and a text below them all, if there is one.
 ///
-/// Processes can be written, which `Process::is_writable` tests. A bar or a fault whose index its
+/// Processes can be written, which `Process::is_writable` tests. A bar or a line whose index its
 /// history lacks is not drawn, nor is a mark whose bar its picture lacks. A bar has at most one
-/// mark, or else their texts lie upon each other.
+/// mark, or else their texts lie upon each other. Takes O(n) for n records, bars, bands, lines and
+/// marks, beside what their texts take.
 ///
 /// The writer may have taken a part of the page where this failed.
 ///

@@ -5,7 +5,7 @@ ghost use Rattle.std.specs.Io.KnownBytes.{Appends};
 ghost use Rattle.jh_edn.specs.Print.{print};
 ghost use Rattle.jh_ops.specs.Operation.{operation};
 ghost use Rattle.jh_ops.specs.OperationWritten.{IsWritable, value_written};
-ghost use Rattle.jh_timeline_pages.specs.Labels.{record_text};
+ghost use Rattle.jh_timeline_pages.specs.Records.{record_text};
 
 use crate::error::PageError;
 use crate::markup::write_escaped_bytes;

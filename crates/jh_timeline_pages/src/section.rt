@@ -4,6 +4,7 @@ ghost use Rattle.std.specs.Prelude.{◌≡◌, All, IfSome, option_map, slice_ge
 ghost use Rattle.jh_ops.specs.Operation.{operation};
 ghost use Rattle.jh_ops.specs.OperationWritten.{IsWritable};
 
+use jh_bands::{Band, Line};
 use jh_ops::Op;
 use jh_timeline::{Bar, Mark, Picture, Window};
 
@@ -15,8 +16,12 @@ pub struct Section {
     pub history: Vec<Op>,
     /// Which of its records are drawn.
     pub window: Window,
-    /// What is drawn of it.
+    /// What is drawn of its clients.
     pub picture: Picture,
+    /// The faults that are active in the window, in the order in which they begin.
+    pub bands: Vec<Band>,
+    /// The records of the nemesis in the window, in order.
+    pub lines: Vec<Line>,
     /// The notes at its bars.
     pub marks: Vec<Mark>,
 }

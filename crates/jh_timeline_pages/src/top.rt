@@ -20,8 +20,8 @@ pub struct Top {
     pub line: Vec<u8>,
 }
 
-/// The page up to its heading. Its colours are for light and dark, and on paper a picture is as
-/// wide as the paper at most.
+/// The page up to its heading. Its colours are for light and dark. On paper a picture is as wide as
+/// the paper at most, and nothing needs a colour: a band has an outline there, and no fill.
 const HEAD: &[u8] =
     b"<!DOCTYPE html>\n<html xmlns=\"http://www.w3.org/1999/xhtml\" lang=\"en\">\n<head>\n\
     <meta charset=\"utf-8\"/>\n<title>Timeline</title>\n<style>\n\
@@ -42,8 +42,12 @@ const HEAD: &[u8] =
     svg text { font: 11px monospace; fill: var(--ink) }\n\
     rect { stroke: var(--ink); fill: var(--open); fill-opacity: 0.85 }\n.ok rect { fill: var(--ok) }\n\
     .fail rect { fill: var(--fail) }\n.info rect { fill: var(--info) }\n\
-    .info rect, .open rect { stroke-dasharray: 4 2 }\n\
-    .fault line { stroke: var(--fault); stroke-width: 2 }\n.fault text { fill: var(--fault) }\n\
+    .info rect, .open rect { stroke-dasharray: 4 2 }\n.alone rect { stroke-dasharray: 1 2 }\n\
+    .band { overflow: visible }\n\
+    .band rect { stroke: none; fill: var(--fault); fill-opacity: 0.12 }\n\
+    .band text { fill: var(--fault); text-anchor: end }\n\
+    .time { font-size: 9px; fill-opacity: 0.6; text-anchor: end }\n\
+    .fault line { stroke: var(--fault); stroke-width: 2 }\n.fault text { fill: var(--fault); paint-order: stroke; stroke: var(--paper); stroke-width: 4px }\n\
     .tail { fill: none; stroke: var(--ink); stroke-opacity: 0.5; stroke-dasharray: 2 3 }\n\
     .marks > svg { scroll-margin-top: 6em }\n\
     .marks rect { fill: none; stroke: var(--mark); stroke-width: 4; pointer-events: none }\n\
@@ -55,22 +59,28 @@ const HEAD: &[u8] =
     .legend .ok { background: var(--ok) }\n.legend .fail { background: var(--fail) }\n\
     .legend .info { background: var(--info) }\n\
     .legend .info, .legend .open { border-style: dashed }\n\
+    .legend .alone { border-style: dotted }\n\
     .legend .marked { border: 2px solid var(--mark); color: var(--mark); background: none }\n\
     .legend .waits { border: 2px dashed var(--pending); color: var(--pending); background: none }\n\
     .legend b { color: var(--placed) }\n\
     @media print { :root { --ink: #000000; --paper: #ffffff; --ok: #ffffff; --fail: #d8d8d8; \
     --info: #ffffff; --open: #ffffff; --fault: #000000; --mark: #000000; \
     --pending: #000000; --placed: #000000 }\n\
+    .band rect { fill: none; stroke: var(--fault); stroke-dasharray: 6 3 }\n\
     .lanes { position: static }\n.picture { overflow: visible }\n.picture > svg { max-width: 100%; height: auto } }\n\
     </style>\n</head>\n<body>\n<h1>";
 
 /// What signs and colours mean.
 const LEGEND: &[u8] = b"<p class=\"legend\"><span class=\"ok\">&#10003; ok</span> \
     <span class=\"fail\">&#10007; fail</span> <span class=\"info\">? info</span> \
-    <span class=\"open\">&#8230; no completion</span> <span class=\"marked\">mark</span> \
-    <span class=\"waits\">pending</span> <b>12</b> number in an order. Time goes down, and a line \
-    across is a fault. A dotted line goes on below a bar whose outcome is unknown: it may take effect \
-    at any later time. Point at a bar or a line to see its records, at a mark to see what it means.</p>\n";
+    <span class=\"open\">&#8230; no completion</span> \
+    <span class=\"alone\">&#8627; no invocation</span> <span class=\"marked\">mark</span> \
+    <span class=\"waits\">pending</span> <b>12</b> number in an order. Time goes down, and times are \
+    in seconds. A line across is a record of the nemesis, and a shade, on paper a dashed box, is a \
+    fault while it is active. A number and a colon before a label name the process, where its lane had \
+    another one before. A dotted line goes on below a bar whose outcome is unknown: it may take effect \
+    at any later time. Point at a bar or a line to see its records, at a mark to see what it \
+    means.</p>\n";
 
 /// Writes a sentence below the heading, if there is one.
 fn write_notice<W: Write>(alloc: Global, notice: &[u8], writer: &mut W) -> Result<(), PageError>

@@ -1,7 +1,7 @@
 use Rattle.std.proofs.Common.{subst}
 use Rattle.std.specs.Io.KnownBytes.{Appends}
 use Rattle.jh_edn.proofs.CitedLemmas.{appends_then}
-use Rattle.jh_plot_pages.proofs.ListLemmas.{flat_map_at}
+use Rattle.jh_timeline_pages.proofs.ListLemmas.{flat_map_at}
 use Rattle.jh_plot_pages.specs.Axes.{tick_text}
 use Rattle.jh_plot_pages.proofs.axes.write_ticks.Goals as goal
 

@@ -1,7 +1,7 @@
 use Rattle.std.proofs.Common.{subst}
 use Rattle.std.specs.Io.KnownBytes.{Appends}
 use Rattle.jh_edn.proofs.CitedLemmas.{appends_then}
-use Rattle.jh_plot_pages.proofs.ListLemmas.{flat_map_next}
+use Rattle.jh_timeline_pages.proofs.ListLemmas.{flat_map_next}
 use Rattle.jh_plot_pages.specs.Page.{panel_text}
 use Rattle.jh_plot_pages.proofs.page.write_each_panel.Goals as goal
 

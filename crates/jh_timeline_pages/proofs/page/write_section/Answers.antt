@@ -22,9 +22,10 @@ returns g c =
     let one = appends_then start (contents c.put.new.writer) (contents c.write_heading.new.writer) _ _ c.in_ok-put.ensures.bytes heading in
     let two = appends_then start (contents c.write_heading.new.writer) (contents c.write_window.new.writer) _ _ one window in
     let jump =
-    subst (λ mark. Appends (contents c.write_window.new.writer) (contents c.write_jump.new.writer) (jump_text c.args.number mark))
+    subst (λ mark. Appends (contents c.write_left_out.new.writer) (contents c.write_jump.new.writer) (jump_text c.args.number mark))
     (c.first_pointer.ensures ∙ ap first_pointer c.as_slice-2.ensures.value) c.in_ok-write_jump.ensures in
-    let jumped = appends_then start (contents c.write_window.new.writer) (contents c.write_jump.new.writer) _ _ two jump in
+    let left_out = appends_then start (contents c.write_window.new.writer) (contents c.write_left_out.new.writer) _ _ two c.in_ok-write_left_out.ensures in
+    let jumped = appends_then start (contents c.write_left_out.new.writer) (contents c.write_jump.new.writer) _ _ left_out jump in
     let three = appends_then start (contents c.write_jump.new.writer) (contents c.put-2.new.writer) _ _ jumped c.in_ok-put-2.ensures.bytes in
     let four = appends_then start (contents c.put-2.new.writer) (contents c.write_lanes.new.writer) _ _ three lanes in
     let five = appends_then start (contents c.write_lanes.new.writer) (contents c.put-3.new.writer) _ _ four c.in_ok-put-3.ensures.bytes in
