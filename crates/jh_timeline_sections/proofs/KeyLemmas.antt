@@ -144,7 +144,7 @@ of_keys history choice [] [] all h = tt
 of_keys history choice [] (section ∷ sections) all h = absurd h
 of_keys history choice (one ∷ shown) [] all h = absurd h
 of_keys history choice (one ∷ shown) (section ∷ sections) all h = (
-  subst (λ ops. IsSectionOf (heading_of (key_and_found one)) ops one.found choice section) (All-head (HasHistory history) one shown all) h.0,
+  subst (λ ops. IsSectionOf (heading_of (key_and_found one)) ops [] one.found choice section) (All-head (HasHistory history) one shown all) h.0,
   of_keys history choice shown sections (All-tail (HasHistory history) one shown all) h.1,
 )
 

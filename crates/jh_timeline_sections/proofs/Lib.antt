@@ -1,2 +1,3 @@
 pub mod FirstLineLemmas
 pub mod KeyLemmas
+mod NemesisLemmas

@@ -66,10 +66,11 @@ found_text (Some found) = verdict_text (finding_verdict found)
 abbrev pub heading_of : Edn × Option Finding → List ℕ
 heading_of key = codes "Key " ++ print key.0 ++ found_text key.1
 
--- The section shows the key's own history, with what was found in it.
+-- The section shows the key's own history, with what was found in it. The nemesis has no record there,
+-- so no steps are needed.
 abbrev pub IsSectionOfKey : List Operation → Choice → Edn × Option Finding → Section → Type 0
 IsSectionOfKey history choice key section =
-    IsSectionOf (heading_of key) (history_of key.0 history) key.1 choice section
+    IsSectionOf (heading_of key) (history_of key.0 history) [] key.1 choice section
 
 -- one section for each key of a history of tuples
 pub record AreSectionsOf (history : List Operation) (choice : Choice)

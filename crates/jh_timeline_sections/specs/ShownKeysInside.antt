@@ -1,6 +1,6 @@
 -- Keys with their histories: proofs rest on it, and no public clause names it.
 -- This project's own.
-use Rattle.std.specs.Prelude.{◌≡◌, Bool, List, ◌++◌, map, All, Option}
+use Rattle.std.specs.Prelude.{◌≡◌, Bool, List, [], ◌++◌, map, All, Option}
 use Rattle.std.specs.List.{AllZip}
 use Rattle.jh_edn.specs.Edn.{Edn}
 use Rattle.jh_edn.specs.View.{view}
@@ -54,8 +54,8 @@ is_shown_before a b = stands_before (key_and_found a) (key_and_found b)
 -- The section is that of a one.
 abbrev pub IsSectionOfShown : Choice → ShownKey → Section → Type 0
 IsSectionOfShown choice one section =
-    IsSectionOf (heading_of (key_and_found one))
-    (operations one.history.items) one.found choice section
+    IsSectionOf (heading_of (key_and_found one)) (operations one.history.items) [] one.found choice
+    section
 
 -- Some of the shown have their sections, and these are left.
 pub record AreMade (choice : Choice) (shown left : List ShownKey)

@@ -16,7 +16,7 @@ use Rattle.jh_linear.specs.declared.verdict.LinVerdict.{LinVerdict}
 use Rattle.jh_linear.specs.declared.verdict.LinVerdict.TheVariants.{Valid, Invalid, Unknown}
 use Rattle.jh_ops.specs.Operation.{Operation, operation}
 use Rattle.jh_ops.specs.declared.operation.Process.{Process}
-use Rattle.jh_timeline_pages.specs.Labels.{answered_text}
+use Rattle.jh_bands.specs.Words.{answered_text}
 use Rattle.jh_timeline_sections.specs.KeySections.{rank_of_verdict}
 use Rattle.jh_txn_findings.specs.declared.finding.TxnFinding.{TxnFinding}
 use Rattle.jh_txn_findings.specs.declared.finding.TxnFinding.TheVariants as txns

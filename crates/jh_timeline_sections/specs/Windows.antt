@@ -6,7 +6,7 @@ use Rattle.std.specs.Prelude.{unwrap_or}
 use Rattle.jh_timeline_sections.specs.declared.window.Choice.{Choice}
 use Rattle.jh_timeline.specs.Lanes.{call_end}
 use Rattle.jh_timeline.specs.declared.marks.Mark.{Mark}
-use Rattle.jh_timeline.specs.declared.picture.Bar.{Bar}
+use Rattle.jh_timeline.specs.declared.picture.Call.{Call}
 use Rattle.jh_timeline.specs.declared.picture.Window.{Window}
 use Rattle.jh_timeline_pages.specs.Marks.{first_pointer}
 
@@ -22,11 +22,10 @@ shown_around = 1000
 abbrev pub shown_before : ℕ
 shown_before = 500
 
--- the index at which the first bar ends that something points at
-abbrev pub focus_of : List Bar → List Mark → Option ℕ
-focus_of bars marks =
-    option_and_then (λ mark. option_map (λ bar. call_end bar.call) (slice_get bars mark.bar))
-    (first_pointer marks)
+-- the index at which the first of these calls ends that a mark points at
+abbrev pub focus_of : List Call → List Mark → Option ℕ
+focus_of calls marks =
+    option_and_then (λ mark. option_map call_end (slice_get calls mark.call)) (first_pointer marks)
 
 -- no records are chosen, and there are too many to show all
 abbrev pub is_open : Choice → ℕ → Bool

@@ -210,7 +210,7 @@ fn section_of_shown(alloc: Global, one: ShownKey, choice: Choice) -> Result<Sect
     ensures { IfOk result (IsSectionOfShown choice one) }
 {
     let heading = heading_of(alloc, &one)?;
-    section_of(alloc, heading, one.history, one.found.as_ref(), choice)
+    section_of(alloc, heading, one.history, &[], one.found.as_ref(), choice)
 }
 
 /// The sections of shown, one behind another.

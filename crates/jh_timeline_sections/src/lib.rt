@@ -3,6 +3,7 @@
 #![tactic(auto)]
 
 mod key_sections;
+mod nemesis;
 mod rest;
 mod said;
 mod section;

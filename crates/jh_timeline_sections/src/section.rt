@@ -1,110 +1,96 @@
 //! The section of a history in a page. `specs/Sections.antt` has the rule.
 
-ghost use Rattle.std.specs.Prelude.{◌≡◌, ℕ, IfOk, Option, length};
+ghost use Rattle.std.specs.Prelude.{◌≡◌, IfOk, map};
 ghost use Rattle.std.specs.Option.{option_copied};
+ghost use Rattle.jh_edn.specs.View.{views};
 ghost use Rattle.jh_ops.specs.Operation.{operations};
 ghost use Rattle.jh_timeline_sections.specs.Sections as rule;
-ghost use Rattle.jh_timeline_sections.specs.Windows as windows;
-ghost use Rattle.jh_timeline_sections.specs.Sections.{IsFocus, IsSectionOf, IsWindowOf};
+ghost use Rattle.jh_timeline_sections.specs.Sections.{IsSectionOf};
+ghost use Rattle.jh_timeline_sections.specs.Windows.{focus_of, window_of};
 
+use crate::nemesis::{bands_shown, lines_shown};
 use crate::window::{Choice, around, chosen, focus_of, is_open};
 use jh_checkers::Finding;
+use jh_edn::Value;
 use jh_ops::Op;
-use jh_timeline::{Bar, Mark, Window, picture_in};
+use jh_timeline::{Bar, Call, Mark, Window, calls_of, picture_in};
 use jh_timeline_marks::marks_of;
 use jh_timeline_pages::Section;
 use std::alloc::{AllocError, Global};
 
-/// The marks of what is found, and none where nothing was judged.
+/// The marks at calls of what is found, and none where nothing was judged.
 fn marks_in(
     alloc: Global,
     history: &[Op],
     found: Option<&Finding>,
-    bars: &[Bar],
+    calls: &[Call],
 ) -> Result<Vec<Mark>, AllocError>
     ensures { IfOk result (λ marks.
-        marks.items ≡ rule.marks_in (operations history.now) (option_copied found.entry) bars.now) }
+        marks.items ≡ rule.marks_in (operations history.now) (option_copied found.entry) calls.now) }
 {
     match found {
-        Some(found) => marks_of(alloc, history, found, bars),
+        Some(found) => marks_of(alloc, history, found, calls),
         None => Ok(Vec::new(alloc)),
     }
 }
 
-/// The index at which the first bar of a history ends that what is found points at.
-fn focus_in(alloc: Global, history: &[Op], found: &Finding) -> Result<Option<usize>, AllocError>
-    ensures { IfOk result (IsFocus (operations history.now) (Some found.now)) }
+/// The calls of bars.
+fn calls_of_bars(alloc: Global, bars: &[Bar]) -> Result<Vec<Call>, AllocError>
+    ensures { IfOk result (λ calls. calls.items ≡ map (λ bar. bar.call) bars.now) }
 {
-    let whole = Window {
-        from: 0,
-        to: history.len(),
-    };
-    let picture = picture_in(alloc, whole, history)?;
-    let marks = marks_of(alloc, history, found, &picture.bars)?;
-    Ok(focus_of(&picture.bars, &marks))
+    bars.iter().map(|bar| bar.call).collect(alloc)
 }
 
-/// The records around what is pointed at, where something was judged.
-fn window_around(
-    alloc: Global,
-    history: &[Op],
-    found: Option<&Finding>,
-) -> Result<Window, AllocError>
-    ensures { IfOk result (λ window. (focus : Option ℕ)
-        × IsFocus (operations history.now) (option_copied found.entry) focus
-        × (window ≡ windows.focus_window focus (length history.now))) }
+/// The records that are shown of so many, where these marks stand at the calls of the history.
+fn window_in(choice: Choice, total: usize, calls: &[Call], marks: &[Mark]) -> Window
+    ensures { result ≡ window_of choice total (focus_of calls.now marks.now) }
 {
-    let focus = match found {
-        Some(found) => focus_in(alloc, history, found)?,
-        None => None,
-    };
-    Ok(around(focus, history.len()))
-}
-
-/// The records that are shown.
-fn window_in(
-    alloc: Global,
-    history: &[Op],
-    found: Option<&Finding>,
-    choice: Choice,
-) -> Result<Window, AllocError>
-    ensures { IfOk result (IsWindowOf choice (operations history.now) (option_copied found.entry)) }
-{
-    if is_open(choice, history.len()) {
-        window_around(alloc, history, found)
+    if is_open(choice, total) {
+        around(focus_of(calls, marks), total)
     } else {
-        Ok(chosen(choice, history.len()))
+        chosen(choice, total)
     }
 }
 
 /// The section of a history, with what was found in it. The records that are chosen are shown.
 /// Where none are chosen, all are, up to 2,000; of more, 1,000 around the index at which the first
-/// bar ends that is marked with anything but a place in an order and that it is pending; where none
+/// call ends that is marked with anything but a place in an order and that it is pending; where none
 /// is so marked, the first 1,000.
 ///
-/// Takes O(n log n) for n records: one picture of what is shown, and one of all where it has to be
-/// found what to show.
+/// The steps are those of the schedule of what recorded the history, and none where they are not
+/// known: `jh_bands` says which records of the nemesis need them.
+///
+/// Takes O(n log n) for n records of which few are of the nemesis, and for those what `bands_of` and
+/// `lines_of` take.
 ///
 /// Errors: where memory runs out.
 pub fn section_of(
     alloc: Global,
     heading: Vec<u8>,
     history: Vec<Op>,
+    steps: &[Value],
     found: Option<&Finding>,
     choice: Choice,
 ) -> Result<Section, AllocError>
-    ensures section { IfOk result
-        (IsSectionOf heading.items (operations history.items) (option_copied found.entry) choice) }
+    ensures section { IfOk result (IsSectionOf heading.items (operations history.items)
+        (views steps.now) (option_copied found.entry) choice) }
     ensures kept { IfOk result (λ section. section.history ≡ history) }
 {
-    let window = window_in(alloc, &history, found, choice)?;
-    let picture = picture_in(alloc, window, &history)?;
-    let marks = marks_in(alloc, &history, found, &picture.bars)?;
+    let calls = calls_of(alloc, &history)?;
+    let all_marks = marks_in(alloc, &history, found, &calls)?;
+    let window = window_in(choice, history.len(), &calls, &all_marks);
+    let picture = picture_in(alloc, window, &history, &all_marks)?;
+    let bands = bands_shown(alloc, window, steps, &history)?;
+    let lines = lines_shown(alloc, window, steps, &history)?;
+    let drawn = calls_of_bars(alloc, &picture.bars)?;
+    let marks = marks_in(alloc, &history, found, &drawn)?;
     Ok(Section {
         heading,
         history,
         window,
         picture,
+        bands,
+        lines,
         marks,
     })
 }

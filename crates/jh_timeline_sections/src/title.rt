@@ -11,12 +11,12 @@ ghost use Rattle.jh_timeline_sections.specs.KeySections as sections;
 ghost use Rattle.jh_timeline_sections.specs.Titles as rule;
 
 use crate::key_sections::rank_of_verdict;
+use jh_bands::answered_text;
 use jh_check::{SetFound, Verdict};
 use jh_checkers::{Explanation, Finding};
 use jh_independent::KeyFinding;
 use jh_linear::{LinVerdict, Stuck};
 use jh_ops::{Op, Process};
-use jh_timeline_pages::call_text;
 use jh_txn_findings::TxnFinding;
 use std::alloc::{AllocError, Global};
 
@@ -125,7 +125,7 @@ fn stuck_text(alloc: Global, end: usize, completion: &Op) -> Result<Vec<u8>, All
         (λ text. text.items ≡ rule.stuck_text end (operation completion.now)) }
 {
     let process = process_text(alloc, completion.process)?;
-    let said = call_text(alloc, &completion.f, &completion.value)?;
+    let said = answered_text(alloc, &completion.f, &completion.value)?;
     let mut text = format!(in alloc; ", stuck at index {end} ({process}: ")?.into_bytes();
     text.extend_from_slice(&said)?;
     text.push(b')')?;

@@ -4,7 +4,7 @@ ghost use Rattle.std.specs.Prelude.{◌≡◌, option_map, slice_get};
 ghost use Rattle.jh_timeline_sections.specs.Windows as rule;
 ghost use Rattle.jh_timeline.specs.Lanes as lanes;
 
-use jh_timeline::{Bar, Call, Mark, Window};
+use jh_timeline::{Call, Mark, Window};
 use jh_timeline_pages::first_pointer;
 
 /// How many records are shown where none are chosen, and all of them.
@@ -55,25 +55,25 @@ pub(crate) fn around(focus: Option<usize>, total: usize) -> Window
 fn ends_at(call: Call) -> usize
     ensures { result ≡ lanes.call_end call }
 {
-    call.completion.unwrap_or(call.invoke)
+    call.completion.unwrap_or(call.first)
 }
 
-/// The index at which a bar ends, if there is one.
-fn end_at(bars: &[Bar], number: usize) -> Option<usize>
-    ensures { result ≡ option_map (λ bar. lanes.call_end bar.call) (slice_get bars.now number) }
+/// The index at which the call of a number ends, if there is one.
+fn end_at(calls: &[Call], number: usize) -> Option<usize>
+    ensures { result ≡ option_map lanes.call_end (slice_get calls.now number) }
 {
-    match bars.get(number) {
-        Some(bar) => Some(ends_at(bar.call)),
+    match calls.get(number) {
+        Some(call) => Some(ends_at(*call)),
         None => None,
     }
 }
 
-/// The index at which the first bar ends that something points at.
-pub(crate) fn focus_of(bars: &[Bar], marks: &[Mark]) -> Option<usize>
-    ensures { result ≡ rule.focus_of bars.now marks.now }
+/// The index at which the first of these calls ends that a mark points at.
+pub(crate) fn focus_of(calls: &[Call], marks: &[Mark]) -> Option<usize>
+    ensures { result ≡ rule.focus_of calls.now marks.now }
 {
     match first_pointer(marks) {
-        Some(mark) => end_at(bars, mark.bar),
+        Some(mark) => end_at(calls, mark.call),
         None => None,
     }
 }
