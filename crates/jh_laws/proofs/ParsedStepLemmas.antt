@@ -20,7 +20,7 @@ use Rattle.jh_tables.specs.declared.faults.NodeFault.{NodeFault}
 use Rattle.jh_env.proofs.FaultLemmas.{kept_apart, kept_all, none_apart}
 use Rattle.jh_env.specs.TextErrors.{place_of}
 use Rattle.jh_env.specs.Naming.{link_names, node_name, bump_spelled, known_pair, ends_of, named_node, bump_of, are_bumps}
-use Rattle.jh_step_texts.specs.FaultText.{FaultSpelling, Links, Nodes, Bumps, SplitOne, Grudge, IsRingOverAll, result_or_refusal, links_in, nodes_in, bumps_in, amount_within, slow_kind, loss_kind, fix_kind, named_fault, shuffled_ring, plain_fault, measured_fault, spelling_in, parsed_links, parsed_nodes, parsed_bumps, cut_of, parsed_split, parsed_named, parsed_fault, fault_spelling}
+use Rattle.jh_step_texts.specs.FaultText.{FaultSpelling, Links, Nodes, Bumps, SplitOne, Grudge, IsRingOverAll, result_or_refusal, links_in, nodes_in, bumps_in, amount_within, slow_kind, loss_kind, fix_kind, spelled_by_keyword, spelled_ring, plain_fault, measured_fault, spelling_in, parsed_links, parsed_nodes, parsed_bumps, cut_of, parsed_split, parsed_named, parsed_fault, fault_spelling}
 use Rattle.jh_step_texts.specs.SpellingInside.{IsRightSpelling}
 use Rattle.jh_step_texts.specs.NamedFaults.{AreLinksAmong, links_that, crosses, crosses_halves, crosses_bridge, touches, leaves_majority, is_at, is_option_of, ring_links, seeded_order}
 use Rattle.jh_step_texts.specs.StepText.{id_of, begin_of_fault, parsed_begin, parsed_withdraw, parsed_keyword, step_of_elements, parsed_step, fault_of_begin}
@@ -258,11 +258,11 @@ if_made : {A : Type 0} (o : Option A) (spelling : A → FaultSpelling) → ((x :
 if_made None spelling each = tt
 if_made (Some x) spelling each = each x
 
-ring_right : (v : Edn) → IfSome (shuffled_ring v) IsRightSpelling
+ring_right : (v : Edn) → IfSome (spelled_ring v) IsRightSpelling
 ring_right (int seed) = tt
 ring_right v = tt
 
-named_right : (name : List ℕ) → IfSome (named_fault name) IsRightSpelling
+named_right : (name : List ℕ) → IfSome (spelled_by_keyword name) IsRightSpelling
 named_right name =
     if_either (bytes_eq name (codes "halves")) _ _ tt
     (if_either (bytes_eq name (codes "bridge")) _ _ tt (if_either (bytes_eq name (codes "ring")) _ _ tt tt))
