@@ -18,7 +18,7 @@ use Rattle.jh_lines.specs.declared.ending.Ending.{Ending}
 use Rattle.jh_lines.specs.declared.ending.Ending.TheVariants as Endings
 use Rattle.jh_ops.specs.Operation.{Operation}
 use Rattle.jh_reports.specs.Judged.{IsTextBy, RefusesLine}
-use Rattle.jh_reports.specs.Reports.{IsTestReport}
+use Rattle.jh_reports.specs.Reports.{IsReport}
 use Rattle.jh_test_parts.specs.Test.{TestValue}
 use Rattle.jh_test_parts.specs.declared.complaints.Complaint.{Complaint}
 use Rattle.jh_drive_settings.specs.Settings.{AreDriveSettingsOf, RefusesDriveSettings}
@@ -48,7 +48,7 @@ pub record IsReportOf (judging : Judging) (c : ConversationValue) (status : ℕ)
   pub last_line : List ℕ
   pub judged : IsTextBy (is_some c.test.keys) judging (recorded_history c.test c.machine) status last_line
   pub text : List ℕ
-  pub is_report : IsTestReport c.machine.nemesis (recorded_history c.test c.machine) last_line text
+  pub is_report : IsReport c.machine.nemesis (recorded_history c.test c.machine) last_line text
   pub written : report ≡ end_if_missing c ++ text
 
 -- why a history is not judged, as one or by keys

@@ -7,6 +7,7 @@ ghost use Rattle.jh_drive.specs.declared.error.DriveError.TheVariants.{OutOfMemo
 
 use jh_check::CheckError;
 use jh_independent::KeysError;
+use jh_reports::{FAILED, REFUSED};
 use jh_settings::SettingsError;
 use jh_test_parts::Complaint;
 use std::alloc::AllocError;
@@ -27,7 +28,7 @@ pub enum DriveError {
     RepliesEnded,
     /// The input could not be read on.
     Read,
-    /// 2^64 - 1 times something was heard.
+    /// The conversation took 2^64 - 1 turns, more than can be counted.
     TooLong,
     /// The history can't be judged.
     Mismatch,
@@ -43,14 +44,14 @@ impl DriveError {
         ensures { result ≡ drive_status self.now }
     {
         match self {
-            DriveError::Settings(_) | DriveError::Reply { .. } => 3,
+            DriveError::Settings(_) | DriveError::Reply { .. } => REFUSED,
             DriveError::SettingsRead
             | DriveError::RepliesEnded
             | DriveError::Read
             | DriveError::TooLong
             | DriveError::Mismatch
             | DriveError::Write
-            | DriveError::OutOfMemory => 4,
+            | DriveError::OutOfMemory => FAILED,
         }
     }
 }

@@ -16,8 +16,8 @@ output_lines history = flat_map (λ op. line (print (value_written op))) history
 
 -- A line for each operation of a history, a line with the ids of the active faults of a state, one
 -- with the environment that they make, and behind them the last line, which says what was found.
-abbrev pub IsTestReport : State → List Operation → (last_line output : List ℕ) → Type 0
-IsTestReport state history last_line output =
+abbrev pub IsReport : State → List Operation → (last_line output : List ℕ) → Type 0
+IsReport state history last_line output =
     (env : EnvValue) × IsEnvOf state env
     × (output ≡ output_lines history
     ++ (active_line state.active ++ (environment_line env ++ last_line)))

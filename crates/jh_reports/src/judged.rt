@@ -10,7 +10,7 @@ ghost use Rattle.jh_reports.specs.Lines.{line};
 ghost use Rattle.jh_reports.specs.Reports.{verdict_status};
 
 use crate::lines::{finding_text, keys_text};
-use crate::reports::status_of;
+use crate::statuses::status_of;
 use jh_check::CheckError;
 use jh_checkers::{Finding, Judging, check_history};
 use jh_independent::{KeyFinding, verdict_of_all};

@@ -5,7 +5,9 @@
 mod judged;
 mod lines;
 mod reports;
+mod statuses;
 
 pub use judged::{Output, judge_whole, output_of_finding, output_of_keys};
 pub use lines::{finding_text, keys_text, write_active, write_environment, write_line};
-pub use reports::{status_of, write_report};
+pub use reports::write_report;
+pub use statuses::{DONE, FAILED, INVALID, REFUSED, UNKNOWN, status_of};

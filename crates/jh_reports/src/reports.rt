@@ -5,24 +5,12 @@ ghost use Rattle.jh_edn.specs.Print.{print};
 ghost use Rattle.jh_ops.specs.Operation.{operation, operations};
 ghost use Rattle.jh_ops.specs.OperationWritten.{value_written};
 ghost use Rattle.jh_reports.specs.Lines.{line};
-ghost use Rattle.jh_reports.specs.Reports.{IsTestReport, output_lines, verdict_status};
+ghost use Rattle.jh_reports.specs.Reports.{IsReport, output_lines};
 
 use crate::lines::{write_active, write_environment};
-use jh_check::Verdict;
 use jh_nemesis::Nemesis;
 use jh_ops::{Op, write_operation};
 use std::alloc::{AllocError, Global};
-
-/// The exit status of a verdict.
-pub fn status_of(verdict: Verdict) -> u8
-    ensures { result ≡ verdict_status verdict }
-{
-    match verdict {
-        Verdict::True => 0,
-        Verdict::False => 1,
-        Verdict::Unknown => 2,
-    }
-}
 
 /// Adds what is written of a history, of the faults that are active now and what they make, and
 /// behind it a last line, which says what was found.
@@ -36,7 +24,7 @@ pub fn write_report(
     output: &mut Vec<u8>,
 ) -> Result<(), AllocError>
     ensures { OnOk result ((report : List ℕ)
-        × IsTestReport nemesis.now.state (operations history.now) last_line.now report
+        × IsReport nemesis.now.state (operations history.now) last_line.now report
         × (output.new.items ≡ output.old.items ++ report)) }
 {
     write_history(history, output)?;
