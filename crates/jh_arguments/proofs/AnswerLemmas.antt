@@ -16,19 +16,28 @@ use Rattle.jh_drive.specs.Drive.{IsDriven}
 use Rattle.jh_drive.specs.declared.error.DriveError.{DriveError}
 use Rattle.jh_drive.specs.declared.error.DriveError.TheVariants.{Settings}
 use Rattle.jh_settings.specs.declared.error.SettingsError.{SettingsError}
-use Rattle.jh_arguments.specs.Answers.{AskFor, AskForTest, IsConductedTo, IsCommandDone, IsFailed, IsFileUnread, IsOfOptions, IsUnfinished, RefusesOptions, of_command, of_test}
-use Rattle.jh_arguments.specs.Commands.{AsksDrive, AsksFor, IsOutputOf, RefusesCommand}
+use Rattle.jh_edn.specs.Edn.{Edn}
+use Rattle.jh_arguments.specs.Answers.{ArgumentsAskForTest, ArgumentsGive, GivesSteps, HasNoSteps, IsUnscheduled, IsConductedTo, IsCommandDone, IsFailed, IsFileUnread, IsOfOptions, IsUnfinished, RefusesOptions, of_command, of_test}
+use Rattle.jh_arguments.specs.Commands.{SubcommandHasSchedule, SubcommandIsDrive, SubcommandIs, IsOutputOf, RefusesCommand}
 use Rattle.jh_arguments.specs.Line.{AreMatches, IsRefused}
 use Rattle.jh_arguments.specs.declared.answers.Refusal.{Refusal}
 use Rattle.jh_arguments.specs.declared.answers.Refusal.TheVariants as Refusals
 use Rattle.jh_arguments.specs.declared.commands.Command.{Command}
 use Rattle.jh_arguments.specs.declared.commands.Command.TheVariants.{Check, Search, Timeline}
 
-pub asked_by : (arguments : List Text) (matches : ArgMatches) (command : Command) → AreMatches arguments matches → AsksFor (subcommand_rows_of matches) command → AskFor arguments command
-asked_by arguments matches command (app, line, fault, rows, found) asks = (app, line, fault, subst (λ o. AsksFor o command) found asks)
+pub asked_by : (arguments : List Text) (matches : ArgMatches) (command : Command) (steps : List Edn) → AreMatches arguments matches → SubcommandIs (subcommand_rows_of matches) command
+    → GivesSteps (subcommand_rows_of matches) steps → ArgumentsGive arguments command steps
+asked_by arguments matches command steps (app, line, fault, rows, found) asks gives =
+    (app, line, fault, subst (λ o. SubcommandIs o command) found asks, subst (λ o. GivesSteps o steps) found gives)
 
-pub asked_test_by : (arguments : List Text) (matches : ArgMatches) (path : Text) → AreMatches arguments matches → AsksDrive (subcommand_rows_of matches) path → AskForTest arguments path
-asked_test_by arguments matches path (app, line, fault, rows, found) asks = (app, line, fault, subst (λ o. AsksDrive o path) found asks)
+-- no steps can be had
+pub without_steps : (arguments : List Text) (matches : ArgMatches) (e : CliError) → AreMatches arguments matches → (path : Text) × SubcommandHasSchedule (subcommand_rows_of matches) path → IsUnscheduled e
+    → HasNoSteps arguments e
+without_steps arguments matches e (app, line, fault, rows, found) (path, has) why =
+    record { app = app; line = line; taken = fault; path = path; asked = subst (λ o. SubcommandHasSchedule o path) found has; why = why }
+
+pub asked_test_by : (arguments : List Text) (matches : ArgMatches) (path : Text) → AreMatches arguments matches → SubcommandIsDrive (subcommand_rows_of matches) path → ArgumentsAskForTest arguments path
+asked_test_by arguments matches path (app, line, fault, rows, found) asks = (app, line, fault, subst (λ o. SubcommandIsDrive o path) found asks)
 
 -- what `run` says of the options of a command
 pub record SaysOfOptions {R : Type 0} (command : Command) (r : Result ℕ CliError) (old new : R) : Type 0 where
@@ -73,10 +82,11 @@ options_taken command status old new says refusal refuses =
     let bad : Ok status ≡ Err refusal = refused_so command (Ok status) old new says refusal refuses in
     cc
 
-pub ended_so : {R : Type 0} (arguments : List Text) (command : Command) (input : Option (List ℕ)) (old new : R) (e : CliError) → AskFor arguments command
-    → SaysOfOptions command (Err e) old new → OnInput input (λ bytes. RefusesCommand command bytes e) → IsFailed arguments input old new e
-ended_so arguments command input old new e asked says refused = record {
+pub ended_so : {R : Type 0} (arguments : List Text) (command : Command) (input : Option (List ℕ)) (old new : R) (e : CliError) (steps : List Edn) → ArgumentsGive arguments command steps
+    → SaysOfOptions command (Err e) old new → OnInput input (λ bytes. RefusesCommand command steps bytes e) → IsFailed arguments input old new e
+ended_so arguments command input old new e steps asked says refused = record {
   command = command;
+  steps = steps;
   asked = asked;
   options = λ refusal refuses. the_same e refusal (refused_so command (Err e) old new says refusal refuses);
   of_options = of_options command (Err e) old new says e refl;
@@ -93,6 +103,9 @@ pub record Ends {R W : Type 0} (arguments : List Text) (input rest before after 
   pub unwritten : (error : Error) → IsErrOf r (Refusals.Arguments error) → writer_new ≡ writer_old
   pub failed : (error : CliError) → IsErrOf r (Refusals.Command error) → IsFailed arguments input reader_old reader_new error
   pub failed_unwritten : (error : CliError) → IsErrOf r (Refusals.Command error) → error ≢ Write → writer_new ≡ writer_old
+  pub unscheduled : (error : CliError) → IsErrOf r (Refusals.Schedule error) → HasNoSteps arguments error
+  pub unscheduled_unread : (error : CliError) → IsErrOf r (Refusals.Schedule error) → reader_new ≡ reader_old
+  pub unscheduled_unwritten : (error : CliError) → IsErrOf r (Refusals.Schedule error) → writer_new ≡ writer_old
   pub unfinished : (error : DriveError) → IsErrOf r (Refusals.Test error)
       → IsUnfinished arguments input rest before after reader_old reader_new writer_old writer_new error
 
@@ -102,6 +115,9 @@ the_arguments x y e = cc
 
 the_command : (x y : CliError) → ◌≡◌ {A = Result ℕ Refusal} (Err (Refusals.Command x)) (Err (Refusals.Command y)) → x ≡ y
 the_command x y e = cc
+
+the_schedule : (x y : CliError) → ◌≡◌ {A = Result ℕ Refusal} (Err (Refusals.Schedule x)) (Err (Refusals.Schedule y)) → x ≡ y
+the_schedule x y e = cc
 
 the_test : (x y : DriveError) → ◌≡◌ {A = Result ℕ Refusal} (Err (Refusals.Test x)) (Err (Refusals.Test y)) → x ≡ y
 the_test x y e = cc
@@ -115,35 +131,59 @@ module _ {R W : Type 0} (arguments : List Text) (input rest before after : Optio
     unwritten = λ other is. unwritten;
     failed = λ other is. absurd (let bad : Err (Refusals.Arguments error) ≡ Err (Refusals.Command other) = is in cc);
     failed_unwritten = λ other is. absurd (let bad : Err (Refusals.Arguments error) ≡ Err (Refusals.Command other) = is in cc);
+    unscheduled = λ other is. absurd (let bad : Err (Refusals.Arguments error) ≡ Err (Refusals.Schedule other) = is in cc);
+    unscheduled_unread = λ other is. absurd (let bad : Err (Refusals.Arguments error) ≡ Err (Refusals.Schedule other) = is in cc);
+    unscheduled_unwritten = λ other is. absurd (let bad : Err (Refusals.Arguments error) ≡ Err (Refusals.Schedule other) = is in cc);
     unfinished = λ other is. absurd (let bad : Err (Refusals.Arguments error) ≡ Err (Refusals.Test other) = is in cc);
   }
 
+  -- the steps of a page can't be had
+  pub unscheduled_ends : (error : CliError) → HasNoSteps arguments error → rn ≡ ro → wn ≡ wo → Ends arguments input rest before after ro rn wo wn (Err (Refusals.Schedule error))
+  unscheduled_ends error none unread unwritten = record {
+    done = tt;
+    refused = λ other is. absurd (let bad : Err (Refusals.Schedule error) ≡ Err (Refusals.Arguments other) = is in cc);
+    unread = λ other is. absurd (let bad : Err (Refusals.Schedule error) ≡ Err (Refusals.Arguments other) = is in cc);
+    unwritten = λ other is. absurd (let bad : Err (Refusals.Schedule error) ≡ Err (Refusals.Arguments other) = is in cc);
+    failed = λ other is. absurd (let bad : Err (Refusals.Schedule error) ≡ Err (Refusals.Command other) = is in cc);
+    failed_unwritten = λ other is. absurd (let bad : Err (Refusals.Schedule error) ≡ Err (Refusals.Command other) = is in cc);
+    unscheduled = λ other is. subst (HasNoSteps arguments) (the_schedule error other is) none;
+    unscheduled_unread = λ other is. unread;
+    unscheduled_unwritten = λ other is. unwritten;
+    unfinished = λ other is. absurd (let bad : Err (Refusals.Schedule error) ≡ Err (Refusals.Test other) = is in cc);
+  }
+
   -- what a command that is asked for comes to
-  pub command_ends : (command : Command) (r : Result ℕ CliError) → AskFor arguments command → SaysOfOptions command r ro rn
-      → IfOk r (λ status. WritesOutput input (IsOutputOf command) status before after)
-      → IfErr r (λ e. OnInput input (λ bytes. RefusesCommand command bytes e)) → IfErr r (λ e. e ≢ Write → wn ≡ wo)
+  pub command_ends : (command : Command) (steps : List Edn) (r : Result ℕ CliError) → ArgumentsGive arguments command steps → SaysOfOptions command r ro rn
+      → IfOk r (λ status. WritesOutput input (IsOutputOf command steps) status before after)
+      → IfErr r (λ e. OnInput input (λ bytes. RefusesCommand command steps bytes e)) → IfErr r (λ e. e ≢ Write → wn ≡ wo)
       → Ends arguments input rest before after ro rn wo wn (of_command r)
-  command_ends command (Ok status) asked says written refused unwritten = record {
-    done = inl (record { command = command; asked = asked; options = options_taken command status ro rn says; written = written });
+  command_ends command steps (Ok status) asked says written refused unwritten = record {
+    done = inl (record { command = command; steps = steps; asked = asked; options = options_taken command status ro rn says; written = written });
     refused = λ other is. absurd (let bad : Ok status ≡ Err (Refusals.Arguments other) = is in cc);
     unread = λ other is. absurd (let bad : Ok status ≡ Err (Refusals.Arguments other) = is in cc);
     unwritten = λ other is. absurd (let bad : Ok status ≡ Err (Refusals.Arguments other) = is in cc);
     failed = λ other is. absurd (let bad : Ok status ≡ Err (Refusals.Command other) = is in cc);
     failed_unwritten = λ other is. absurd (let bad : Ok status ≡ Err (Refusals.Command other) = is in cc);
+    unscheduled = λ other is. absurd (let bad : Ok status ≡ Err (Refusals.Schedule other) = is in cc);
+    unscheduled_unread = λ other is. absurd (let bad : Ok status ≡ Err (Refusals.Schedule other) = is in cc);
+    unscheduled_unwritten = λ other is. absurd (let bad : Ok status ≡ Err (Refusals.Schedule other) = is in cc);
     unfinished = λ other is. absurd (let bad : Ok status ≡ Err (Refusals.Test other) = is in cc);
   }
-  command_ends command (Err error) asked says written refused unwritten = record {
+  command_ends command steps (Err error) asked says written refused unwritten = record {
     done = tt;
     refused = λ other is. absurd (let bad : Err (Refusals.Command error) ≡ Err (Refusals.Arguments other) = is in cc);
     unread = λ other is. absurd (let bad : Err (Refusals.Command error) ≡ Err (Refusals.Arguments other) = is in cc);
     unwritten = λ other is. absurd (let bad : Err (Refusals.Command error) ≡ Err (Refusals.Arguments other) = is in cc);
-    failed = λ other is. subst (IsFailed arguments input ro rn) (the_command error other is) (ended_so arguments command input ro rn error asked says refused);
+    failed = λ other is. subst (IsFailed arguments input ro rn) (the_command error other is) (ended_so arguments command input ro rn error steps asked says refused);
     failed_unwritten = λ other is differs. unwritten (λ same. differs (sym (the_command error other is) ∙ same));
+    unscheduled = λ other is. absurd (let bad : Err (Refusals.Command error) ≡ Err (Refusals.Schedule other) = is in cc);
+    unscheduled_unread = λ other is. absurd (let bad : Err (Refusals.Command error) ≡ Err (Refusals.Schedule other) = is in cc);
+    unscheduled_unwritten = λ other is. absurd (let bad : Err (Refusals.Command error) ≡ Err (Refusals.Schedule other) = is in cc);
     unfinished = λ other is. absurd (let bad : Err (Refusals.Command error) ≡ Err (Refusals.Test other) = is in cc);
   }
 
   -- what a test that is asked for comes to
-  pub test_ends : (path : Text) (r : Result ℕ DriveError) → AskForTest arguments path
+  pub test_ends : (path : Text) (r : Result ℕ DriveError) → ArgumentsAskForTest arguments path
       → (IsErrAnd r IsFileUnread × (rn ≡ ro) × (wn ≡ wo)) ⊎ ((settings : List ℕ) × IsDriven settings input rest before after r)
       → ((error : SettingsError) → IsErrOf r (Settings error) → (rn ≡ ro) × (wn ≡ wo))
       → Ends arguments input rest before after ro rn wo wn (of_test r)
@@ -154,6 +194,9 @@ module _ {R W : Type 0} (arguments : List Text) (input rest before after : Optio
     unwritten = λ other is. absurd (let bad : Ok status ≡ Err (Refusals.Arguments other) = is in cc);
     failed = λ other is. absurd (let bad : Ok status ≡ Err (Refusals.Command other) = is in cc);
     failed_unwritten = λ other is. absurd (let bad : Ok status ≡ Err (Refusals.Command other) = is in cc);
+    unscheduled = λ other is. absurd (let bad : Ok status ≡ Err (Refusals.Schedule other) = is in cc);
+    unscheduled_unread = λ other is. absurd (let bad : Ok status ≡ Err (Refusals.Schedule other) = is in cc);
+    unscheduled_unwritten = λ other is. absurd (let bad : Ok status ≡ Err (Refusals.Schedule other) = is in cc);
     unfinished = λ other is. absurd (let bad : Ok status ≡ Err (Refusals.Test other) = is in cc);
   }
     where
@@ -167,6 +210,9 @@ module _ {R W : Type 0} (arguments : List Text) (input rest before after : Optio
     unwritten = λ other is. absurd (let bad : Err (Refusals.Test error) ≡ Err (Refusals.Arguments other) = is in cc);
     failed = λ other is. absurd (let bad : Err (Refusals.Test error) ≡ Err (Refusals.Command other) = is in cc);
     failed_unwritten = λ other is. absurd (let bad : Err (Refusals.Test error) ≡ Err (Refusals.Command other) = is in cc);
+    unscheduled = λ other is. absurd (let bad : Err (Refusals.Test error) ≡ Err (Refusals.Schedule other) = is in cc);
+    unscheduled_unread = λ other is. absurd (let bad : Err (Refusals.Test error) ≡ Err (Refusals.Schedule other) = is in cc);
+    unscheduled_unwritten = λ other is. absurd (let bad : Err (Refusals.Test error) ≡ Err (Refusals.Schedule other) = is in cc);
     unfinished = λ other is. subst (IsUnfinished arguments input rest before after ro rn wo wn) (the_test error other is)
         (record { path = path; asked = asked; why = ended; unread = λ settings is_so. unread settings (ap Err is_so) });
   }

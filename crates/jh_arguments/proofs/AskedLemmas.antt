@@ -19,14 +19,14 @@ use Rattle.jh_arguments.proofs.PassedRows.{Each, IsOwn}
 use Rattle.jh_arguments.proofs.PassedLevel.{HoldsOf, level_holds}
 use Rattle.jh_arguments.proofs.PassedTexts.{HasNoText, HasText, needed_gives, option_gives, read_of}
 use Rattle.jh_arguments.proofs.PassedCommand.{Leads, entered_leads}
-use Rattle.jh_arguments.specs.Answers.{AskFor, AskForTest}
+use Rattle.jh_arguments.specs.Answers.{ArgumentsAskFor, ArgumentsAskForTest}
 use Rattle.jh_arguments.proofs.OnceLemmas.{Once, asked_once, flag_once, named, no_drive}
 use Rattle.jh_arguments.proofs.SameWalk.{subcommand_same}
 use Rattle.jh_checkers.specs.Checkers.{checker_name, checker_names}
 use Rattle.jh_checkers.specs.Models.{model_named}
 use Rattle.jh_arguments.specs.Palettes.{palette_named}
 use Rattle.jh_arguments.specs.Line.{IsCommandLine, check, drive, jeprun, search, shrink, timeline}
-use Rattle.jh_arguments.specs.Commands.{AsksForAny, AsksCheck, AsksDrive, AsksFor, AsksSearch, AsksTimeline, IsFlag, IsGivenWithin, IsIndex, IsInitial, IsJudging, IsJudgingBy, IsNumberWithin, IsShow}
+use Rattle.jh_arguments.specs.Commands.{SubcommandIsAny, AsksCheck, SubcommandIsDrive, SubcommandIs, AsksSearch, AsksTimeline, IsFlag, IsGivenWithin, IsIndex, IsInitial, IsJudging, IsJudgingBy, IsNumberWithin, IsShow}
 use Rattle.jh_arguments.specs.Limits.{max_candidates, max_spread_ms}
 use Rattle.jh_checkers.specs.declared.checker.Checker.{Checker}
 use Rattle.jh_checkers.specs.declared.checker.Checker.TheVariants.{Register, Set, Counter, Ids, ListAppend}
@@ -111,16 +111,16 @@ module _ (names models : Bor (List (Bor Text))) (all : map (λ s. s.now) names.n
   abbrev leaf : App → Shape
   leaf a = built_leaf (inherited (with_leaf_noted (marked_built (jeprun names models).top)) a.top)
 
-  env_asks : Leads AsksForAny (leaf (new_app (codes "env")))
+  env_asks : Leads SubcommandIsAny (leaf (new_app (codes "env")))
   env_asks name rest named other fault = inl (Env, refl)
 
-  run_asks : Leads AsksForAny (leaf (new_app (codes "run")))
+  run_asks : Leads SubcommandIsAny (leaf (new_app (codes "run")))
   run_asks name rest named other fault = inl (Run, refl)
 
-  plot_asks : Leads AsksForAny (leaf (new_app (codes "plot")))
+  plot_asks : Leads SubcommandIsAny (leaf (new_app (codes "plot")))
   plot_asks name rest named other fault = inl (Plot, refl)
 
-  help_asks : Leads AsksForAny (built_leaf help_shape)
+  help_asks : Leads SubcommandIsAny (built_leaf help_shape)
   help_asks name rest named other fault =
       let same : codes "help" ≡ name = (bytes_eq-Decides (codes "help") name).0 (or_false (bytes_eq (codes "help") name) named) in
       absurd (true≢false (sym ((bytes_eq-Decides name (codes "help")).1 (sym same)) ∙ other))
@@ -132,7 +132,7 @@ module _ (names models : Bor (List (Bor Text))) (all : map (λ s. s.now) names.n
   shrink_rules : Each (IsOwn (leaf shrink).rules) (leaf shrink).rules
   shrink_rules = (one_valued _ _ refl refl, (request _ _ refl refl, tt))
 
-  shrink_asks : Leads AsksForAny (leaf shrink)
+  shrink_asks : Leads SubcommandIsAny (leaf shrink)
   shrink_asks name rest named other fault =
       let holds = level_holds (leaf shrink) [] rest shrink_rules fault in
       let rows = rows_after (leaf shrink).rules [] rest in
@@ -142,7 +142,7 @@ module _ (names models : Bor (List (Bor Text))) (all : map (λ s. s.now) names.n
   drive_rules : Each (IsOwn (leaf drive).rules) (leaf drive).rules
   drive_rules = (one_valued _ _ refl refl, (request _ _ refl refl, tt))
 
-  drive_asks : Leads AsksForAny (leaf drive)
+  drive_asks : Leads SubcommandIsAny (leaf drive)
   drive_asks name rest named other fault =
       let holds = level_holds (leaf drive) [] rest drive_rules fault in
       let rows = rows_after (leaf drive).rules [] rest in
@@ -177,7 +177,7 @@ module _ (names models : Bor (List (Bor Text))) (all : map (λ s. s.now) names.n
           is_within None e = let bad : Some n ≡ None = e in cc
           is_within (Some t) e = e
 
-  search_asks : Leads AsksForAny (leaf search)
+  search_asks : Leads SubcommandIsAny (leaf search)
   search_asks name rest named other fault =
       let holds = level_holds (leaf search) [] rest search_rules fault in
       let rows = rows_after (leaf search).rules [] rest in
@@ -231,7 +231,7 @@ module _ (names models : Bor (List (Bor Text))) (all : map (λ s. s.now) names.n
     ),
   )
 
-  check_asks : Leads AsksForAny (leaf (check names models))
+  check_asks : Leads SubcommandIsAny (leaf (check names models))
   check_asks name rest named other fault =
       let holds = level_holds (leaf (check names models)) [] rest check_rules fault in
       let rows = rows_after (leaf (check names models)).rules [] rest in
@@ -262,7 +262,7 @@ module _ (names models : Bor (List (Bor Text))) (all : map (λ s. s.now) names.n
         one_valued _ _ refl refl,
         (
           one_valued _ _ refl refl,
-          (flag_valued _ _ refl (omega arith), (one_valued _ _ refl refl, (one_valued _ _ refl refl, (request _ _ refl refl, tt)))),
+          (flag_valued _ _ refl (omega arith), (one_valued _ _ refl refl, (one_valued _ _ refl refl, (one_valued _ _ refl refl, (request _ _ refl refl, tt))))),
         ),
       ),
     ),
@@ -277,7 +277,7 @@ module _ (names models : Bor (List (Bor Text))) (all : map (λ s. s.now) names.n
       let by = judging_in _ rows holds refl refl true checker.0 in
       (Some by.0, (checker_name checker.0, checker.1, by.1, by.2))
 
-  timeline_asks : Leads AsksForAny (leaf (timeline names models))
+  timeline_asks : Leads SubcommandIsAny (leaf (timeline names models))
   timeline_asks name rest named other fault =
       let holds = level_holds (leaf (timeline names models)) [] rest timeline_rules fault in
       let rows = rows_after (leaf (timeline names models)).rules [] rest in
@@ -320,9 +320,9 @@ module _ (names models : Bor (List (Bor Text))) (all : map (λ s. s.now) names.n
       asked_once (codes "help", rows_after (built_leaf help_shape).rules [] rest) (λ e. absurd (other_name (codes "help") (codes "check") refl e))
       (λ e. absurd (other_name (codes "help") (codes "timeline") refl e))
 
-  line_asks : (words : List Text) → fault_of (jeprun names models) words ≡ [] → AsksForAny (subcommand_of (jeprun names models) words)
+  line_asks : (words : List Text) → fault_of (jeprun names models) words ≡ [] → SubcommandIsAny (subcommand_of (jeprun names models) words)
   line_asks words fault =
-      entered_leads AsksForAny (built (jeprun names models)) (argument_words (jeprun names models) words)
+      entered_leads SubcommandIsAny (built (jeprun names models)) (argument_words (jeprun names models) words)
       (env_asks, (check_asks, (run_asks, (shrink_asks, (search_asks, (timeline_asks, (drive_asks, (plot_asks, (help_asks, tt))))))))) refl refl fault
 
   line_once : (words : List Text) → fault_of (jeprun names models) words ≡ [] → Once (subcommand_of (jeprun names models) words)
@@ -342,8 +342,8 @@ module _ (names models : Bor (List (Bor Text))) (all : map (λ s. s.now) names.n
       ) refl refl fault
 
 -- arguments of the command line that `clap` takes ask for a command, or for a test
-pub taken_asks : (app : App) → IsCommandLine app → (words : List Text) → fault_of app words ≡ [] → AsksForAny (subcommand_of app words)
-taken_asks app line words fault = subst (λ a. AsksForAny (subcommand_of a words)) (sym line.4)
+pub taken_asks : (app : App) → IsCommandLine app → (words : List Text) → fault_of app words ≡ [] → SubcommandIsAny (subcommand_of app words)
+taken_asks app line words fault = subst (λ a. SubcommandIsAny (subcommand_of a words)) (sym line.4)
     (line_asks line.0 line.1 line.2 words (ap (λ a. fault_of a words) (sym line.4) ∙ fault))
 
 -- the command line reads alike, whichever texts its names are
@@ -357,32 +357,32 @@ line_same app other line also words =
         sym (subcommand_same (built (jeprun names models)) (argument_words (jeprun names models) words))
         ∙ subcommand_same (built (jeprun others more)) (argument_words (jeprun others more) words)
 
-test_alike : (found : Option (Text × List Row)) (p q : Text) → AsksDrive found p → AsksDrive found q → p ≡ q
+test_alike : (found : Option (Text × List Row)) (p q : Text) → SubcommandIsDrive found p → SubcommandIsDrive found q → p ≡ q
 test_alike None p q a b = absurd a
 test_alike (Some found) p q a b = let both : Some p ≡ Some q = sym a.1 ∙ b.1 in cc
 
-command_no_test : (found : Option (Text × List Row)) (c : Command) (path : Text) → AsksFor found c → AsksDrive found path → ⊥
+command_no_test : (found : Option (Text × List Row)) (c : Command) (path : Text) → SubcommandIs found c → SubcommandIsDrive found path → ⊥
 command_no_test None c path a b = b
 command_no_test (Some found) c path a b = no_drive c (sym (named found c a) ∙ b.0)
 
 -- arguments that ask for two commands ask for one
-pub asked_alike : (arguments : List Text) (c d : Command) → AskFor arguments c → AskFor arguments d → c ≡ d
+pub asked_alike : (arguments : List Text) (c d : Command) → ArgumentsAskFor arguments c → ArgumentsAskFor arguments d → c ≡ d
 asked_alike arguments c d (app, line, fault, asks) (other, also, beside, asks_too) =
     let once : Once (subcommand_of app arguments) = subst (λ a. Once (subcommand_of a arguments)) (sym line.4)
     (line_once line.0 line.1 line.2 arguments (ap (λ a. fault_of a arguments) (sym line.4) ∙ fault)) in
-    once c d asks (subst (λ found. AsksFor found d) (sym (line_same app other line also arguments)) asks_too)
+    once c d asks (subst (λ found. SubcommandIs found d) (sym (line_same app other line also arguments)) asks_too)
 
-pub asked_test_alike : (arguments : List Text) (p q : Text) → AskForTest arguments p → AskForTest arguments q → p ≡ q
+pub asked_test_alike : (arguments : List Text) (p q : Text) → ArgumentsAskForTest arguments p → ArgumentsAskForTest arguments q → p ≡ q
 asked_test_alike arguments p q (app, line, fault, asks) (other, also, beside, asks_too) =
-    test_alike (subcommand_of app arguments) p q asks (subst (λ found. AsksDrive found q) (sym (line_same app other line also arguments)) asks_too)
+    test_alike (subcommand_of app arguments) p q asks (subst (λ found. SubcommandIsDrive found q) (sym (line_same app other line also arguments)) asks_too)
 
-pub asked_apart : (arguments : List Text) (c : Command) (path : Text) → AskFor arguments c → AskForTest arguments path → ⊥
+pub asked_apart : (arguments : List Text) (c : Command) (path : Text) → ArgumentsAskFor arguments c → ArgumentsAskForTest arguments path → ⊥
 asked_apart arguments c path (app, line, fault, asks) (other, also, beside, asks_too) =
-    command_no_test (subcommand_of app arguments) c path asks (subst (λ found. AsksDrive found path) (sym (line_same app other line also arguments)) asks_too)
+    command_no_test (subcommand_of app arguments) c path asks (subst (λ found. SubcommandIsDrive found path) (sym (line_same app other line also arguments)) asks_too)
 
 -- arguments that `clap` takes ask for something
 pub asked_there : (app : App) (arguments : List Text) → IsCommandLine app → fault_of app arguments ≡ []
-    → ((command : Command) × AskFor arguments command) ⊎ ((path : Text) × AskForTest arguments path)
+    → ((command : Command) × ArgumentsAskFor arguments command) ⊎ ((path : Text) × ArgumentsAskForTest arguments path)
 asked_there app arguments line fault = elim (taken_asks app line arguments fault) [
   | inl (command, asks) ↦ inl (command, (app, line, fault, asks))
   | inr (path, asks) ↦ inr (path, (app, line, fault, asks))

@@ -4,7 +4,7 @@ use Rattle.std.specs.Prelude.{Result, Ok, Err, IfOk, IfErr}
 use Rattle.clap.specs.Words.{App, FailsBy, HasMatchesOf, Text, fault_of, is_simple, is_simple_and_free, subcommand_rows_of}
 use Rattle.clap.specs.declared.error.Error.{Error}
 use Rattle.clap.specs.declared.parser.matches.ArgMatches.{ArgMatches}
-use Rattle.jh_arguments.specs.Commands.{AsksForAny}
+use Rattle.jh_arguments.specs.Commands.{SubcommandIsAny}
 use Rattle.jh_arguments.specs.Line.{AreMatches, IsCommandLine, IsRefused}
 use Rattle.jh_arguments.proofs.AskedLemmas.{taken_asks}
 
@@ -30,7 +30,7 @@ is_refused (Err e) arguments app line fails = elim fails [
 ]
 
 pub is_asked : (r : Result ArgMatches Error) (arguments : List Text) (app : App) → IsCommandLine app → FailsBy (fault_of app arguments) r
-    → IfOk r (HasMatchesOf app arguments) → IfOk r (λ m. AsksForAny (subcommand_rows_of m))
+    → IfOk r (HasMatchesOf app arguments) → IfOk r (λ m. SubcommandIsAny (subcommand_rows_of m))
 is_asked (Ok m) arguments app line fails has =
-    subst AsksForAny (sym (has (line_simple app line)).1) (taken_asks app line arguments fails)
+    subst SubcommandIsAny (sym (has (line_simple app line)).1) (taken_asks app line arguments fails)
 is_asked (Err e) arguments app line fails has = tt

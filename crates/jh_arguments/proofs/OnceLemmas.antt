@@ -7,7 +7,7 @@ use Rattle.clap.specs.declared.builder.value_parser.ValueParser.TheVariants as v
 use Rattle.jh_arguments.proofs.PassedTexts.{HasNoText, HasText}
 use Rattle.jh_arguments.proofs.OptionLemmas.{number_one}
 use Rattle.jh_checkers.specs.Checkers.{checker_name, checker_named}
-use Rattle.jh_arguments.specs.Commands.{AsksCheck, AsksFor, AsksSearch, AsksTimeline, IsFlag, IsGivenWithin, IsIndex, IsInitial, IsJudging, IsJudgingBy, IsNumberWithin, IsShow}
+use Rattle.jh_arguments.specs.Commands.{AsksCheck, SubcommandIs, AsksSearch, AsksTimeline, IsFlag, IsGivenWithin, IsIndex, IsInitial, IsJudging, IsJudgingBy, IsNumberWithin, IsShow}
 use Rattle.jh_arguments.specs.Limits.{max_candidates, max_spread_ms}
 use Rattle.jh_checkers.specs.declared.checker.Checker.{Checker}
 use Rattle.jh_checkers.specs.declared.checker.Checker.TheVariants.{Register, Set, Counter, Ids, ListAppend}
@@ -143,7 +143,7 @@ abbrev mark_of : Text → ℕ
 mark_of [] = 0
 mark_of (x ∷ xs) = x + 256 * mark_of xs
 
-pub named : (found : Text × List Row) (c : Command) → AsksFor (Some found) c → found.0 ≡ command_name c
+pub named : (found : Text × List Row) (c : Command) → SubcommandIs (Some found) c → found.0 ≡ command_name c
 named found Env asks = asks
 named found (Check question) asks = asks.0
 named found Run asks = asks
@@ -166,13 +166,13 @@ no_drive c e = go c (ap mark_of e)
     go Plot e = omega (arith, e)
 
 abbrev pub Once : Option (Text × List Row) → Type 0
-Once found = (c d : Command) → AsksFor found c → AsksFor found d → c ≡ d
+Once found = (c d : Command) → SubcommandIs found c → SubcommandIs found d → c ≡ d
 
 pub asked_once : (found : Text × List Row) → (found.0 ≡ codes "check" → FlagOnce found.1 (codes "explain") × FlagOnce found.1 (codes "independent"))
     → (found.0 ≡ codes "timeline" → FlagOnce found.1 (codes "independent")) → Once (Some found)
 asked_once found flags flag c d asks also = go c d asks also (ap mark_of (sym (named found c asks) ∙ named found d also))
   where
-    go : (c d : Command) → AsksFor (Some found) c → AsksFor (Some found) d → mark_of (command_name c) ≡ mark_of (command_name d) → c ≡ d
+    go : (c d : Command) → SubcommandIs (Some found) c → SubcommandIs (Some found) d → mark_of (command_name c) ≡ mark_of (command_name d) → c ≡ d
     go Env Env a b e = refl
     go Run Run a b e = refl
     go (Shrink m) (Shrink n) a b e = ap Shrink (number_one (one_of (codes "budget") found.1) m n a.1 b.1)

@@ -1,18 +1,23 @@
 -- What the program does for its arguments (this project's own): the command that they ask for, what is
 -- written, and why it may end otherwise.
 use Rattle.std.specs.Prelude.{◌≡◌, ◌⊎◌, ℕ, List, [], Option, None, Result, Ok, Err}
-use Rattle.clap.specs.Words.{App, Text, fault_of, subcommand_of}
+use Rattle.clap.specs.Words.{App, Row, Text, fault_of, subcommand_of}
+use Rattle.jh_edn.specs.Edn.{Edn}
 use Rattle.jh_cli.specs.CheckText.{TakesInitial, TakesModel}
 use Rattle.jh_cli.specs.Outputs.{OnInput, WritesOutput}
 use Rattle.jh_cli.specs.TimelineText.{TakesInitialBy, TakesModelBy}
 use Rattle.jh_cli.specs.declared.error.CliError.{CliError}
 use Rattle.jh_cli.specs.declared.error.CliError.TheVariants.{OnlyForRegister, OnlyForListAppend}
 use Rattle.jh_cli.specs.declared.error.CliError.TheVariants.{BadPalette}
+use Rattle.jh_cli.specs.declared.error.CliError.TheVariants as failures
 use Rattle.jh_drive.specs.Drive.{IsDriven}
 use Rattle.jh_drive.specs.declared.error.DriveError.{DriveError}
 use Rattle.jh_drive.specs.declared.error.DriveError.TheVariants.{SettingsRead, Settings, OutOfMemory}
+use Rattle.jh_settings.specs.Settings.{RefusesSettings}
 use Rattle.jh_settings.specs.declared.error.SettingsError.{SettingsError}
-use Rattle.jh_arguments.specs.Commands.{AsksDrive, AsksFor, IsOutputOf, RefusesCommand}
+use Rattle.jh_settings_texts.specs.ScheduleSteps.{AreStepsIn}
+use Rattle.jh_arguments.specs.Commands.{SubcommandHasSchedule, SubcommandIs, SubcommandIsDrive}
+use Rattle.jh_arguments.specs.Commands.{IsOutputOf, RefusesCommand}
 use Rattle.jh_arguments.specs.Line.{IsCommandLine}
 use Rattle.jh_arguments.specs.declared.answers.Refusal.{Refusal}
 use Rattle.jh_arguments.specs.declared.answers.Refusal.TheVariants as Refusals
@@ -22,16 +27,16 @@ use Rattle.jh_arguments.specs.declared.commands.Command.TheVariants.{Check, Sear
 -- ---- what arguments ask for
 
 -- `clap` takes the arguments, and they ask for this command.
-abbrev pub AskFor : List Text → Command → Type 0
-AskFor arguments command =
+abbrev pub ArgumentsAskFor : List Text → Command → Type 0
+ArgumentsAskFor arguments command =
     (app : App) × IsCommandLine app × (fault_of app arguments ≡ [])
-    × AsksFor (subcommand_of app arguments) command
+    × SubcommandIs (subcommand_of app arguments) command
 
 -- `clap` takes the arguments, and they ask for the test that this file of settings sets.
-abbrev pub AskForTest : List Text → Text → Type 0
-AskForTest arguments path =
+abbrev pub ArgumentsAskForTest : List Text → Text → Type 0
+ArgumentsAskForTest arguments path =
     (app : App) × IsCommandLine app × (fault_of app arguments ≡ [])
-    × AsksDrive (subcommand_of app arguments) path
+    × SubcommandIsDrive (subcommand_of app arguments) path
 
 -- ---- what a command is refused for before it reads
 
@@ -57,6 +62,38 @@ RefusesOptions (Timeline question) OnlyForListAppend =
 RefusesOptions (Search question) BadPalette = question.palette ≡ None
 RefusesOptions command e = ⊥
 
+-- ---- by which steps a page names records
+
+-- A subcommand with its options gives these steps: those of the schedule that some settings have, of the
+-- file that it names, and none where it names none. What a file holds no contract knows.
+abbrev pub GivesSteps : Option (Text × List Row) → List Edn → Type 0
+GivesSteps found steps =
+    ((path : Text) × SubcommandHasSchedule found path × ((settings : List ℕ) × AreStepsIn settings steps))
+    ⊎ (((path : Text) → SubcommandHasSchedule found path → ⊥) × (steps ≡ []))
+
+-- Settings of a schedule can't be had: the file could not be read, or what it holds is no settings.
+abbrev pub IsUnscheduled : CliError → Type 0
+IsUnscheduled failures.SettingsRead = Unit {0}
+IsUnscheduled failures.OutOfMemory = Unit {0}
+IsUnscheduled (failures.Settings error) = (settings : List ℕ) × RefusesSettings settings error
+IsUnscheduled e = ⊥
+
+-- `clap` takes the arguments, and they ask for this command and give these steps.
+abbrev pub ArgumentsGive : List Text → Command → List Edn → Type 0
+ArgumentsGive arguments command steps =
+    (app : App) × IsCommandLine app × (fault_of app arguments ≡ [])
+    × SubcommandIs (subcommand_of app arguments) command
+    × GivesSteps (subcommand_of app arguments) steps
+
+-- The arguments name a file for the steps of a page, of which none can be had for this reason.
+pub record HasNoSteps (arguments : List Text) (e : CliError) : Type 0 where
+  pub app : App
+  pub line : IsCommandLine app
+  pub taken : fault_of app arguments ≡ []
+  pub path : Text
+  pub asked : SubcommandHasSchedule (subcommand_of app arguments) path
+  pub why : IsUnscheduled e
+
 -- ---- how the program ends
 
 -- what a command answers, and what a test does
@@ -73,26 +110,28 @@ of_test (Err error) = Err (Refusals.Test error)
 pub record IsCommandDone (arguments : List Text) (input before after : Option (List ℕ)) (status : ℕ)
     : Type 0 where
   pub command : Command
-  pub asked : AskFor arguments command
+  pub steps : List Edn
+  pub asked : ArgumentsGive arguments command steps
   pub options : (refusal : CliError) → RefusesOptions command refusal → ⊥
-  pub written : WritesOutput input (IsOutputOf command) status before after
+  pub written : WritesOutput input (IsOutputOf command steps) status before after
 
 -- A command that the arguments ask for ended with this error: that of its options where these are
 -- refused, and then the reader is left as it was; else one for which it refuses the input.
 pub record IsFailed {R : Type 0} (arguments : List Text) (input : Option (List ℕ)) (old new : R)
     (e : CliError) : Type 0 where
   pub command : Command
-  pub asked : AskFor arguments command
+  pub steps : List Edn
+  pub asked : ArgumentsGive arguments command steps
   pub options : (refusal : CliError) → RefusesOptions command refusal → e ≡ refusal
   pub of_options : IsOfOptions command e → RefusesOptions command e × (new ≡ old)
-  pub refused : OnInput input (λ bytes. RefusesCommand command bytes e)
+  pub refused : OnInput input (λ bytes. RefusesCommand command steps bytes e)
 
 -- The test was conducted that some settings set, of a file that the arguments name, and ended with this
 -- exit status. What a file holds no contract knows.
 pub record IsConductedTo (arguments : List Text) (input rest before after : Option (List ℕ))
     (status : ℕ) : Type 0 where
   pub path : Text
-  pub asked : AskForTest arguments path
+  pub asked : ArgumentsAskForTest arguments path
   pub settings : List ℕ
   pub driven : IsDriven settings input rest before after (Ok status)
 
@@ -108,7 +147,7 @@ pub record IsUnfinished {R W : Type 0} (arguments : List Text)
     (input rest before after : Option (List ℕ)) (reader_old reader_new : R) (writer_old writer_new : W)
     (e : DriveError) : Type 0 where
   pub path : Text
-  pub asked : AskForTest arguments path
+  pub asked : ArgumentsAskForTest arguments path
   pub why : (IsFileUnread e × (reader_new ≡ reader_old) × (writer_new ≡ writer_old))
       ⊎ ((settings : List ℕ) × IsDriven settings input rest before after (Err e))
   pub unread : (error : SettingsError) → e ≡ Settings error

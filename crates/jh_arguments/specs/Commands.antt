@@ -6,6 +6,7 @@ use mir.Syntax.{w64}
 use Rattle.std.specs.Str.Parse.{IsNumeral, digits_value, signed_digits_value, without_leading_plus}
 use Rattle.std.specs.Str.Parse.{without_leading_sign}
 use Rattle.clap.specs.Words.{Row, Text, first_of, one_of}
+use Rattle.jh_edn.specs.Edn.{Edn}
 use Rattle.jh_cli.specs.EnvText.{IsEnvTextOf}
 use Rattle.jh_cli.specs.CheckText.{IsCheckTextOf}
 use Rattle.jh_cli.specs.RunText.{IsRunTextOf}
@@ -138,29 +139,35 @@ pub record AsksSearch (options : List Row) (question : SearchQuestion) : Type 0 
   pub show : IsShow options question.show
 
 -- A subcommand with its options asks for the test that this file of settings sets.
-abbrev pub AsksDrive : Option (Text × List Row) → Text → Type 0
-AsksDrive None path = ⊥
-AsksDrive (Some found) path =
+abbrev pub SubcommandIsDrive : Option (Text × List Row) → Text → Type 0
+SubcommandIsDrive None path = ⊥
+SubcommandIsDrive (Some found) path =
     (found.0 ≡ codes "drive") × (first_of (codes "settings") found.1 ≡ Some path)
 
+-- A subcommand with its options asks for a page that names steps by the settings in this file.
+abbrev pub SubcommandHasSchedule : Option (Text × List Row) → Text → Type 0
+SubcommandHasSchedule None path = ⊥
+SubcommandHasSchedule (Some found) path =
+    (found.0 ≡ codes "timeline") × (first_of (codes "settings") found.1 ≡ Some path)
+
 -- A subcommand with its options asks for a command.
-abbrev pub AsksFor : Option (Text × List Row) → Command → Type 0
-AsksFor None command = ⊥
-AsksFor (Some found) Env = found.0 ≡ codes "env"
-AsksFor (Some found) (Check question) = (found.0 ≡ codes "check") × AsksCheck found.1 question
-AsksFor (Some found) Run = found.0 ≡ codes "run"
-AsksFor (Some found) (Shrink budget) =
+abbrev pub SubcommandIs : Option (Text × List Row) → Command → Type 0
+SubcommandIs None command = ⊥
+SubcommandIs (Some found) Env = found.0 ≡ codes "env"
+SubcommandIs (Some found) (Check question) = (found.0 ≡ codes "check") × AsksCheck found.1 question
+SubcommandIs (Some found) Run = found.0 ≡ codes "run"
+SubcommandIs (Some found) (Shrink budget) =
     (found.0 ≡ codes "shrink") × IsNumber (one_of (codes "budget") found.1) budget
-AsksFor (Some found) (Search question) =
+SubcommandIs (Some found) (Search question) =
     (found.0 ≡ codes "search") × AsksSearch found.1 question
-AsksFor (Some found) (Timeline question) =
+SubcommandIs (Some found) (Timeline question) =
     (found.0 ≡ codes "timeline") × AsksTimeline found.1 question
-AsksFor (Some found) Plot = found.0 ≡ codes "plot"
+SubcommandIs (Some found) Plot = found.0 ≡ codes "plot"
 
 -- A subcommand with its options asks for a command, or for a test.
-abbrev pub AsksForAny : Option (Text × List Row) → Type 0
-AsksForAny found =
-    ((command : Command) × AsksFor found command) ⊎ ((path : Text) × AsksDrive found path)
+abbrev pub SubcommandIsAny : Option (Text × List Row) → Type 0
+SubcommandIsAny found =
+    ((command : Command) × SubcommandIs found command) ⊎ ((path : Text) × SubcommandIsDrive found path)
 
 -- ---- what a command does
 
@@ -172,22 +179,23 @@ HasNumbersInRange (Search question) =
     × IfSome question.threads (λ threads. (1 ≤ threads) × (threads ≤ 16))
 HasNumbersInRange _ = Unit {0}
 
--- what it writes for an input, with the exit status
-abbrev pub IsOutputOf : Command → List ℕ → ℕ → List ℕ → Type 0
-IsOutputOf Env input status output = IsEnvTextOf input status output
-IsOutputOf (Check question) input status output = IsCheckTextOf question input status output
-IsOutputOf Run input status output = IsRunTextOf input status output
-IsOutputOf (Shrink runs) input status output = IsShrinkTextOf runs input status output
-IsOutputOf (Search question) input status output = IsSearchTextOf question input status output
-IsOutputOf (Timeline question) input status output = IsTimelineTextOf question input status output
-IsOutputOf Plot input status output = IsPlotTextOf input status output
+-- what it writes for an input, with the exit status, where a page names steps by these
+abbrev pub IsOutputOf : Command → List Edn → List ℕ → ℕ → List ℕ → Type 0
+IsOutputOf Env steps input status output = IsEnvTextOf input status output
+IsOutputOf (Check question) steps input status output = IsCheckTextOf question input status output
+IsOutputOf Run steps input status output = IsRunTextOf input status output
+IsOutputOf (Shrink runs) steps input status output = IsShrinkTextOf runs input status output
+IsOutputOf (Search question) steps input status output = IsSearchTextOf question input status output
+IsOutputOf (Timeline question) steps input status output =
+    IsTimelineTextOf question steps input status output
+IsOutputOf Plot steps input status output = IsPlotTextOf input status output
 
 -- why it refuses an input, or does not do its work
-abbrev pub RefusesCommand : Command → List ℕ → CliError → Type 0
-RefusesCommand Env input e = RefusesEnv input e
-RefusesCommand (Check question) input e = RefusesCheck question input e
-RefusesCommand Run input e = RefusesRun input e
-RefusesCommand (Shrink runs) input e = RefusesShrinking runs input e
-RefusesCommand (Search question) input e = RefusesSearch question input e
-RefusesCommand (Timeline question) input e = RefusesTimeline question input e
-RefusesCommand Plot input e = RefusesPlot input e
+abbrev pub RefusesCommand : Command → List Edn → List ℕ → CliError → Type 0
+RefusesCommand Env steps input e = RefusesEnv input e
+RefusesCommand (Check question) steps input e = RefusesCheck question input e
+RefusesCommand Run steps input e = RefusesRun input e
+RefusesCommand (Shrink runs) steps input e = RefusesShrinking runs input e
+RefusesCommand (Search question) steps input e = RefusesSearch question input e
+RefusesCommand (Timeline question) steps input e = RefusesTimeline question steps input e
+RefusesCommand Plot steps input e = RefusesPlot input e

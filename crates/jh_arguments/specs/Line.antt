@@ -69,14 +69,18 @@ check names models =
     (budget (codes "100000"))) (flag (codes "explain"))) (flag (codes "independent"))) threads)
     (index (codes "at-least"))
 
+-- the file with the settings of a run, by whose schedule the page of what it printed names steps
+abbrev pub schedule_file : Rule
+schedule_file = option (codes "settings")
+
 abbrev pub timeline : Bor (List (Bor Text)) → Bor (List (Bor Text)) → App
 timeline names models =
-    with_rule (with_rule
+    with_rule (with_rule (with_rule
     (with_rule (with_rule (with_rule
     (with_rule (with_rule (new_app (codes "timeline")) (workload names)) initial_rule)
     (model models))
     (budget (codes "100000"))) (flag (codes "independent"))) (index (codes "from")))
-    (index (codes "to"))
+    (index (codes "to"))) schedule_file
 
 abbrev pub shrink : App
 shrink = with_rule (new_app (codes "shrink")) (budget (codes "10000"))

@@ -1,8 +1,11 @@
 //! From the arguments to what is written and the exit status, over any reader and any writer: one call.
 //! `specs/Answers.antt` has the rule.
 
-ghost use Rattle.std.specs.Prelude.{◌≡◌, ◌≢◌, ◌⊎◌, List, ℕ, IfOk, IsErrAnd, IsErrOf, map};
+ghost use Rattle.std.specs.Prelude.{◌≡◌, ◌≢◌, ◌⊎◌, List, ℕ, IfErr, IfOk, IsErrAnd, IsErrOf, map};
+ghost use Rattle.clap.specs.Words.{Text, subcommand_rows_of};
 ghost use Rattle.clap.specs.declared.error.Error.{Error};
+ghost use Rattle.jh_edn.specs.View.{views};
+ghost use Rattle.jh_settings_texts.specs.ScheduleSteps.{AreStepsIn};
 ghost use Rattle.jh_cli.specs.declared.error.CliError.{CliError as CliErrorData};
 ghost use Rattle.jh_cli.specs.declared.error.CliError.TheVariants as CliErrors;
 ghost use Rattle.jh_drive.specs.Drive.{IsDriven};
@@ -11,16 +14,20 @@ ghost use Rattle.jh_drive.specs.declared.error.DriveError.TheVariants as DriveEr
 ghost use Rattle.jh_settings.specs.declared.error.SettingsError.{SettingsError};
 ghost use Rattle.jh_arguments.specs.Answers as rule;
 ghost use Rattle.jh_arguments.specs.Answers.{IsConductedTo, IsCommandDone, IsFailed, IsFileUnread};
-ghost use Rattle.jh_arguments.specs.Answers.{IsUnfinished};
+ghost use Rattle.jh_arguments.specs.Answers.{GivesSteps, HasNoSteps, IsUnfinished, IsUnscheduled};
+ghost use Rattle.jh_arguments.specs.Commands.{SubcommandHasSchedule};
 ghost use Rattle.jh_arguments.specs.Line.{IsRefused};
 ghost use Rattle.jh_arguments.specs.declared.answers.Refusal.TheVariants as Refusals;
 
-use crate::commands::{Command, command_of, run, settings_path_of};
+use crate::commands::{Command, command_of, do_command, schedule_path_of, settings_path_of};
 use crate::line::parse;
+use clap::ArgMatches;
 use jh_cli::CliError;
 use jh_drive::{CallObserver, DriveError, drive_observed};
+use jh_edn::Value;
 use jh_lines::Streams;
 use jh_search::SearchObserver;
+use jh_settings_texts::steps_in_settings;
 use jh_shrink::Observer;
 use std::alloc::Global;
 use std::convert::AsStr;
@@ -36,6 +43,8 @@ pub enum Refusal {
     Arguments(clap::Error),
     /// The command refuses its options or its input, or did not do its work.
     Command(CliError),
+    /// The settings of the run that is shown could not be read, or are refused.
+    Schedule(CliError),
     /// The test of a real database ended otherwise than with a verdict.
     Test(DriveError),
 }
@@ -81,6 +90,45 @@ where
     drive_observed(rt.alloc(), &settings, streams, observer)
 }
 
+/// The steps of the schedule that the settings in a file have.
+///
+/// Errors: `SettingsRead` where the file can't be read, `Settings` where it holds no settings of a run, `OutOfMemory`.
+fn steps_in_file<T>(rt: &T, path: &str) -> Result<Vec<Value>, CliError>
+where
+    T: Files + Alloc<A = Global>,
+    ensures steps { IfOk result
+        (λ steps. (settings : List ℕ) × AreStepsIn settings (views steps.items)) }
+    ensures error { IfErr result IsUnscheduled }
+{
+    let settings = match fs::read(rt, path) {
+        Ok(settings) => settings,
+        Err(error) if error.kind() == io::ErrorKind::OutOfMemory => {
+            return Err(CliError::OutOfMemory);
+        }
+        Err(_) => return Err(CliError::SettingsRead),
+    };
+    Ok(steps_in_settings(rt.alloc(), &settings)?)
+}
+
+/// The steps by which a page names records: those of the file that the arguments name, and none where they
+/// name none.
+///
+/// Errors: those of `steps_in_file`, and none where no file is named.
+fn steps_of<T>(rt: &T, matches: &ArgMatches<'_>) -> Result<Vec<Value>, CliError>
+where
+    T: Files + Alloc<A = Global>,
+    ensures steps { IfOk result
+        (λ steps. GivesSteps (subcommand_rows_of matches.now) (views steps.items)) }
+    ensures named { IfErr result (λ e. (path : Text)
+        × SubcommandHasSchedule (subcommand_rows_of matches.now) path) }
+    ensures error { IfErr result IsUnscheduled }
+{
+    match schedule_path_of(matches) {
+        Some(path) => steps_in_file(rt, path),
+        None => Ok(Vec::new(rt.alloc())),
+    }
+}
+
 /// What a command answers.
 fn of_command(answer: Result<u8, CliError>) -> Result<u8, Refusal>
     ensures { result ≡ rule.of_command answer }
@@ -102,13 +150,13 @@ fn of_test(answer: Result<u8, DriveError>) -> Result<u8, Refusal>
 }
 
 /// Does what the arguments ask for, of which the first is the program's name, over these streams: a
-/// command reads and writes them; a test reads its settings from a file first. The answer is the exit status: that
-/// of `run`, or that of `drive`.
+/// command reads and writes them; a test reads its settings from a file first, and `timeline` those of the run that it
+/// shows, where they are named. The answer is the exit status: that of `do_command`, or that of `drive`.
 ///
 /// A run on threads, a search and the judgement of keys may wait, and of a test a reader that blocks.
 ///
-/// Errors: `Arguments`, before anything is read or written; then, of a command, `Command` as `run` has it,
-/// and of a test `Test` as `drive` has it, or where its file could not be read.
+/// Errors: `Arguments`, then `Schedule`, both before anything is read or written; then, of a command, `Command` as
+/// `do_command` has it, and of a test `Test` as `drive` has it, or where its file could not be read.
 pub fn answer<T, S, R, W, O>(
     rt: &T,
     arguments: &[S],
@@ -136,6 +184,12 @@ where
         → IsFailed (map S.text arguments.now) (R.remaining streams.old.reader) streams.old.reader streams.new.reader error }
     ensures failed_unwritten { (error : CliErrorData) → IsErrOf result (Refusals.Command error)
         → error ≢ CliErrors.Write → streams.new.writer ≡ streams.old.writer }
+    ensures unscheduled { (error : CliErrorData) → IsErrOf result (Refusals.Schedule error)
+        → HasNoSteps (map S.text arguments.now) error }
+    ensures unscheduled_unread { (error : CliErrorData) → IsErrOf result (Refusals.Schedule error)
+        → streams.new.reader ≡ streams.old.reader }
+    ensures unscheduled_unwritten { (error : CliErrorData)
+        → IsErrOf result (Refusals.Schedule error) → streams.new.writer ≡ streams.old.writer }
     ensures unfinished { (error : DriveErrorData) → IsErrOf result (Refusals.Test error)
         → IsUnfinished (map S.text arguments.now)
         (R.remaining streams.old.reader) (R.remaining streams.new.reader)
@@ -153,11 +207,16 @@ where
     let Some(command) = command_of(&matches) else {
         unreachable!()
     };
+    let steps = match steps_of(rt, &matches) {
+        Ok(steps) => steps,
+        Err(error) => return Err(Refusal::Schedule(error)),
+    };
     observer.see_command(command);
-    of_command(run(
+    of_command(do_command(
         rt,
         rt.alloc(),
         command,
+        &steps,
         &mut streams.reader,
         &mut streams.writer,
         observer,

@@ -5,12 +5,14 @@
 ghost use Rattle.std.specs.Prelude.{◌≡◌, ◌≢◌, ◌↔◌, ◌≤◌, ℕ, Option, codes, IfOk, IfErr, IfSome};
 ghost use Rattle.std.specs.Prelude.{IsNone, IsErrOf, None, Some, option_and_then};
 ghost use Rattle.clap.specs.Words.{Text, first_of, found_of, one_of, rows_of, subcommand_rows_of};
+ghost use Rattle.jh_edn.specs.View.{views};
 ghost use Rattle.jh_checkers.specs.declared.finding.Judging.{Judging};
 ghost use Rattle.jh_cli.specs.CheckText.{TakesInitial, TakesModel};
 ghost use Rattle.jh_cli.specs.Outputs.{OnInput, WritesOutput};
 ghost use Rattle.jh_cli.specs.TimelineText.{TakesInitialBy, TakesModelBy};
 ghost use Rattle.jh_cli.specs.declared.error.CliError.TheVariants as CliError;
-ghost use Rattle.jh_arguments.specs.Commands.{AsksCheck, AsksDrive, AsksFor, IsGivenWithin};
+ghost use Rattle.jh_arguments.specs.Commands.{AsksCheck, SubcommandHasSchedule, SubcommandIs};
+ghost use Rattle.jh_arguments.specs.Commands.{SubcommandIsDrive, IsGivenWithin};
 ghost use Rattle.jh_arguments.specs.Commands.{AsksSearch, IsShow};
 ghost use Rattle.jh_arguments.specs.Commands.{AsksTimeline, HasNumbersInRange, IsFlag, IsIndex};
 ghost use Rattle.jh_arguments.specs.Commands.{IsInitial, IsNumberWithin};
@@ -32,6 +34,7 @@ use jh_cli::{
     CheckQuestion, CliError, SearchQuestion, Show, TimelineQuestion, check_run, env_run, plot_run,
     run_run, search_run, shrink_run_observed, timeline_run,
 };
+use jh_edn::Value;
 use jh_search::{Palette, SearchObserver};
 use jh_shrink::Observer;
 use jh_timeline_sections::Choice;
@@ -62,10 +65,10 @@ pub enum Command {
 
 /// The command that the arguments ask for. `parse` has seen to it that there is one.
 pub fn command_of(matches: &ArgMatches<'_>) -> Option<Command>
-    ensures parsed { IfSome result (AsksFor (subcommand_rows_of matches.now)) }
+    ensures parsed { IfSome result (SubcommandIs (subcommand_rows_of matches.now)) }
     ensures ranges { IfSome result HasNumbersInRange }
     ensures taken { IsNone result → (command : Command)
-        → AsksFor (subcommand_rows_of matches.now) command → ⊥ }
+        → SubcommandIs (subcommand_rows_of matches.now) command → ⊥ }
 {
     match matches.subcommand()? {
         ("env", _) => Some(Command::Env),
@@ -83,12 +86,26 @@ pub fn command_of(matches: &ArgMatches<'_>) -> Option<Command>
 /// command has one.
 pub fn settings_path_of<'a>(matches: &ArgMatches<'a>) -> Option<&'a str>
     ensures parsed { IfSome result
-        (λ path. AsksDrive (subcommand_rows_of matches.now) path.now) }
+        (λ path. SubcommandIsDrive (subcommand_rows_of matches.now) path.now) }
     ensures taken { IsNone result → (path : Text)
-        → AsksDrive (subcommand_rows_of matches.now) path → ⊥ }
+        → SubcommandIsDrive (subcommand_rows_of matches.now) path → ⊥ }
 {
     match matches.subcommand()? {
         ("drive", options) => Some(path_of(options)?),
+        _ => None,
+    }
+}
+
+/// The file with the settings of the run that `timeline` shows, where it is given. No other command has
+/// one.
+pub(crate) fn schedule_path_of<'a>(matches: &ArgMatches<'a>) -> Option<&'a str>
+    ensures parsed { IfSome result
+        (λ path. SubcommandHasSchedule (subcommand_rows_of matches.now) path.now) }
+    ensures taken { IsNone result → (path : Text)
+        → SubcommandHasSchedule (subcommand_rows_of matches.now) path → ⊥ }
+{
+    match matches.subcommand()? {
+        ("timeline", options) => Some(path_of(options)?),
         _ => None,
     }
 }
@@ -299,19 +316,22 @@ fn palette_of(options: &ArgMatches<'_>) -> Option<Palette>
 /// The error has the status otherwise: 3 for an input that is refused, 4 for an error of the machine or
 /// a run that was not completed. Nothing is written before any error but `Write`.
 ///
+/// The steps are those by which `timeline` names the records of the nemesis; no other command looks at them.
+///
 /// The observer is told how far the work of `shrink` or `search` is. A run on threads, a search and
 /// the judgement of keys may wait; all else returns if each call of the reader, the writer and the observer does.
-pub fn run<T: Threads + Wait + Sync, R: Read, W: Write, O: Observer + SearchObserver>(
+pub fn do_command<T: Threads + Wait + Sync, R: Read, W: Write, O: Observer + SearchObserver>(
     rt: &T,
     alloc: Global,
     command: Command,
+    steps: &[Value],
     reader: &mut R,
     writer: &mut W,
     observer: &mut O,
 ) -> Result<u8, CliError>
     requires { HasNumbersInRange command }
     ensures written { IfOk result (λ status. WritesOutput (R.remaining reader.old)
-        (IsOutputOf command) status (W.contents writer.old) (W.contents writer.new)) }
+        (IsOutputOf command (views steps.now)) status (W.contents writer.old) (W.contents writer.new)) }
     ensures asked { (question : CheckQuestion) → command ≡ Check question
         → IsErrOf result CliError.OnlyForRegister
         ↔ (TakesInitial question.judging.checker question.judging.initial → ⊥) }
@@ -337,7 +357,7 @@ pub fn run<T: Threads + Wait + Sync, R: Read, W: Write, O: Observer + SearchObse
     ensures unread_unnamed { (question : SearchQuestion) → command ≡ Search question
         → IsErrOf result CliError.BadPalette → reader.new ≡ reader.old }
     ensures refused { IfErr result (λ e. OnInput (R.remaining reader.old)
-        (λ input. RefusesCommand command input e)) }
+        (λ input. RefusesCommand command (views steps.now) input e)) }
     ensures unwritten { IfErr result (λ e. e ≢ CliError.Write → writer.new ≡ writer.old) }
 {
     match command {
@@ -346,7 +366,7 @@ pub fn run<T: Threads + Wait + Sync, R: Read, W: Write, O: Observer + SearchObse
         Command::Run => run_run(rt, alloc, reader, writer),
         Command::Shrink(budget) => shrink_run_observed(alloc, reader, writer, budget, observer),
         Command::Search(question) => search_run(rt, alloc, reader, writer, question, observer),
-        Command::Timeline(question) => timeline_run(alloc, reader, writer, question),
+        Command::Timeline(question) => timeline_run(alloc, reader, writer, question, steps),
         Command::Plot => plot_run(alloc, reader, writer),
     }
 }

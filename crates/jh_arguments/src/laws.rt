@@ -2,19 +2,19 @@
 
 ghost use Rattle.std.specs.Prelude.{◌≡◌, ◌⊎◌, List, []};
 ghost use Rattle.clap.specs.Words.{App, Text, fault_of};
-ghost use Rattle.jh_arguments.specs.Answers.{AskFor, AskForTest};
+ghost use Rattle.jh_arguments.specs.Answers.{ArgumentsAskFor, ArgumentsAskForTest};
 ghost use Rattle.jh_arguments.specs.Line.{IsCommandLine};
 ghost use Rattle.jh_arguments.specs.declared.commands.Command.{Command};
 
 /// Arguments that `clap` takes ask for something: for one command and no test, or for one test and no command.
 pub fn argument_laws()
     ensures asked { (app : App) (arguments : List Text) → IsCommandLine app → fault_of app arguments ≡ []
-        → ((command : Command) × AskFor arguments command)
-        ⊎ ((path : Text) × AskForTest arguments path) }
+        → ((command : Command) × ArgumentsAskFor arguments command)
+        ⊎ ((path : Text) × ArgumentsAskForTest arguments path) }
     ensures one { (arguments : List Text) (command other : Command)
-        → AskFor arguments command → AskFor arguments other → command ≡ other }
+        → ArgumentsAskFor arguments command → ArgumentsAskFor arguments other → command ≡ other }
     ensures one_test { (arguments : List Text) (path other : Text)
-        → AskForTest arguments path → AskForTest arguments other → path ≡ other }
+        → ArgumentsAskForTest arguments path → ArgumentsAskForTest arguments other → path ≡ other }
     ensures apart { (arguments : List Text) (command : Command) (path : Text)
-        → AskFor arguments command → AskForTest arguments path → ⊥ }
+        → ArgumentsAskFor arguments command → ArgumentsAskForTest arguments path → ⊥ }
 {}

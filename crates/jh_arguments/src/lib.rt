@@ -5,7 +5,7 @@
 //! file of settings, and `answers.rt` conducts its test. There the whole stands in one call, from the
 //! arguments to the exit status; `program.rt` has the standard streams and what a terminal is told.
 //! A new command is a line of the first and a text of the second, and a case of `Command`, of
-//! `command_of`, of `run`, and of `input_of` in `program.rt`.
+//! `command_of`, of `do_command`, and of `input_of` in `program.rt`.
 #![tactic(auto)]
 
 mod answers;
@@ -19,12 +19,13 @@ mod program;
 
 pub use answers::{CommandObserver, Refusal, answer};
 pub use commands::{
-    Command, command_of, question_of, run, search_question_of, settings_path_of,
+    Command, command_of, do_command, question_of, search_question_of, settings_path_of,
     timeline_question_of,
 };
-pub use jh_cli::{CheckQuestion, CliError, REFUSED, SearchQuestion, TimelineQuestion};
+pub use jh_cli::{CheckQuestion, CliError, SearchQuestion, TimelineQuestion};
 pub use jh_drive::{CallCounts, CallObserver, DriveError};
 pub use jh_lines::Streams;
+pub use jh_reports::REFUSED;
 pub use laws::argument_laws;
 pub use line::{parse, status_of_refusal};
 pub use palettes::palette_named;

@@ -7,7 +7,7 @@ ghost use Rattle.clap.specs.declared.builder.value_parser.ValueParser.TheVariant
 ghost use Rattle.clap.specs.declared.error.ErrorKind.TheVariants as ErrorKind;
 ghost use Rattle.jh_cli.specs.declared.error.CliError.TheVariants as CliError;
 ghost use Rattle.jh_checkers.specs.Checkers.{checker_names};
-ghost use Rattle.jh_arguments.specs.Commands.{AsksForAny};
+ghost use Rattle.jh_arguments.specs.Commands.{SubcommandIsAny};
 ghost use Rattle.jh_arguments.specs.Limits.{max_candidates, max_faults};
 ghost use Rattle.jh_arguments.specs.Line as text;
 ghost use Rattle.jh_checkers.specs.Models.{model_names};
@@ -18,7 +18,8 @@ use crate::limits::{MAX_BUDGET, MAX_CANDIDATES, MAX_FAULTS, MAX_SPREAD_MS, MAX_T
 use clap::builder::ValueParser;
 use clap::error::ErrorKind;
 use clap::{Arg, ArgAction, ArgMatches, Command, Error, value_parser};
-use jh_cli::{CliError, DONE, REFUSED};
+use jh_cli::CliError;
+use jh_reports::{DONE, REFUSED};
 use std::alloc::Global;
 use std::convert::AsStr;
 
@@ -141,7 +142,8 @@ fn timeline_command<'a>(
         .arg(judge_option(alloc))?
         .arg(independent)?
         .arg(index_option(alloc, "from", "The first record that is shown, from 0"))?
-        .arg(index_option(alloc, "to", "The record behind the last one that is shown"))?;
+        .arg(index_option(alloc, "to", "The record behind the last one that is shown"))?
+        .arg(schedule_option(alloc))?;
     Ok(timeline)
 }
 
@@ -203,6 +205,17 @@ fn settings_argument<'a>(alloc: Global) -> Arg<'a>
         .value_name("SETTINGS")
         .help("The file with the settings of the test")
         .required(true)
+}
+
+/// The file with the settings of the run that is shown.
+fn schedule_option<'a>(alloc: Global) -> Arg<'a>
+    ensures rule { rule_of result ≡ text.schedule_file }
+    ensures local { result.global ≡ false }
+{
+    Arg::new(alloc, "settings")
+        .long("settings")
+        .value_name("FILE")
+        .help("The settings of the run that is shown, to name its steps")
 }
 
 /// How many candidates are tried at most: one, or more.
@@ -442,7 +455,7 @@ fn number_option<'a>(
 /// for a test. Or its refusal, which is a request for help or for the version, a complaint, or out of memory.
 pub fn parse<'a, S: AsStr>(alloc: Global, arguments: &'a [S]) -> Result<ArgMatches<'a>, Error>
     ensures found { IfOk result (AreMatches (map S.text arguments.entry.now)) }
-    ensures asked { IfOk result (λ matches. AsksForAny (subcommand_rows_of matches)) }
+    ensures asked { IfOk result (λ matches. SubcommandIsAny (subcommand_rows_of matches)) }
     ensures refused { IfErr result (IsRefused (map S.text arguments.entry.now)) }
 {
     command_line(alloc)?.try_get_matches_from(arguments)

@@ -9,9 +9,10 @@ use crate::commands::Command;
 use crate::line::status_of_refusal;
 use clap::error::ErrorKind;
 use jh_checkers::{Checker, Judging};
-use jh_cli::{CliError, REFUSED, UNKNOWN};
+use jh_cli::CliError;
 use jh_drive::{CallCounts, CallObserver, DriveError};
 use jh_lines::Streams;
+use jh_reports::{REFUSED, UNKNOWN};
 use jh_search::SearchObserver;
 use jh_shrink::Observer;
 use std::alloc::Global;
@@ -268,7 +269,7 @@ fn undriven(rt: &impl Eprint, error: DriveError) -> u8 {
 fn ended(rt: &(impl Print + Eprint), refusal: Refusal) -> u8 {
     match refusal {
         Refusal::Arguments(refusal) => refused(rt, &refusal),
-        Refusal::Command(error) => failed(rt, error),
+        Refusal::Command(error) | Refusal::Schedule(error) => failed(rt, error),
         Refusal::Test(error) => undriven(rt, error),
     }
 }

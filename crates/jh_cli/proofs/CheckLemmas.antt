@@ -14,7 +14,7 @@ use Rattle.jh_cli.specs.CheckRefusals.{RefusesBy, RefusesCheck, RefusesJudging}
 use Rattle.jh_cli.specs.Status.{check_error, keys_error, reading_error}
 use Rattle.jh_cli.specs.declared.check_command.CheckQuestion.{CheckQuestion}
 use Rattle.jh_cli.specs.declared.error.CliError.{CliError}
-use Rattle.jh_cli.specs.declared.error.CliError.TheVariants.{TimeMissing, Input, EnvironmentMissing, Environment, Element, History, Check, Settings, Run, HistoryFull, Mismatch, Thread, OnlyForRegister, OnlyForListAppend, BadPalette, Unwritable, Read, Write, OutOfMemory}
+use Rattle.jh_cli.specs.declared.error.CliError.TheVariants.{TimeMissing, Input, EnvironmentMissing, Environment, Element, History, Check, Settings, Run, HistoryFull, Mismatch, Thread, OnlyForRegister, OnlyForListAppend, BadPalette, Unwritable, SettingsRead, Read, Write, OutOfMemory}
 
 -- ---- no history is read
 
@@ -88,6 +88,7 @@ judging_refused question input history below OnlyForRegister parts refused = abs
 judging_refused question input history below OnlyForListAppend parts refused = absurd (by_judging question.independent question history OnlyForListAppend refused)
 judging_refused question input history below BadPalette parts refused = absurd (by_judging question.independent question history BadPalette refused)
 judging_refused question input history below Unwritable parts refused = absurd (by_judging question.independent question history Unwritable refused)
+judging_refused question input history below SettingsRead parts refused = absurd (by_judging question.independent question history SettingsRead refused)
 judging_refused question input history below (TimeMissing index) parts refused = absurd (by_judging question.independent question history (TimeMissing index) refused)
 judging_refused question input history below Read parts refused = absurd (by_judging question.independent question history Read refused)
 judging_refused question input history below Write parts refused = absurd (by_judging question.independent question history Write refused)

@@ -13,7 +13,7 @@ use Rattle.jh_cli.proofs.CheckLemmas.{nothing_written}
 use Rattle.jh_cli.specs.PlotRefusals.{IsUnplottable, RefusesPlot, RefusesPlotting}
 use Rattle.jh_cli.specs.Status.{plot_error, reading_error}
 use Rattle.jh_cli.specs.declared.error.CliError.{CliError}
-use Rattle.jh_cli.specs.declared.error.CliError.TheVariants.{TimeMissing, Input, EnvironmentMissing, Environment, Element, History, Check, Settings, Run, HistoryFull, Mismatch, Thread, OnlyForRegister, OnlyForListAppend, BadPalette, Unwritable, Read, Write, OutOfMemory}
+use Rattle.jh_cli.specs.declared.error.CliError.TheVariants.{TimeMissing, Input, EnvironmentMissing, Environment, Element, History, Check, Settings, Run, HistoryFull, Mismatch, Thread, OnlyForRegister, OnlyForListAppend, BadPalette, Unwritable, SettingsRead, Read, Write, OutOfMemory}
 
 pub plotted_from : (input : List ℕ) (error : ReadHistoryError) → RefusesHistoryAndRest input error → RefusesPlot input (reading_error error)
 plotted_from input (reading.Text (edn.UnexpectedEnd line)) refused = (refl, refused)
@@ -70,6 +70,7 @@ plotting_refused input history below OnlyForRegister parts refused = (history, b
 plotting_refused input history below OnlyForListAppend parts refused = (history, below, parts, refused)
 plotting_refused input history below BadPalette parts refused = (history, below, parts, refused)
 plotting_refused input history below Unwritable parts refused = (history, below, parts, refused)
+plotting_refused input history below SettingsRead parts refused = (history, below, parts, refused)
 plotting_refused input history below Read parts refused = tt
 plotting_refused input history below Write parts refused = absurd (by_plot history Write refused)
 plotting_refused input history below OutOfMemory parts refused = tt

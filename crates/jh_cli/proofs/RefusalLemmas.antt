@@ -12,7 +12,7 @@ use Rattle.jh_env.specs.Cells.{Table}
 use Rattle.jh_env.specs.TextCells.{IsTextOf}
 use Rattle.jh_cli.specs.EnvRefusals.{RefusesSteps, RefusesEnvValues}
 use Rattle.jh_cli.specs.declared.error.CliError.{CliError}
-use Rattle.jh_cli.specs.declared.error.CliError.TheVariants.{TimeMissing, Input, EnvironmentMissing, Environment, Element, History, Check, Settings, Run, HistoryFull, Mismatch, Thread, OnlyForRegister, OnlyForListAppend, BadPalette, Unwritable, Read, Write, OutOfMemory}
+use Rattle.jh_cli.specs.declared.error.CliError.TheVariants.{TimeMissing, Input, EnvironmentMissing, Environment, Element, History, Check, Settings, Run, HistoryFull, Mismatch, Thread, OnlyForRegister, OnlyForListAppend, BadPalette, Unwritable, SettingsRead, Read, Write, OutOfMemory}
 
 -- a first value that is no environment
 refuses_environment : (first : Edn) (others : List Edn) (error : EnvTextError.the_data) → env.RefusesEnvText first error
@@ -64,6 +64,7 @@ others_refused values others first names start OnlyForRegister parts text refuse
 others_refused values others first names start OnlyForListAppend parts text refused = absurd refused
 others_refused values others first names start BadPalette parts text refused = absurd refused
 others_refused values others first names start Unwritable parts text refused = absurd refused
+others_refused values others first names start SettingsRead parts text refused = absurd refused
 others_refused values others first names start (TimeMissing index) parts text refused = absurd refused
 others_refused values others first names start Read parts text refused = absurd refused
 others_refused values others first names start Write parts text refused = absurd refused

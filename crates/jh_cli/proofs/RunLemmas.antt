@@ -15,11 +15,11 @@ use Rattle.jh_simnode.specs.Plans.{PlanValue}
 use Rattle.jh_settings.specs.Settings as settings
 use Rattle.jh_settings.specs.Settings.{AreSettingsOf}
 use Rattle.jh_settings.specs.declared.error.SettingsError.TheVariants as SettingsError
-use Rattle.jh_cli.specs.RunInside.{own_error}
-use Rattle.jh_cli.specs.RunRefusals.{RefusesRunBytes, RefusesOwn, RefusesRun, RefusesSerial, RefusesRunIn, RefusesThreads}
+use Rattle.jh_cli.specs.RunInside.{recorded_history_error}
+use Rattle.jh_cli.specs.RunRefusals.{RefusesRunBytes, RefusesRecorded, RefusesRun, RefusesSerial, RefusesRunIn, RefusesThreads}
 use Rattle.jh_cli.specs.Status.{run_error, settings_error, threads_error, world_error}
 use Rattle.jh_cli.specs.declared.error.CliError.{CliError}
-use Rattle.jh_cli.specs.declared.error.CliError.TheVariants.{TimeMissing, Input, EnvironmentMissing, Environment, Element, History, Check, Settings, Run, HistoryFull, Mismatch, Thread, OnlyForRegister, OnlyForListAppend, BadPalette, Unwritable, Read, Write, OutOfMemory}
+use Rattle.jh_cli.specs.declared.error.CliError.TheVariants.{TimeMissing, Input, EnvironmentMissing, Environment, Element, History, Check, Settings, Run, HistoryFull, Mismatch, Thread, OnlyForRegister, OnlyForListAppend, BadPalette, Unwritable, SettingsRead, Read, Write, OutOfMemory}
 
 -- bytes that mean no settings
 pub settings_refused : (input : List ℕ) (error : SettingsError.the_data) → settings.RefusesSettings input error → RefusesRunBytes input (settings_error error)
@@ -48,6 +48,7 @@ run_refused input p mode budget OnlyForRegister parsed h = (p, mode, budget, par
 run_refused input p mode budget OnlyForListAppend parsed h = (p, mode, budget, parsed, h)
 run_refused input p mode budget BadPalette parsed h = (p, mode, budget, parsed, h)
 run_refused input p mode budget Unwritable parsed h = (p, mode, budget, parsed, h)
+run_refused input p mode budget SettingsRead parsed h = (p, mode, budget, parsed, h)
 run_refused input p mode budget (TimeMissing index) parsed h = (p, mode, budget, parsed, h)
 run_refused input p mode budget Read parsed h = (p, mode, budget, parsed, h)
 run_refused input p mode budget Write parsed h = (p, mode, budget, parsed, h)
@@ -79,6 +80,7 @@ bytes_refused input OnlyForRegister h = h
 bytes_refused input OnlyForListAppend h = h
 bytes_refused input BadPalette h = h
 bytes_refused input Unwritable h = h
+bytes_refused input SettingsRead h = h
 bytes_refused input (TimeMissing index) h = h
 bytes_refused input Read h = tt
 bytes_refused input Write h = absurd (no_write h.0 h.1 h.4)
@@ -88,7 +90,7 @@ bytes_refused input OutOfMemory h = tt
 
 -- a refusal of the history of a run is a mismatch, and out of memory stays what it is
 pub own_refused : (checker : Checker) (history : List Operation) (error : CheckError) → RefusesChecking checker history error
-    → RefusesOwn checker history (own_error error)
+    → RefusesRecorded checker history (recorded_history_error error)
 own_refused checker history (CheckErrors.Pair pairing) h = (CheckErrors.Pair pairing, λ e. absurd cc, h)
 own_refused checker history (CheckErrors.BadValue place) h = (CheckErrors.BadValue place, λ e. absurd cc, h)
 own_refused checker history (CheckErrors.NegativeAdd place) h = (CheckErrors.NegativeAdd place, λ e. absurd cc, h)
@@ -104,7 +106,7 @@ stop_refused p (RunError.World WorldError.UnknownNode) h = absurd h
 stop_refused p (RunError.World WorldError.TooManyEvents) h = absurd h
 
 -- the history of a run on threads is refused
-pub threads_refused : (checker : Checker) (history : List Operation) (e : CliError) → RefusesOwn checker history e → RefusesThreads e
+pub threads_refused : (checker : Checker) (history : List Operation) (e : CliError) → RefusesRecorded checker history e → RefusesThreads e
 threads_refused checker history Mismatch h = tt
 threads_refused checker history OutOfMemory h = tt
 threads_refused checker history (Check error) h = absurd h
@@ -121,6 +123,7 @@ threads_refused checker history OnlyForRegister h = absurd h
 threads_refused checker history OnlyForListAppend h = absurd h
 threads_refused checker history BadPalette h = absurd h
 threads_refused checker history Unwritable h = absurd h
+threads_refused checker history SettingsRead h = absurd h
 threads_refused checker history (TimeMissing index) h = absurd h
 threads_refused checker history Read h = absurd h
 threads_refused checker history Write h = absurd h

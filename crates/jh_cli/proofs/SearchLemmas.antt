@@ -24,7 +24,7 @@ use Rattle.jh_cli.specs.declared.error.CliError.TheVariants.{TimeMissing, Input,
 use Rattle.jh_cli.specs.declared.error.CliError.TheVariants.{Element, History, Check, Settings, Run}
 use Rattle.jh_cli.specs.declared.error.CliError.TheVariants.{HistoryFull, Mismatch, Thread}
 use Rattle.jh_cli.specs.declared.error.CliError.TheVariants.{OnlyForRegister, OnlyForListAppend}
-use Rattle.jh_cli.specs.declared.error.CliError.TheVariants.{BadPalette, Unwritable, Read, Write}
+use Rattle.jh_cli.specs.declared.error.CliError.TheVariants.{BadPalette, Unwritable, SettingsRead, Read, Write}
 use Rattle.jh_cli.specs.declared.error.CliError.TheVariants.{OutOfMemory}
 use Rattle.jh_cli.specs.declared.search_command.SearchQuestion.{SearchQuestion}
 
@@ -79,6 +79,7 @@ refused_by_bytes question input OnlyForRegister h = h
 refused_by_bytes question input OnlyForListAppend h = h
 refused_by_bytes question input BadPalette h = absurd h
 refused_by_bytes question input Unwritable h = h
+refused_by_bytes question input SettingsRead h = h
 refused_by_bytes question input (TimeMissing index) h = h
 refused_by_bytes question input Read h = absurd h
 refused_by_bytes question input Write h = absurd h

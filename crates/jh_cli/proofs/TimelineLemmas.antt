@@ -1,5 +1,6 @@
 -- Why `timeline` refuses an input, from why its parts are not read or its history is not judged.
 use Rattle.std.proofs.Common.{◌≡◌, ℕ, Bool, true, false, List, Option, Some, None, refl, sym, subst}
+use Rattle.jh_edn.specs.Edn.{Edn}
 use Rattle.jh_edn.specs.declared.error.EdnError.TheVariants as edn
 use Rattle.jh_histories.specs.declared.error.ReadHistoryError.{ReadHistoryError}
 use Rattle.jh_histories.specs.declared.error.ReadHistoryError.TheVariants as reading
@@ -16,27 +17,27 @@ use Rattle.jh_cli.proofs.CheckLemmas.{IsJudging, by_checker, by_keys, nothing_wr
 use Rattle.jh_cli.specs.Status.{keys_error, reading_error}
 use Rattle.jh_cli.specs.TimelineRefusals.{RefusesFinding, RefusesPage, RefusesShowing, RefusesTimeline}
 use Rattle.jh_cli.specs.declared.error.CliError.{CliError}
-use Rattle.jh_cli.specs.declared.error.CliError.TheVariants.{TimeMissing, Input, EnvironmentMissing, Environment, Element, History, Check, Settings, Run, HistoryFull, Mismatch, Thread, OnlyForRegister, OnlyForListAppend, BadPalette, Unwritable, Read, Write, OutOfMemory}
+use Rattle.jh_cli.specs.declared.error.CliError.TheVariants.{TimeMissing, Input, EnvironmentMissing, Environment, Element, History, Check, Settings, Run, HistoryFull, Mismatch, Thread, OnlyForRegister, OnlyForListAppend, BadPalette, Unwritable, SettingsRead, Read, Write, OutOfMemory}
 use Rattle.jh_cli.specs.declared.timeline_command.TimelineQuestion.{TimelineQuestion}
 
 -- ---- no parts are read
 
-pub parts_refused : (question : TimelineQuestion) (input : List ℕ) (error : ReadHistoryError) → RefusesHistoryAndRest input error → RefusesTimeline question input (reading_error error)
-parts_refused question input (reading.Text (edn.UnexpectedEnd line)) refused = (refl, refused)
-parts_refused question input (reading.Text (edn.BadToken line)) refused = (refl, refused)
-parts_refused question input (reading.Text (edn.FloatUnsupported line)) refused = (refl, refused)
-parts_refused question input (reading.Text (edn.IntegerRange line)) refused = (refl, refused)
-parts_refused question input (reading.Text (edn.BadEscape line)) refused = (refl, refused)
-parts_refused question input (reading.Text (edn.OddMap line)) refused = (refl, refused)
-parts_refused question input (reading.Text (edn.DuplicateKey line)) refused = (refl, refused)
-parts_refused question input (reading.Text (edn.TooDeep line)) refused = (refl, refused)
-parts_refused question input (reading.Text edn.Utf8) refused = (refl, refused)
-parts_refused question input (reading.Text edn.TooLong) refused = (refl, refused)
-parts_refused question input (reading.Text edn.Read) refused = tt
-parts_refused question input (reading.Text edn.Write) refused = absurd (nothing_written input refused)
-parts_refused question input (reading.Text edn.OutOfMemory) refused = tt
-parts_refused question input (reading.History history_errors.OutOfMemory) refused = tt
-parts_refused question input (reading.History (history_errors.Op place why)) refused = (refl, refused)
+pub parts_refused : (question : TimelineQuestion) (steps : List Edn) (input : List ℕ) (error : ReadHistoryError) → RefusesHistoryAndRest input error → RefusesTimeline question steps input (reading_error error)
+parts_refused question steps input (reading.Text (edn.UnexpectedEnd line)) refused = (refl, refused)
+parts_refused question steps input (reading.Text (edn.BadToken line)) refused = (refl, refused)
+parts_refused question steps input (reading.Text (edn.FloatUnsupported line)) refused = (refl, refused)
+parts_refused question steps input (reading.Text (edn.IntegerRange line)) refused = (refl, refused)
+parts_refused question steps input (reading.Text (edn.BadEscape line)) refused = (refl, refused)
+parts_refused question steps input (reading.Text (edn.OddMap line)) refused = (refl, refused)
+parts_refused question steps input (reading.Text (edn.DuplicateKey line)) refused = (refl, refused)
+parts_refused question steps input (reading.Text (edn.TooDeep line)) refused = (refl, refused)
+parts_refused question steps input (reading.Text edn.Utf8) refused = (refl, refused)
+parts_refused question steps input (reading.Text edn.TooLong) refused = (refl, refused)
+parts_refused question steps input (reading.Text edn.Read) refused = tt
+parts_refused question steps input (reading.Text edn.Write) refused = absurd (nothing_written input refused)
+parts_refused question steps input (reading.Text edn.OutOfMemory) refused = tt
+parts_refused question steps input (reading.History history_errors.OutOfMemory) refused = tt
+parts_refused question steps input (reading.History (history_errors.Op place why)) refused = (refl, refused)
 
 -- ---- a history is not judged
 
@@ -46,27 +47,28 @@ by_finding true (Some judging) history e refused = subst IsJudging (sym refused.
 by_finding false None history e refused = absurd refused
 by_finding false (Some judging) history e refused = subst IsJudging (sym refused.2) (by_checker refused.0)
 
-pub page_refused : (question : TimelineQuestion) (input : List ℕ) (history : List Operation) (below : List ℕ) (e : CliError) → AreHistoryAndRest input history below → RefusesPage question history e
-    → RefusesTimeline question input e
-page_refused question input history below (Input error) parts refused = absurd (by_finding question.independent question.judging history (Input error) refused)
-page_refused question input history below EnvironmentMissing parts refused = (history, below, parts, refused)
-page_refused question input history below (Environment error) parts refused = (history, below, parts, refused)
-page_refused question input history below (Element place error) parts refused = (history, below, parts, refused)
-page_refused question input history below (History error) parts refused = absurd (by_finding question.independent question.judging history (History error) refused)
-page_refused question input history below (Check error) parts refused = (history, below, parts, refused)
-page_refused question input history below (Settings error) parts refused = (history, below, parts, refused)
-page_refused question input history below (Run error) parts refused = (history, below, parts, refused)
-page_refused question input history below HistoryFull parts refused = (history, below, parts, refused)
-page_refused question input history below Mismatch parts refused = (history, below, parts, refused)
-page_refused question input history below Thread parts refused = (history, below, parts, refused)
-page_refused question input history below OnlyForRegister parts refused = absurd (by_finding question.independent question.judging history OnlyForRegister refused)
-page_refused question input history below OnlyForListAppend parts refused = absurd (by_finding question.independent question.judging history OnlyForListAppend refused)
-page_refused question input history below BadPalette parts refused = absurd (by_finding question.independent question.judging history BadPalette refused)
-page_refused question input history below Unwritable parts refused = absurd (by_finding question.independent question.judging history Unwritable refused)
-page_refused question input history below (TimeMissing index) parts refused = absurd (by_finding question.independent question.judging history (TimeMissing index) refused)
-page_refused question input history below Read parts refused = tt
-page_refused question input history below Write parts refused = absurd (by_finding question.independent question.judging history Write refused)
-page_refused question input history below OutOfMemory parts refused = tt
+pub page_refused : (question : TimelineQuestion) (steps : List Edn) (input : List ℕ) (history : List Operation) (below : List ℕ) (e : CliError) → AreHistoryAndRest input history below → RefusesPage question history e
+    → RefusesTimeline question steps input e
+page_refused question steps input history below (Input error) parts refused = absurd (by_finding question.independent question.judging history (Input error) refused)
+page_refused question steps input history below EnvironmentMissing parts refused = (history, below, parts, refused)
+page_refused question steps input history below (Environment error) parts refused = (history, below, parts, refused)
+page_refused question steps input history below (Element place error) parts refused = (history, below, parts, refused)
+page_refused question steps input history below (History error) parts refused = absurd (by_finding question.independent question.judging history (History error) refused)
+page_refused question steps input history below (Check error) parts refused = (history, below, parts, refused)
+page_refused question steps input history below (Settings error) parts refused = (history, below, parts, refused)
+page_refused question steps input history below (Run error) parts refused = (history, below, parts, refused)
+page_refused question steps input history below HistoryFull parts refused = (history, below, parts, refused)
+page_refused question steps input history below Mismatch parts refused = (history, below, parts, refused)
+page_refused question steps input history below Thread parts refused = (history, below, parts, refused)
+page_refused question steps input history below OnlyForRegister parts refused = absurd (by_finding question.independent question.judging history OnlyForRegister refused)
+page_refused question steps input history below OnlyForListAppend parts refused = absurd (by_finding question.independent question.judging history OnlyForListAppend refused)
+page_refused question steps input history below BadPalette parts refused = absurd (by_finding question.independent question.judging history BadPalette refused)
+page_refused question steps input history below Unwritable parts refused = absurd (by_finding question.independent question.judging history Unwritable refused)
+page_refused question steps input history below SettingsRead parts refused = absurd (by_finding question.independent question.judging history SettingsRead refused)
+page_refused question steps input history below (TimeMissing index) parts refused = absurd (by_finding question.independent question.judging history (TimeMissing index) refused)
+page_refused question steps input history below Read parts refused = tt
+page_refused question steps input history below Write parts refused = absurd (by_finding question.independent question.judging history Write refused)
+page_refused question steps input history below OutOfMemory parts refused = tt
 
 -- ---- keys are not judged, or not split
 

@@ -25,8 +25,8 @@ TakesModel checker (Some model) = ⊥
 -- ---- what is written, with the exit status
 
 -- for a history
-abbrev pub IsHistoryText : CheckQuestion → List Operation → ℕ → List ℕ → Type 0
-IsHistoryText question history status output =
+abbrev pub IsCheckLine : CheckQuestion → List Operation → ℕ → List ℕ → Type 0
+IsCheckLine question history status output =
     (verdict : ℕ) × (found : List ℕ)
     × IsTextBy question.independent question.judging history verdict found
     × ((status, output)
@@ -36,4 +36,4 @@ IsHistoryText question history status output =
 abbrev pub IsCheckTextOf : CheckQuestion → List ℕ → ℕ → List ℕ → Type 0
 IsCheckTextOf question input status output =
     (history : List Operation) × (below : List ℕ) × AreHistoryAndRest input history below
-    × IsHistoryText question history status output
+    × IsCheckLine question history status output

@@ -37,8 +37,8 @@ pub record IsEnvWithSteps (values : List Edn) (env : EnvValue) (steps : List Ste
   pub steps_parsed : map (parsed_step env.names) others ≡ map Ok steps
 
 -- what is written for these steps, from this state
-abbrev pub IsReport : State → List Step → List ℕ → Type 0
-IsReport first steps output =
+abbrev pub IsEnvReport : State → List Step → List ℕ → Type 0
+IsEnvReport first steps output =
     let last = state_after_all first steps in
     (env : EnvValue) × IsEnvOf last env
     × (output ≡ answer_lines (answers_of first steps)
@@ -48,7 +48,7 @@ IsReport first steps output =
 abbrev pub IsEnvText : List Edn → List ℕ → Type 0
 IsEnvText values output =
     (env : EnvValue) × (steps : List Step) × IsEnvWithSteps values env steps
-    × IsReport (first_state env) steps output
+    × IsEnvReport (first_state env) steps output
 
 -- what is written for an input, which is UTF-8, with the exit status: its values are those that it spells
 abbrev pub IsEnvTextOf : List ℕ → ℕ → List ℕ → Type 0

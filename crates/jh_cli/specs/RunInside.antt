@@ -5,6 +5,6 @@ use Rattle.jh_cli.specs.declared.error.CliError.{CliError}
 use Rattle.jh_cli.specs.declared.error.CliError.TheVariants.{Mismatch, OutOfMemory}
 
 -- a mismatch, but for out of memory
-abbrev pub own_error : CheckError → CliError
-own_error refused.OutOfMemory = OutOfMemory
-own_error _ = Mismatch
+abbrev pub recorded_history_error : CheckError → CliError
+recorded_history_error refused.OutOfMemory = OutOfMemory
+recorded_history_error _ = Mismatch

@@ -23,12 +23,12 @@ use Rattle.jh_cli.specs.declared.error.CliError.TheVariants.{OutOfMemory}
 
 -- The checker refuses the history of a run on threads, which is a mismatch. (No plan is known whose
 -- run comes to this; that of a serial run never does.)
-abbrev pub RefusesOwn : Checker → List Operation → CliError → Type 0
-RefusesOwn checker history Mismatch =
+abbrev pub RefusesRecorded : Checker → List Operation → CliError → Type 0
+RefusesRecorded checker history Mismatch =
     (refusal : CheckError) × (refusal ≢ check_errors.OutOfMemory)
     × RefusesChecking checker history refusal
-RefusesOwn checker history OutOfMemory = Unit {0}
-RefusesOwn checker history _ = ⊥
+RefusesRecorded checker history OutOfMemory = Unit {0}
+RefusesRecorded checker history _ = ⊥
 
 -- Why the serial run of a plan is not completed: in a whole round no thread got a call, or memory
 -- was refused. Once it is completed, its history is judged.

@@ -21,7 +21,7 @@ use Rattle.jh_cli.specs.declared.error.CliError.TheVariants.{Element, History, C
 use Rattle.jh_cli.specs.declared.error.CliError.TheVariants.{HistoryFull, Mismatch, Thread}
 use Rattle.jh_cli.specs.declared.error.CliError.TheVariants.{OnlyForRegister, OnlyForListAppend}
 use Rattle.jh_cli.specs.declared.error.CliError.TheVariants.{BadPalette}
-use Rattle.jh_cli.specs.declared.error.CliError.TheVariants.{Unwritable, TimeMissing, Read, Write}
+use Rattle.jh_cli.specs.declared.error.CliError.TheVariants.{Unwritable, TimeMissing, SettingsRead, Read, Write}
 use Rattle.jh_cli.specs.declared.error.CliError.TheVariants.{OutOfMemory}
 
 abbrev pub error_status : CliError → ℕ
@@ -41,28 +41,30 @@ error_status OnlyForListAppend = 3
 error_status BadPalette = 3
 error_status Unwritable = 3
 error_status (TimeMissing index) = 3
+error_status SettingsRead = 4
 error_status Read = 4
 error_status Write = 4
 error_status OutOfMemory = 4
 
 -- The text of an error that is the commands' own. All others are errors of a crate below, whose
 -- text no clause knows.
-abbrev pub own_text : CliError → Option (List ℕ)
-own_text EnvironmentMissing = Some (codes "environment missing")
-own_text HistoryFull = Some (codes "history full")
-own_text Mismatch = Some (codes "mismatch")
-own_text Thread = Some (codes "thread failed")
-own_text OnlyForRegister = Some (codes "--initial: only for register")
-own_text OnlyForListAppend = Some (codes "--model: only for list-append")
-own_text BadPalette =
+abbrev pub command_text : CliError → Option (List ℕ)
+command_text EnvironmentMissing = Some (codes "environment missing")
+command_text HistoryFull = Some (codes "history full")
+command_text Mismatch = Some (codes "mismatch")
+command_text Thread = Some (codes "thread failed")
+command_text OnlyForRegister = Some (codes "--initial: only for register")
+command_text OnlyForListAppend = Some (codes "--model: only for list-append")
+command_text BadPalette =
     Some (codes "--palette: not kinds of cut, slow, loss, fix, pause, kill, bump, with commas between")
-own_text Unwritable = Some (codes "settings: generator too deep to be written again")
-own_text (TimeMissing index) =
+command_text Unwritable = Some (codes "settings: generator too deep to be written again")
+command_text (TimeMissing index) =
     Some (codes "operation " ++ (decimal index ++ codes ": time missing"))
-own_text Read = Some (codes "read failed")
-own_text Write = Some (codes "write failed")
-own_text OutOfMemory = Some (codes "out of memory")
-own_text error = None
+command_text SettingsRead = Some (codes "settings: read failed")
+command_text Read = Some (codes "read failed")
+command_text Write = Some (codes "write failed")
+command_text OutOfMemory = Some (codes "out of memory")
+command_text error = None
 
 -- what an error of the reader of EDN means to a command
 abbrev pub edn_error : EdnError.the_data → CliError

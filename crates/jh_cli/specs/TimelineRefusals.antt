@@ -8,6 +8,7 @@ use Rattle.jh_independent.specs.Refusals.{RefusesKeys, keys_question}
 use Rattle.jh_independent.specs.declared.error.KeysError.{KeysError}
 use Rattle.jh_independent.specs.declared.error.KeysError.TheVariants as KeysErrors
 use Rattle.jh_checkers.specs.declared.finding.Judging.{Judging}
+use Rattle.jh_edn.specs.Edn.{Edn}
 use Rattle.jh_ops.specs.Operation.{Operation}
 use Rattle.jh_timeline_sections.specs.HistoryAndRest.{AreHistoryAndRest, RefusesHistoryAndRest}
 use Rattle.jh_cli.specs.CheckRefusals.{RefusesWhole}
@@ -49,18 +50,18 @@ RefusesPage question history e = RefusesShowing question.independent question.ju
 
 -- Why an input is refused, where for its text then as its parts are. A failed read and out of
 -- memory may come with any input; a failed write comes only where there is something to write.
-abbrev pub RefusesTimeline : TimelineQuestion → List ℕ → CliError → Type 0
-RefusesTimeline question input OnlyForRegister = TakesInitialBy question.judging → ⊥
-RefusesTimeline question input OnlyForListAppend =
+abbrev pub RefusesTimeline : TimelineQuestion → List Edn → List ℕ → CliError → Type 0
+RefusesTimeline question steps input OnlyForRegister = TakesInitialBy question.judging → ⊥
+RefusesTimeline question steps input OnlyForListAppend =
     TakesInitialBy question.judging × (TakesModelBy question.judging → ⊥)
-RefusesTimeline question input (Input error) =
+RefusesTimeline question steps input (Input error) =
     IsInputError error × RefusesHistoryAndRest input (reading.Text error)
-RefusesTimeline question input (History error) =
+RefusesTimeline question steps input (History error) =
     IsHistoryError error × RefusesHistoryAndRest input (reading.History error)
-RefusesTimeline question input Read = Unit {0}
-RefusesTimeline question input Write =
-    (status : ℕ) × (output : List ℕ) × IsTimelineTextOf question input status output
-RefusesTimeline question input OutOfMemory = Unit {0}
-RefusesTimeline question input e =
+RefusesTimeline question steps input Read = Unit {0}
+RefusesTimeline question steps input Write =
+    (status : ℕ) × (output : List ℕ) × IsTimelineTextOf question steps input status output
+RefusesTimeline question steps input OutOfMemory = Unit {0}
+RefusesTimeline question steps input e =
     (history : List Operation) × (below : List ℕ) × AreHistoryAndRest input history below
     × RefusesFinding question.independent question.judging history e

@@ -2,6 +2,7 @@
 -- (this project's own).
 use Rattle.std.specs.Prelude.{◌≡◌, ℕ, Bool, true, false, List, [], ◌∷◌, IsSomeAnd, Option}
 use Rattle.std.specs.Prelude.{Some, None}
+use Rattle.jh_edn.specs.Edn.{Edn}
 use Rattle.jh_checkers.specs.Findings.{IsFinding, finding_verdict}
 use Rattle.jh_checkers.specs.declared.finding.Finding.{Finding}
 use Rattle.jh_checkers.specs.Lines.{finding_line}
@@ -53,13 +54,13 @@ found_status (Some found) = verdict_status (finding_verdict found)
 -- what a page shows of a history as one: a title, the line of its checker, and one section, which
 -- has no heading
 pub record ShowsWhole
-    (judging : Option Judging) (choice : Choice) (history : List Operation) (status : ℕ)
+    (judging : Option Judging) (choice : Choice) (steps : List Edn) (history : List Operation) (status : ℕ)
     (title line : List ℕ)
     (sections : List Section) : Type 0 where
   pub found : Option Finding
   pub judged : IsFoundBy judging history found
   pub section : Section
-  pub shown : IsSectionOf [] history found choice section
+  pub shown : IsSectionOf [] history steps found choice section
   pub alone : sections ≡ section ∷ []
   pub titled : title ≡ history_title found
   pub top : line ≡ found_line found
@@ -99,26 +100,27 @@ pub record ShowsKeys
 -- ---- the page
 
 -- by keys, if they are independent, or as one
-abbrev pub ShowsBy : Bool → TimelineQuestion → List Operation → ℕ → (title line : List ℕ) → List Section → Type 0
-ShowsBy true question history status title line sections =
+abbrev pub ShowsBy : Bool → TimelineQuestion → List Edn → List Operation → ℕ → (title line : List ℕ) → List Section → Type 0
+ShowsBy true question steps history status title line sections =
     ShowsKeys question.judging question.choice history status title line sections
-ShowsBy false question history status title line sections =
-    ShowsWhole question.judging question.choice history status title line sections
+ShowsBy false question steps history status title line sections =
+    ShowsWhole question.judging question.choice steps history status title line sections
 
-abbrev pub Shows : TimelineQuestion → List Operation → ℕ → (title line : List ℕ) → List Section → Type 0
-Shows question history status title line sections =
-    ShowsBy question.independent question history status title line sections
+abbrev pub Shows : TimelineQuestion → List Edn → List Operation → ℕ → (title line : List ℕ) → List Section → Type 0
+Shows question steps history status title line sections =
+    ShowsBy question.independent question steps history status title line sections
 
 -- the page of a history, with a text below; and a notice where that text says another verdict
-abbrev pub IsPage : TimelineQuestion → List Operation → List ℕ → ℕ → List ℕ → Type 0
-IsPage question history below status output =
+abbrev pub IsPage : TimelineQuestion → List Edn → List Operation → List ℕ → ℕ → List ℕ → Type 0
+IsPage question steps history below status output =
     (top : Top) × (sections : List Section)
-    × Shows question history status top.title.items top.line.items sections
+    × Shows question steps history status top.title.items top.line.items sections
     × (top.notice.items ≡ notice_of question.judging status (said_verdict below))
     × (output ≡ page_text top sections below)
 
--- for an input, with the exit status: the page of the history in it, with what else it has below
-abbrev pub IsTimelineTextOf : TimelineQuestion → List ℕ → ℕ → List ℕ → Type 0
-IsTimelineTextOf question input status output =
+-- for an input, with the exit status: the page of the history in it, which these steps of a schedule name,
+-- with what else it has below
+abbrev pub IsTimelineTextOf : TimelineQuestion → List Edn → List ℕ → ℕ → List ℕ → Type 0
+IsTimelineTextOf question steps input status output =
     (history : List Operation) × (below : List ℕ) × AreHistoryAndRest input history below
-    × IsPage question history below status output
+    × IsPage question steps history below status output

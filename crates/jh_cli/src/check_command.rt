@@ -9,7 +9,7 @@ ghost use Rattle.std.specs.Prelude.{MatchResult};
 ghost use Rattle.jh_ops.specs.Operation.{operations};
 ghost use Rattle.jh_cli.specs.CheckRefusals.{RefusesByKeys, RefusesCheck, RefusesJudging};
 ghost use Rattle.jh_cli.specs.CheckRefusals.{RefusesWhole};
-ghost use Rattle.jh_cli.specs.CheckText.{IsCheckTextOf, IsHistoryText};
+ghost use Rattle.jh_cli.specs.CheckText.{IsCheckTextOf, IsCheckLine};
 ghost use Rattle.jh_cli.specs.CheckText.{TakesInitial, TakesModel};
 ghost use Rattle.jh_cli.specs.Outputs.{OnInput, WritesOutput};
 ghost use Rattle.jh_reports.specs.Judged.{IsKeysText, IsTextBy, IsWholeText};
@@ -111,7 +111,7 @@ fn judge_history<T: Threads + Wait + Sync>(
 ) -> Result<Output, CliError>
     requires { (1 ≤ question.threads) × (question.threads ≤ 16) }
     ensures { MatchResult result
-        (λ output. IsHistoryText question (operations history.now)
+        (λ output. IsCheckLine question (operations history.now)
         output.status output.text.items)
         (RefusesJudging question (operations history.now)) }
 {

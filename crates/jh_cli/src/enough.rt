@@ -5,10 +5,9 @@ ghost use Rattle.jh_ops.specs.Operation.{operation, operations};
 ghost use Rattle.jh_cli.specs.Enough as rule;
 
 use crate::check_command::CheckQuestion;
-use crate::output::{DONE, UNKNOWN};
 use jh_checkers::Checker;
 use jh_ops::{Kind, Op};
-use jh_reports::Output;
+use jh_reports::{DONE, Output, UNKNOWN};
 use std::alloc::{AllocError, Global};
 
 /// Whether a client's call that the checker judges ended `:ok`.

@@ -10,17 +10,17 @@ ghost use Rattle.jh_step_texts.specs.StepText.{parsed_step};
 ghost use Rattle.jh_nemesis.specs.Steps.{FitsNodes, StepFits, answers_of, state_after_all};
 ghost use Rattle.jh_cli.specs.EnvRefusals.{RefusesEnv, RefusesSteps, RefusesEnvValues};
 ghost use Rattle.jh_cli.specs.EnvText as text;
-ghost use Rattle.jh_cli.specs.EnvText.{IsEnvText, IsEnvTextOf, IsReport, answer_lines};
+ghost use Rattle.jh_cli.specs.EnvText.{IsEnvText, IsEnvTextOf, IsEnvReport, answer_lines};
 ghost use Rattle.jh_reports.specs.Lines.{line};
 ghost use Rattle.jh_cli.specs.Outputs.{OnInput, WritesOutput};
 ghost use Rattle.jh_cli.specs.Status.{step_error};
 
 use crate::error::CliError;
-use crate::output::{DONE, MAX_READS, finish};
+use crate::output::{MAX_READS, finish};
 use jh_edn::{Value, read_all};
 use jh_env::{Nodes, env_of_value};
 use jh_nemesis::{Nemesis, Step, StepAnswer};
-use jh_reports::{Output, write_active, write_environment};
+use jh_reports::{DONE, Output, write_active, write_environment};
 use jh_step_texts::{StepTextError, step_of_value};
 use std::alloc::{AllocError, Global};
 use std::io::{Read, Write};
@@ -97,7 +97,7 @@ fn element_error(number: u64, error: StepTextError) -> CliError
 /// What is written for these steps.
 fn report(alloc: Global, mut nemesis: Nemesis, steps: Vec<Step>) -> Result<Vec<u8>, AllocError>
     requires { All (StepFits nemesis.state) steps.items }
-    ensures { IfOk result (λ output. IsReport nemesis.state steps.items output.items) }
+    ensures { IfOk result (λ output. IsEnvReport nemesis.state steps.items output.items) }
 {
     let mut output = Vec::new(alloc);
     answer_steps(alloc, &mut nemesis, steps, &mut output)?;

@@ -3,9 +3,8 @@
 
 ghost use Rattle.std.specs.Prelude.{◌≡◌, IfSome, OnOk};
 ghost use Rattle.std.specs.Io.KnownBytes.{Appends};
-ghost use Rattle.jh_cli.specs.Status.{own_text, error_status};
+ghost use Rattle.jh_cli.specs.Status.{command_text, error_status};
 
-use crate::output::{FAILED, REFUSED};
 use jh_check::CheckError;
 use jh_edn::EdnError;
 use jh_env::EnvTextError;
@@ -13,6 +12,7 @@ use jh_histories::ReadHistoryError;
 use jh_independent::KeysError;
 use jh_ops::HistoryError;
 use jh_plots::PlotError;
+use jh_reports::{FAILED, REFUSED};
 use jh_search::SearchError;
 use jh_settings::SettingsError;
 use jh_simnode::{RunError, WorldError};
@@ -22,7 +22,7 @@ use std::error::Error;
 use std::fmt::{self, Display, Formatter};
 use std::io::{self, Write};
 
-/// Why a command ended early. `Read`, `Write`, `Thread` and `OutOfMemory` are errors of the
+/// Why a command ended early. `SettingsRead`, `Read`, `Write`, `Thread` and `OutOfMemory` are errors of the
 /// machine, `Run`, `HistoryFull` and `Mismatch` say that a run was not completed, `OnlyForRegister`,
 /// `OnlyForListAppend` and `BadPalette` refuse the arguments, and all others what was read.
 #[derive(Debug, Drop)]
@@ -60,6 +60,8 @@ pub enum CliError {
     Unwritable,
     /// The operation at this index has no time, and a plot needs one of each. Indexes count from 0.
     TimeMissing { index: usize },
+    /// The file of settings could not be read.
+    SettingsRead,
     /// The input could not be read.
     Read,
     /// The output could not be written.
@@ -90,6 +92,7 @@ impl CliError {
             | CliError::HistoryFull
             | CliError::Mismatch
             | CliError::Thread
+            | CliError::SettingsRead
             | CliError::Read
             | CliError::Write
             | CliError::OutOfMemory => FAILED,
@@ -99,14 +102,14 @@ impl CliError {
     /// Writes the text of the error, without `jeprun: ` before it or a line feed behind it.
     pub fn text<W: Write>(&self, writer: &mut W) -> io::Result<()>
         ensures { OnOk result
-            (IfSome (own_text self.now) (Appends (W.contents writer.old) (W.contents writer.new))) }
+            (IfSome (command_text self.now) (Appends (W.contents writer.old) (W.contents writer.new))) }
     {
         write!(writer, "{self}")
     }
 }
 
 impl Display for CliError {
-    ghost output = { own_text };
+    ghost output = { command_text };
 
     fn fmt<W: fmt::Write>(&self, f: &mut Formatter<W>) -> fmt::Result {
         match self {
@@ -128,6 +131,7 @@ impl Display for CliError {
             ),
             CliError::Unwritable => f.write_str("settings: generator too deep to be written again"),
             CliError::TimeMissing { index } => write!(f, "operation {index}: time missing"),
+            CliError::SettingsRead => f.write_str("settings: read failed"),
             CliError::Read => f.write_str("read failed"),
             CliError::Write => f.write_str("write failed"),
             CliError::OutOfMemory => f.write_str("out of memory"),

@@ -19,7 +19,6 @@ mod timeline_command;
 pub use check_command::{CheckQuestion, check_run};
 pub use env_command::env_run;
 pub use error::CliError;
-pub use output::{DONE, FAILED, INVALID, REFUSED, UNKNOWN};
 pub use plot_command::plot_run;
 pub use run_command::run_run;
 pub use search_command::{SearchQuestion, Show, search_run};

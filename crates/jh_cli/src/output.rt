@@ -9,21 +9,6 @@ use crate::error::CliError;
 use jh_reports::Output;
 use std::io::Write;
 
-/// Exit status of a command that did its work and found nothing wrong: a history that is valid, say.
-pub const DONE: u8 = 0;
-
-/// Exit status where a history is not valid, or a run fails.
-pub const INVALID: u8 = 1;
-
-/// Exit status where it is not known whether one does.
-pub const UNKNOWN: u8 = 2;
-
-/// Exit status where the arguments or the input are refused.
-pub const REFUSED: u8 = 3;
-
-/// Exit status where the machine failed, or a run was not completed.
-pub const FAILED: u8 = 4;
-
 /// The most reads that an input may take.
 pub(crate) const MAX_READS: u32 = 16_777_216;
 

@@ -10,12 +10,12 @@ ghost use Rattle.jh_cli.specs.PlotRefusals.{RefusesPlot, RefusesPlotting};
 ghost use Rattle.jh_cli.specs.PlotText.{IsPlotPage, IsPlotTextOf};
 
 use crate::error::CliError;
-use crate::output::{DONE, MAX_READS, finish};
+use crate::output::{MAX_READS, finish};
 use jh_bands::bands_of;
 use jh_ops::Op;
 use jh_plot_pages::write_plot_page;
 use jh_plots::{Plot, plot_of};
-use jh_reports::Output;
+use jh_reports::{DONE, Output};
 use jh_timeline_sections::read_history_and_rest;
 use std::alloc::{AllocError, Global};
 use std::io::{Read, Write};

@@ -10,8 +10,8 @@ ghost use Rattle.jh_checkers.specs.Findings.{IsFinding};
 ghost use Rattle.jh_judged_runs.specs.JudgedRuns.{run_judging};
 ghost use Rattle.jh_laws.specs.HistoryLines.{IsTextOfHistory, history_lines};
 ghost use Rattle.jh_cli.specs.Outputs.{OnInput, WritesOutput};
-ghost use Rattle.jh_cli.specs.RunInside.{own_error};
-ghost use Rattle.jh_cli.specs.RunRefusals.{RefusesRunBytes, RefusesOwn, RefusesRun, RefusesSerial};
+ghost use Rattle.jh_cli.specs.RunInside.{recorded_history_error};
+ghost use Rattle.jh_cli.specs.RunRefusals.{RefusesRunBytes, RefusesRecorded, RefusesRun, RefusesSerial};
 ghost use Rattle.jh_cli.specs.RunRefusals.{RefusesRunIn, RefusesThreads};
 ghost use Rattle.jh_cli.specs.RunText.{IsOutcome, IsRunOutput, IsRunText, IsRunTextOf};
 ghost use Rattle.jh_cli.specs.RunText.{IsSerialText, IsThreadsText};
@@ -135,7 +135,7 @@ fn threads_text<T: Threads + Wait + Sync>(
         Ok(nemesis) => nemesis,
         Err(error) => return Err(CliError::from(error)),
     };
-    let finding = match judge_own(alloc, plan, &history, budget) {
+    let finding = match judge_recorded(alloc, plan, &history, budget) {
         Ok(finding) => finding,
         Err(error) => return Err(error),
     };
@@ -190,8 +190,8 @@ fn run_over<L: Ledger + Send + Sync, T: Threads + Wait + Sync>(
 }
 
 /// What it means that the checker refuses the history of a run on threads.
-fn own_error(error: CheckError) -> CliError
-    ensures { result ≡ own_error error }
+fn recorded_history_error(error: CheckError) -> CliError
+    ensures { result ≡ recorded_history_error error }
 {
     match error {
         CheckError::OutOfMemory => CliError::OutOfMemory,
@@ -200,14 +200,19 @@ fn own_error(error: CheckError) -> CliError
 }
 
 /// What is found in the history of a run of the plan on threads.
-fn judge_own(alloc: Global, plan: &Plan, history: &[Op], budget: u64) -> Result<Finding, CliError>
+fn judge_recorded(
+    alloc: Global,
+    plan: &Plan,
+    history: &[Op],
+    budget: u64,
+) -> Result<Finding, CliError>
     ensures { MatchResult result
         (IsFinding (run_judging plan.now budget) (operations history.now))
-        (RefusesOwn (checker_of plan.now.settings.workload) (operations history.now)) }
+        (RefusesRecorded (checker_of plan.now.settings.workload) (operations history.now)) }
 {
     match check_history(alloc, history, run_judging(plan, budget)) {
         Ok(finding) => Ok(finding),
-        Err(error) => Err(own_error(error)),
+        Err(error) => Err(recorded_history_error(error)),
     }
 }
 

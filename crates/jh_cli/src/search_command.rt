@@ -15,9 +15,9 @@ ghost use Rattle.jh_cli.specs.SearchText.{IsSearchedText, IsShownText};
 ghost use Rattle.jh_cli.specs.SearchText.{candidate_comment, search_options, spread_asked};
 
 use crate::error::CliError;
-use crate::output::{DONE, INVALID, MAX_READS, UNKNOWN, finish};
+use crate::output::{MAX_READS, finish};
 use jh_edn::read_bytes;
-use jh_reports::Output;
+use jh_reports::{DONE, INVALID, Output, UNKNOWN};
 use jh_search::{
     Options, Palette, SearchError, SearchObserver, Searched, candidate, search_observed,
 };

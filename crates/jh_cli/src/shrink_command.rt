@@ -14,12 +14,12 @@ ghost use Rattle.jh_cli.specs.ShrinkText as text;
 ghost use Rattle.jh_cli.specs.ShrinkText.{IsRunFailure, IsShrinkTextOf, RunAnswers};
 
 use crate::error::CliError;
-use crate::output::{DONE, INVALID, MAX_READS, UNKNOWN, finish};
+use crate::output::{MAX_READS, finish};
 use jh_check::Verdict;
 use jh_edn::read_bytes;
 use jh_env::Nodes;
 use jh_judged_runs::judge_run;
-use jh_reports::{Output, write_line};
+use jh_reports::{DONE, INVALID, Output, UNKNOWN, write_line};
 use jh_settings::settings_of;
 use jh_settings_texts::value_of_entry;
 use jh_shrink::{Nobody, Observer, Shrunk, shrink_observed};

@@ -5,6 +5,7 @@
 ghost use Rattle.std.specs.Prelude.{◌≡◌, ◌≢◌, ◌↔◌, All, IfErr, IfOk, IsErrOf, IsTrue};
 ghost use Rattle.std.specs.Prelude.{MatchResult, None, Some, false, true};
 ghost use Rattle.std.specs.Option.{option_copied};
+ghost use Rattle.jh_edn.specs.View.{views};
 ghost use Rattle.jh_ops.specs.Operation.{operations};
 ghost use Rattle.jh_ops.specs.OperationWritten.{IsWritable};
 ghost use Rattle.jh_timeline_pages.specs.Page as pages;
@@ -19,11 +20,12 @@ ghost use Rattle.jh_cli.specs.TimelineText.{TakesInitialBy, TakesModelBy};
 use crate::check_command::{takes_initial, takes_model};
 use crate::error::CliError;
 use crate::notice::notice_of;
-use crate::output::{DONE, MAX_READS, finish};
+use crate::output::{MAX_READS, finish};
 use jh_checkers::{Finding, Judging, check_history};
+use jh_edn::Value;
 use jh_independent::{check_keys_serial, verdict_of_all};
 use jh_ops::Op;
-use jh_reports::{Output, finding_text, keys_text};
+use jh_reports::{DONE, Output, finding_text, keys_text};
 use jh_timeline_pages::{Section, Top, write_page};
 use jh_timeline_sections::{
     Choice, HistoryAndRest, read_history_and_rest, said_verdict, section_of, sections_of_keys,
@@ -63,6 +65,9 @@ struct Shown {
 /// valid or not judged, 1 where it is not valid, 2 where that is not known. All is read and judged,
 /// and the page made, before the first byte is written.
 ///
+/// The steps are those of the schedule of what recorded the history, as `jh_settings_texts::steps_in_settings`
+/// gives them: by them the page names the records of the nemesis that `run` wrote. There may be none.
+///
 /// Takes what the checker takes, O(n log n) for n records beside it, and memory for the text, the
 /// history and the page.
 ///
@@ -75,9 +80,10 @@ pub fn timeline_run<R: Read, W: Write>(
     reader: &mut R,
     writer: &mut W,
     question: TimelineQuestion,
+    steps: &[Value],
 ) -> Result<u8, CliError>
     ensures written { IfOk result (λ status. WritesOutput (R.remaining reader.old)
-        (IsTimelineTextOf question) status (W.contents writer.old) (W.contents writer.new)) }
+        (IsTimelineTextOf question (views steps.now)) status (W.contents writer.old) (W.contents writer.new)) }
     ensures asked { IsErrOf result CliError.OnlyForRegister
         ↔ (TakesInitialBy question.judging → ⊥) }
     ensures unread { IsErrOf result CliError.OnlyForRegister → reader.new ≡ reader.old }
@@ -85,7 +91,7 @@ pub fn timeline_run<R: Read, W: Write>(
         ↔ (TakesInitialBy question.judging × (TakesModelBy question.judging → ⊥)) }
     ensures unread_model { IsErrOf result CliError.OnlyForListAppend → reader.new ≡ reader.old }
     ensures refused { IfErr result (λ e. OnInput (R.remaining reader.old)
-        (λ input. RefusesTimeline question input e)) }
+        (λ input. RefusesTimeline question (views steps.now) input e)) }
     ensures unwritten { IfErr result (λ e. e ≢ CliError.Write → writer.new ≡ writer.old) }
 {
     if !takes_initial_by(question.judging) {
@@ -95,7 +101,7 @@ pub fn timeline_run<R: Read, W: Write>(
         return Err(CliError::OnlyForListAppend);
     }
     let parts = read_history_and_rest(alloc, reader, MAX_READS)?;
-    let output = page_of(alloc, parts, question)?;
+    let output = page_of(alloc, parts, question, steps)?;
     finish(output, writer)
 }
 
@@ -156,10 +162,15 @@ fn status_of(found: Option<&Finding>) -> u8
 }
 
 /// What a page shows of a history.
-fn shown_of(alloc: Global, history: Vec<Op>, question: TimelineQuestion) -> Result<Shown, CliError>
+fn shown_of(
+    alloc: Global,
+    history: Vec<Op>,
+    question: TimelineQuestion,
+    steps: &[Value],
+) -> Result<Shown, CliError>
     requires { All (λ op. IsWritable op.process) history.items }
     ensures shows { MatchResult result
-        (λ shown. Shows question (operations history.items)
+        (λ shown. Shows question (views steps.now) (operations history.items)
         shown.status shown.title.items shown.line.items shown.sections.items)
         (RefusesPage question (operations history.items)) }
     ensures writable { IfOk result (λ shown.
@@ -169,7 +180,7 @@ fn shown_of(alloc: Global, history: Vec<Op>, question: TimelineQuestion) -> Resu
     if question.independent {
         shown_by_keys(alloc, &history, question)
     } else {
-        shown_whole(alloc, history, question)
+        shown_whole(alloc, history, question, steps)
     }
 }
 
@@ -178,10 +189,11 @@ fn shown_whole(
     alloc: Global,
     history: Vec<Op>,
     question: TimelineQuestion,
+    steps: &[Value],
 ) -> Result<Shown, CliError>
     requires { All (λ op. IsWritable op.process) history.items }
     ensures shows { MatchResult result
-        (λ shown. ShowsWhole question.judging question.choice (operations history.items)
+        (λ shown. ShowsWhole question.judging question.choice (views steps.now) (operations history.items)
         shown.status shown.title.items shown.line.items shown.sections.items)
         (RefusesShowing false question.judging (operations history.items)) }
     ensures writable { IfOk result (λ shown.
@@ -196,6 +208,7 @@ fn shown_whole(
         alloc,
         Vec::new(alloc),
         history,
+        steps,
         found.as_ref(),
         question.choice,
     )?;
@@ -302,10 +315,11 @@ fn page_of(
     alloc: Global,
     parts: HistoryAndRest,
     question: TimelineQuestion,
+    steps: &[Value],
 ) -> Result<Output, CliError>
     requires { All (λ op. IsWritable op.process) parts.history.items }
     ensures { MatchResult result
-        (λ output. IsPage question (operations parts.history.items) parts.below.items
+        (λ output. IsPage question (views steps.now) (operations parts.history.items) parts.below.items
         output.status output.text.items)
         (RefusesPage question (operations parts.history.items)) }
 {
@@ -315,7 +329,7 @@ fn page_of(
         title,
         line,
         sections,
-    } = shown_of(alloc, history, question)?;
+    } = shown_of(alloc, history, question, steps)?;
     let said = said_verdict(&below);
     let notice = notice_of(alloc, question.judging, status, said)?;
     let top = Top {

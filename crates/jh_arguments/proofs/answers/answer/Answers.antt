@@ -1,5 +1,10 @@
 use Rattle.std.proofs.Common.{refl, sym, subst, map, rules, inl, inr, None}
-use Rattle.jh_arguments.proofs.AnswerLemmas.{Ends, asked_by, asked_test_by, command_ends, refused_ends, test_ends}
+use Rattle.std.specs.Prelude.{List}
+use Rattle.clap.specs.Words.{subcommand_rows_of}
+use Rattle.jh_edn.specs.View.{views}
+use Rattle.jh_edn.specs.declared.value.Value.{Value}
+use Rattle.jh_arguments.specs.Answers.{GivesSteps}
+use Rattle.jh_arguments.proofs.AnswerLemmas.{Ends, asked_by, asked_test_by, command_ends, refused_ends, test_ends, unscheduled_ends, without_steps}
 use Rattle.jh_arguments.proofs.answers.answer.Given as given
 use Rattle.jh_arguments.proofs.answers.answer.Goals as goal
 
@@ -28,6 +33,21 @@ pub returns-in-Err-clause-failed_unwritten : goal.returns-in-Err-clause-failed_u
 returns-in-Err-clause-failed_unwritten g c =
     (refused_ends (map g.S.AsStr.text c.args.arguments.now) (g.R.Read.remaining c.args.streams.now.reader) None None None c.args.streams.now.reader c.args.streams.now.reader c.args.streams.now.writer c.args.streams.now.writer
     c.in-Err.error c.in-Err.ensures.refused refl refl).failed_unwritten
+
+pub returns-in-Err-clause-unscheduled : goal.returns-in-Err-clause-unscheduled
+returns-in-Err-clause-unscheduled g c =
+    (refused_ends (map g.S.AsStr.text c.args.arguments.now) (g.R.Read.remaining c.args.streams.now.reader) None None None c.args.streams.now.reader c.args.streams.now.reader c.args.streams.now.writer c.args.streams.now.writer
+    c.in-Err.error c.in-Err.ensures.refused refl refl).unscheduled
+
+pub returns-in-Err-clause-unscheduled_unread : goal.returns-in-Err-clause-unscheduled_unread
+returns-in-Err-clause-unscheduled_unread g c =
+    (refused_ends (map g.S.AsStr.text c.args.arguments.now) (g.R.Read.remaining c.args.streams.now.reader) None None None c.args.streams.now.reader c.args.streams.now.reader c.args.streams.now.writer c.args.streams.now.writer
+    c.in-Err.error c.in-Err.ensures.refused refl refl).unscheduled_unread
+
+pub returns-in-Err-clause-unscheduled_unwritten : goal.returns-in-Err-clause-unscheduled_unwritten
+returns-in-Err-clause-unscheduled_unwritten g c =
+    (refused_ends (map g.S.AsStr.text c.args.arguments.now) (g.R.Read.remaining c.args.streams.now.reader) None None None c.args.streams.now.reader c.args.streams.now.reader c.args.streams.now.writer c.args.streams.now.writer
+    c.in-Err.error c.in-Err.ensures.refused refl refl).unscheduled_unwritten
 
 pub returns-in-Err-clause-unfinished : goal.returns-in-Err-clause-unfinished
 returns-in-Err-clause-unfinished g c =
@@ -64,6 +84,15 @@ returns-in-Some-clause-failed g c = (tested g c).failed
 pub returns-in-Some-clause-failed_unwritten : goal.returns-in-Some-clause-failed_unwritten
 returns-in-Some-clause-failed_unwritten g c = (tested g c).failed_unwritten
 
+pub returns-in-Some-clause-unscheduled : goal.returns-in-Some-clause-unscheduled
+returns-in-Some-clause-unscheduled g c = (tested g c).unscheduled
+
+pub returns-in-Some-clause-unscheduled_unread : goal.returns-in-Some-clause-unscheduled_unread
+returns-in-Some-clause-unscheduled_unread g c = (tested g c).unscheduled_unread
+
+pub returns-in-Some-clause-unscheduled_unwritten : goal.returns-in-Some-clause-unscheduled_unwritten
+returns-in-Some-clause-unscheduled_unwritten g c = (tested g c).unscheduled_unwritten
+
 pub returns-in-Some-clause-unfinished : goal.returns-in-Some-clause-unfinished
 returns-in-Some-clause-unfinished g c = (tested g c).unfinished
 
@@ -76,14 +105,16 @@ unreachable-requires g c = elim c.in-Ok.ensures.asked [
 
 -- a command is asked for
 commanded : (g : given.Over) (c : goal.Joined-matches-2 g)
-    → Ends {R = g.row.R.Denot} {W = g.row.W.Denot} (map g.S.AsStr.text c.args.arguments.now) (g.R.Read.remaining c.args.streams.now.reader) (g.R.Read.remaining c.run.new.reader)
-    (g.W.Write.contents c.args.streams.now.writer) (g.W.Write.contents c.run.new.writer) c.args.streams.now.reader c.run.new.reader c.args.streams.now.writer c.run.new.writer
+    → Ends {R = g.row.R.Denot} {W = g.row.W.Denot} (map g.S.AsStr.text c.args.arguments.now) (g.R.Read.remaining c.args.streams.now.reader) (g.R.Read.remaining c.do_command.new.reader)
+    (g.W.Write.contents c.args.streams.now.writer) (g.W.Write.contents c.do_command.new.writer) c.args.streams.now.reader c.do_command.new.reader c.args.streams.now.writer c.do_command.new.writer
     c.of_command.result
 commanded g c =
-    let says = c.run.ensures in
-    let asked = asked_by _ c.in-Ok.matches c.in-Some-command_of.command c.in-Ok.ensures.found c.in-Some-command_of.ensures.parsed in
-    let ends = command_ends _ (g.R.Read.remaining c.args.streams.now.reader) (g.R.Read.remaining c.run.new.reader) (g.W.Write.contents c.args.streams.now.writer) (g.W.Write.contents c.run.new.writer)
-    c.args.streams.now.reader c.run.new.reader c.args.streams.now.writer c.run.new.writer c.in-Some-command_of.command c.run.result asked
+    let says = c.do_command.ensures in
+    let steps = views c.deref.result.now in
+    let gives = subst (λ (items : List Value). GivesSteps (subcommand_rows_of c.in-Ok.matches) (views items)) (sym c.deref.ensures.value) c.in-Ok-steps_of.ensures.steps in
+    let asked = asked_by _ c.in-Ok.matches c.in-Some-command_of.command steps c.in-Ok.ensures.found c.in-Some-command_of.ensures.parsed gives in
+    let ends = command_ends _ (g.R.Read.remaining c.args.streams.now.reader) (g.R.Read.remaining c.do_command.new.reader) (g.W.Write.contents c.args.streams.now.writer) (g.W.Write.contents c.do_command.new.writer)
+    c.args.streams.now.reader c.do_command.new.reader c.args.streams.now.writer c.do_command.new.writer c.in-Some-command_of.command steps c.do_command.result asked
     (record {
       asked = says.asked;
       unread = says.unread;
@@ -96,8 +127,8 @@ commanded g c =
       named = says.named;
       unread_unnamed = says.unread_unnamed;
     }) says.written says.refused says.unwritten in
-    subst (Ends (map g.S.AsStr.text c.args.arguments.now) (g.R.Read.remaining c.args.streams.now.reader) (g.R.Read.remaining c.run.new.reader) (g.W.Write.contents c.args.streams.now.writer)
-    (g.W.Write.contents c.run.new.writer) c.args.streams.now.reader c.run.new.reader c.args.streams.now.writer c.run.new.writer) (sym c.of_command.ensures) ends
+    subst (Ends (map g.S.AsStr.text c.args.arguments.now) (g.R.Read.remaining c.args.streams.now.reader) (g.R.Read.remaining c.do_command.new.reader) (g.W.Write.contents c.args.streams.now.writer)
+    (g.W.Write.contents c.do_command.new.writer) c.args.streams.now.reader c.do_command.new.reader c.args.streams.now.writer c.do_command.new.writer) (sym c.of_command.ensures) ends
 
 pub returns-clause-done : goal.returns-clause-done
 returns-clause-done g c = (commanded g c).done
@@ -116,6 +147,15 @@ returns-clause-failed g c = (commanded g c).failed
 
 pub returns-clause-failed_unwritten : goal.returns-clause-failed_unwritten
 returns-clause-failed_unwritten g c = (commanded g c).failed_unwritten
+
+pub returns-clause-unscheduled : goal.returns-clause-unscheduled
+returns-clause-unscheduled g c = (commanded g c).unscheduled
+
+pub returns-clause-unscheduled_unread : goal.returns-clause-unscheduled_unread
+returns-clause-unscheduled_unread g c = (commanded g c).unscheduled_unread
+
+pub returns-clause-unscheduled_unwritten : goal.returns-clause-unscheduled_unwritten
+returns-clause-unscheduled_unwritten g c = (commanded g c).unscheduled_unwritten
 
 pub returns-clause-unfinished : goal.returns-clause-unfinished
 returns-clause-unfinished g c = (commanded g c).unfinished

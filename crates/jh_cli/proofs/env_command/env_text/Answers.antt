@@ -1,6 +1,6 @@
 use Rattle.std.proofs.Common.{◌-◌, drop, length, rules, take}
 use Rattle.jh_edn.specs.View.{view, views}
-use Rattle.jh_cli.specs.EnvText.{IsReport, IsEnvWithSteps}
+use Rattle.jh_cli.specs.EnvText.{IsEnvReport, IsEnvWithSteps}
 use Rattle.jh_nemesis.specs.State.{first_state}
 use Rattle.std.proofs.lemmas.Result.{err_from_is_err_and}
 use Rattle.jh_cli.proofs.RefusalLemmas.{first_refused, others_refused, parts_of}
@@ -36,5 +36,5 @@ returns c =
       at_start = c.in_ok-env.ensures.0;
       steps_parsed = rw c.nodes.ensures.names at c.in_ok-steps.ensures.parsed;
     } in
-    let report : IsReport (first_state env) steps c.in_ok-report.field-0.items = rw c.new-nemesis.ensures.state at c.in_ok-report.ensures in
+    let report : IsEnvReport (first_state env) steps c.in_ok-report.field-0.items = rw c.new-nemesis.ensures.state at c.in_ok-report.ensures in
     (env, steps, is_parsed, report)

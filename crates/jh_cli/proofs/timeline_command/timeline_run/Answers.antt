@@ -1,5 +1,6 @@
 use Rattle.std.specs.Prelude.{IfSome}
 use Rattle.std.proofs.lemmas.Result.{err_from_is_err_and}
+use Rattle.jh_edn.specs.View.{views}
 use Rattle.jh_ops.specs.Operation.{operations}
 use Rattle.jh_cli.specs.TimelineRefusals.{RefusesTimeline}
 use Rattle.jh_cli.specs.TimelineText.{IsTimelineTextOf}
@@ -11,21 +12,21 @@ pub returns-in_err-parts-clause-refused : goal.returns-in_err-parts-clause-refus
 returns-in_err-parts-clause-refused g c =
     let p = err_from_is_err_and c.from_residual.result c.from_residual.ensures.1 in
     rw (p.1, p.2) (on_input _ _ (g.R.Read.remaining c.args.reader.now) (λ input refused.
-    parts_refused c.args.question input c.in_err-parts.field-0.0 refused
+    parts_refused c.args.question (views c.args.steps.now) input c.in_err-parts.field-0.0 refused
     ) c.in_err-parts.ensures.refused)
 
 pub returns-clause-written : goal.returns-clause-written
 returns-clause-written g c =
     let known = g.R.Read.remaining c.args.reader.now in
-    let goes : IfSome known (λ input. IsTimelineTextOf c.args.question input c.in_ok-output.output.status c.in_ok-output.output.text.items) =
+    let goes : IfSome known (λ input. IsTimelineTextOf c.args.question (views c.args.steps.now) input c.in_ok-output.output.status c.in_ok-output.output.text.items) =
     on_input _ _ known (λ input is_parsed. (operations c.in_ok-parts.parts.history.items, c.in_ok-parts.parts.below.items, is_parsed, c.in_ok-output.ensures)) c.in_ok-parts.ensures.parsed in
-    output_written (IsTimelineTextOf c.args.question) known (g.W.Write.contents c.args.writer.now) (g.W.Write.contents c.finish.new.writer) c.finish.result c.in_ok-output.output.status c.in_ok-output.output.text.items
+    output_written (IsTimelineTextOf c.args.question (views c.args.steps.now)) known (g.W.Write.contents c.args.writer.now) (g.W.Write.contents c.finish.new.writer) c.finish.result c.in_ok-output.output.status c.in_ok-output.output.text.items
     goes c.finish.ensures.status c.finish.ensures.written
 
 pub returns-clause-refused : goal.returns-clause-refused
 returns-clause-refused g c =
     let known = g.R.Read.remaining c.args.reader.now in
-    let goes : IfSome known (λ input. IsTimelineTextOf c.args.question input c.in_ok-output.output.status c.in_ok-output.output.text.items) =
+    let goes : IfSome known (λ input. IsTimelineTextOf c.args.question (views c.args.steps.now) input c.in_ok-output.output.status c.in_ok-output.output.text.items) =
     on_input _ _ known (λ input is_parsed. (operations c.in_ok-parts.parts.history.items, c.in_ok-parts.parts.below.items, is_parsed, c.in_ok-output.ensures)) c.in_ok-parts.ensures.parsed in
-    output_refused (IsTimelineTextOf c.args.question) (RefusesTimeline c.args.question) known c.finish.result c.in_ok-output.output.status c.in_ok-output.output.text.items
+    output_refused (IsTimelineTextOf c.args.question (views c.args.steps.now)) (RefusesTimeline c.args.question (views c.args.steps.now)) known c.finish.result c.in_ok-output.output.status c.in_ok-output.output.text.items
     (λ input is. (c.in_ok-output.output.status, c.in_ok-output.output.text.items, is)) goes c.finish.ensures.failed
