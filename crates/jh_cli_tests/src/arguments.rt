@@ -238,19 +238,22 @@ Options:
       --independent      Shows each key by itself; values are tuples of a key and a value
       --from <INDEX>     The first record that is shown, from 0
       --to <INDEX>       The record behind the last one that is shown
+      --settings <FILE>  The settings of the run that is shown, to name its steps
   -h, --help             Print help
 
-It writes an HTML page: each operation as a bar, each fault as a line, and with --workload what
-the checker finds, on top and as marks. It reads what run prints as well. Of more than 2,000
-records it shows 1,000, around the first mark, unless --from or --to choose others. With
---independent each key has a section of its own, those of keys that are not valid first.
+It writes an HTML page: each operation as a bar, each fault as a shade, and with --workload what
+the checker finds, on top and as marks. It reads what run and drive print as well; --settings
+names the file of settings that run was given, so that the page says its steps in words. Of more
+than 2,000 records it shows 1,000, around the first mark, unless --from or --to choose others.
+With --independent each key has a section of its own, those of keys that are not valid first.
 
 Exit status: 0 valid or not judged, 1 not valid, 2 unknown, 3 refused arguments or input,
 4 where memory ran out, or a read or a write failed
 
 Examples:
   jeprun timeline --workload register < examples/check/register-stale.edn > stale.html
-  jeprun run < examples/run/quorum-register.toml | jeprun timeline --workload register --initial 0 > run.html
+  jeprun run < examples/run/quorum-register.toml > run.edn
+  jeprun timeline --workload register --initial 0 --settings examples/run/quorum-register.toml < run.edn > run.html
 § jeprun plot --help → 0
 Writes a page that plots latencies and rates of a history, which is read from standard input as EDN
 

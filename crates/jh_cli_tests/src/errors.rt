@@ -26,6 +26,7 @@ fn error_of(name: &str) -> Option<CliError> {
         "thread" => Some(CliError::Thread),
         "thread of a search" => Some(CliError::from(SearchError::Thread)),
         "unwritable" => Some(CliError::Unwritable),
+        "settings read" => Some(CliError::SettingsRead),
         "read" => Some(CliError::Read),
         "write" => Some(CliError::Write),
         "memory" => Some(CliError::OutOfMemory),
@@ -64,6 +65,7 @@ fn names_errors(rt: HostRuntime) {
 § thread → 4 thread failed
 § thread of a search → 4 thread failed
 § unwritable → 3 settings: generator too deep to be written again
+§ settings read → 4 settings: read failed
 § read → 4 read failed
 § write → 4 write failed
 § memory → 4 out of memory

@@ -2,7 +2,7 @@
 //! on.
 
 use crate::rows::{answer_once, command, with_status};
-use jh_arguments::run;
+use jh_arguments::do_command;
 use jh_cli::CliError;
 use jh_shrink::Nobody;
 use std::alloc::Global;
@@ -120,7 +120,15 @@ fn answer_by_bytes<T: Threads + Wait + Sync>(
         left: FAULTS.as_bytes(),
     };
     let command = command(alloc, "jeprun env")?;
-    match run(rt, alloc, command, &mut reader, &mut writer, &mut Nobody) {
+    match do_command(
+        rt,
+        alloc,
+        command,
+        &[],
+        &mut reader,
+        &mut writer,
+        &mut Nobody,
+    ) {
         Ok(status) => with_status(alloc, status, &writer.taken),
         Err(CliError::Write) => with_status(alloc, CliError::Write.status(), &writer.taken),
         Err(_) => None,

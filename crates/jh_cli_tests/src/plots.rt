@@ -51,7 +51,7 @@ fn histories_are_plotted_with_their_faults(rt: HostRuntime) {
 → 0
 <h2>:read, calls: 1</h2>
 <g class="shades">
-<path d="M449 0V-299H899V0z"><title>1 [:pause [&quot;n1&quot;]]</title></path>
+<path d="M449 0V-299H899V0z"><title>1: pause n1</title></path>
 <path class="ok" d="M0-299h0"/>
 <path class="fail" d=""/>
 <path class="p50" d="M899-299 h0"/>

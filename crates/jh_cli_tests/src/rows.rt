@@ -10,7 +10,7 @@ ghost use Rattle.jh_arguments.specs.Commands.{HasNumbersInRange};
 
 use crate::arguments::asked_once;
 use crate::errors::named_once;
-use jh_arguments::{Command, command_of, parse, run};
+use jh_arguments::{Command, command_of, do_command, parse};
 use jh_cli::CliError;
 use jh_shrink::Nobody;
 use std::alloc::Global;
@@ -41,10 +41,11 @@ pub(crate) fn answer_once<T: Threads + Wait + Sync, R: Read + Drop>(
     mut reader: R,
 ) -> Option<Vec<u8>> {
     let mut output = Vec::new(alloc);
-    match run(
+    match do_command(
         rt,
         alloc,
         command(alloc, arguments)?,
+        &[],
         &mut reader,
         &mut output,
         &mut Nobody,

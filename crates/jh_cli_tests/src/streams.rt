@@ -1,7 +1,7 @@
 //! Streams that fail, and inputs that are long.
 
 use crate::rows::{answer_once, command, is_answer};
-use jh_arguments::run;
+use jh_arguments::do_command;
 use jh_cli::CliError;
 use jh_shrink::Nobody;
 use std::alloc::Global;
@@ -97,7 +97,15 @@ fn fails_writing<T: Threads + Wait + Sync>(
         has_failed: false,
         behind: 0,
     };
-    let answer = run(rt, alloc, command, &mut input, &mut writer, &mut Nobody);
+    let answer = do_command(
+        rt,
+        alloc,
+        command,
+        &[],
+        &mut input,
+        &mut writer,
+        &mut Nobody,
+    );
     matches!(answer, Err(CliError::Write)) && writer.behind == 0
 }
 

@@ -11,12 +11,16 @@
 use crate::rows::{push_error, with_status};
 use jh_checkers::{Checker, Judging};
 use jh_cli::{CliError, TimelineQuestion, timeline_run};
+use jh_edn::read_all;
 use jh_timeline_sections::Choice;
 use std::alloc::Global;
 use std::io::Write;
 
 /// More configurations than a judge needs here.
 const BUDGET: u64 = 1_000;
+
+/// The steps of the schedule of whatever is shown.
+const STEPS: &[u8] = b"[:begin 1 [:kill [\"n1\"]]] [:withdraw 2]";
 
 /// The question that a text asks.
 fn question_of(pieces: &str) -> Option<TimelineQuestion> {
@@ -41,9 +45,10 @@ fn question_of(pieces: &str) -> Option<TimelineQuestion> {
 
 /// The answer to a question and an input; `None` where memory was refused.
 fn answer_once(alloc: Global, question: TimelineQuestion, input: &str) -> Option<Vec<u8>> {
+    let steps = read_all(alloc, &mut STEPS, 10).ok()?;
     let mut reader = input.as_bytes();
     let mut page = Vec::new(alloc);
-    match timeline_run(alloc, &mut reader, &mut page, question) {
+    match timeline_run(alloc, &mut reader, &mut page, question, &steps) {
         Ok(status) => with_status(alloc, status, &page),
         Err(CliError::OutOfMemory | CliError::Write) => None,
         Err(error) => {
@@ -203,6 +208,16 @@ All 0 records.
 All 2 records.
 <pre>:active []</pre>
 § - - - -
+{:type :info, :process :nemesis, :f :step, :value 0} {:type :info, :process :nemesis, :f :step, :value [0 0]}
+{:type :info, :process :nemesis, :f :step, :value 1} {:type :info, :process :nemesis, :f :step, :value [1 3]}
+→ 0
+<svg class="band" y="16" width="100%" height="48">
+>1: kill n1</text>
+>begin 1: kill n1</text>
+>begin 1: kill n1: done</text>
+>withdraw 2</text>
+>withdraw 2: refused, code 3</text>
+§ - - - -
 {:type :info, :process :nemesis, :f :note, :value "
 :active"}
 → 0
@@ -312,6 +327,8 @@ fn records_are_chosen(rt: HostRuntime) {
 {:type :invoke, :process 0, :f :read} {:type :ok, :process 0, :f :read, :value 5}
 → 0
 Records 1 to 2 of 4; --from and --to choose others.
+<svg class="ok" x="240" y="0" width="232" height="16">
+ read 4</text>
 <svg class="ok" x="240" y="16" width="232" height="16">
  read 5</text>
 !<svg

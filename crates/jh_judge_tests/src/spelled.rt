@@ -75,15 +75,15 @@ fn kind_of(name: &str) -> Option<StepKind> {
     }
 }
 
-/// The mark that a text spells: a bar and what is said of it.
+/// The mark that a text spells: a call and what is said of it.
 pub(crate) fn mark_of(text: &str) -> Option<Mark> {
     let mut pieces = text.split_whitespace();
-    let bar = pieces.next()?.parse().ok()?;
+    let call = pieces.next()?.parse().ok()?;
     let name = pieces.next()?;
     let first = number(pieces.next());
     let second = number(pieces.next());
     Some(Mark {
-        bar,
+        call,
         note: note_of(name, first, second)?,
     })
 }

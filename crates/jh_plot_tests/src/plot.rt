@@ -1,8 +1,9 @@
 //! A short history, where everything of its plot is, and why others have none.
 
+use jh_bands::Band;
 use jh_histories::history_in;
 use jh_ops::{Kind, Op};
-use jh_plots::{Panel, Plot, PlotError, Point, Rate, Tick, plot_of};
+use jh_plots::{Panel, Percentiles, Plot, PlotError, Point, Rate, Shade, Tick, plot_of};
 use std::alloc::Global;
 
 /// Two reads, of which one takes 1 ms and one fails after 1 s, and a write that nobody saw end.
@@ -66,6 +67,62 @@ fn calls_have_their_points(rt: HostRuntime) {
     let alloc = rt.alloc();
     let plot = plot_of_calls(alloc).or_else(|| plot_of_calls(alloc));
     assert!(rt; plot.is_some_and(|plot| plot.panels.first().is_some_and(are_reads)));
+}
+
+/// Whether the latencies of the reads are one of 1 ms in the first second, and one of 1 s in the second.
+fn are_percentiles(panel: &Panel) -> bool {
+    let rows = [
+        Percentiles {
+            x: 224,
+            p50: 59,
+            p95: 59,
+            p99: 59,
+            greatest: 59,
+        },
+        Percentiles {
+            x: 674,
+            p50: 239,
+            p95: 239,
+            p99: 239,
+            greatest: 239,
+        },
+    ];
+    panel.percentiles.as_slice() == rows.as_slice()
+}
+
+#[test]
+fn calls_have_their_percentiles(rt: HostRuntime) {
+    let alloc = rt.alloc();
+    let plot = plot_of_calls(alloc).or_else(|| plot_of_calls(alloc));
+    assert!(rt; plot.is_some_and(|plot| plot.panels.first().is_some_and(are_percentiles)));
+}
+
+/// A fault from the third record to the fourth. None: memory was refused.
+fn fault(alloc: Global, to: Option<usize>) -> Option<Band> {
+    let label = Vec::from_slice(alloc, b"1: kill n1").ok()?;
+    Some(Band { from: 2, to, label })
+}
+
+/// The shade that a plot of the calls has for a fault. None: memory was refused.
+fn shade_of(alloc: Global, to: Option<usize>) -> Option<Shade> {
+    let history = operations_of(alloc, CALLS)?;
+    let plot = plot_of(alloc, &history, &[fault(alloc, to)?]).ok()?;
+    let mut shades = plot.shades;
+    shades.pop()
+}
+
+/// From half a second on to a whole one, and to the end at two seconds.
+#[test]
+fn faults_have_their_shades(rt: HostRuntime) {
+    let alloc = rt.alloc();
+    for (to, pixel) in [(Some(3), 449), (None, 899)] {
+        let shade = shade_of(alloc, to).or_else(|| shade_of(alloc, to));
+        assert!(rt;
+            shade.is_some_and(|shade| shade.from == 224
+                && shade.to == pixel
+                && shade.label.as_slice() == b"1: kill n1".as_slice())
+        );
+    }
 }
 
 /// Whether the numbers of the axes are those of two seconds, five decades and one call a second.

@@ -2,9 +2,8 @@
 //! to where it is stuck.
 
 use crate::checkers::rows::explained;
-use crate::marks::rows::{WHOLE, ask_all};
+use crate::marks::rows::ask_all;
 use jh_checkers::{Checker, Judging};
-use jh_timeline::Window;
 use std::test::Fail;
 
 /// Places count from 0 in the order, whatever the order of invocations. The nemesis has no number.
@@ -16,7 +15,7 @@ fn marks_places(rt: HostRuntime) -> Result<(), Fail> {
         :nemesis :info :start 4; 0 :invoke :read; 0 :ok :read 0; :nemesis :info :stop; 1 :invoke :cas [0 3]; 1 :ok :cas [0 3] \
         => 0 placed 0; 1 placed 1
         0 :invoke :write 5; 0 :fail :write 5; 1 :invoke :read; 1 :ok :read 0 => 1 placed 0";
-    ask_all(rt.alloc(), explained(Checker::Register), WHOLE, rows)
+    ask_all(rt.alloc(), explained(Checker::Register), rows)
 }
 
 /// The stuck call is pending too, and is marked as stuck alone. What is pending has its place,
@@ -24,13 +23,13 @@ fn marks_places(rt: HostRuntime) -> Result<(), Fail> {
 #[test]
 fn marks_where_it_is_stuck(rt: HostRuntime) -> Result<(), Fail> {
     let rows = "
-        0 :invoke :write 5; 1 :invoke :read; 1 :ok :read 5; 0 :fail :write 5 => 0 pending; 1 stuck
+        0 :invoke :write 5; 1 :invoke :read; 1 :ok :read 5; 0 :fail :write 5 => 1 stuck
         0 :invoke :write 1; 0 :ok :write 1; 0 :invoke :write 2; 0 :ok :write 2; 1 :invoke :read; 1 :ok :read 1 \
         => 0 placed 0; 1 placed 1; 2 stuck
         0 :invoke :write 5; 1 :invoke :read; 1 :ok :read 5; 1 :invoke :read; 1 :ok :read 7 => 0 pending 0; 1 placed 1; 2 stuck
         0 :invoke :cas [7 8]; 1 :invoke :cas [8 9]; 1 :fail :cas [8 9]; 2 :invoke :read; 2 :ok :read 1; 3 :invoke :read; \
-        3 :ok :read 0; 0 :fail :cas [7 8] => 0 pending; 2 stuck";
-    ask_all(rt.alloc(), explained(Checker::Register), WHOLE, rows)
+        3 :ok :read 0; 0 :fail :cas [7 8] => 2 stuck";
+    ask_all(rt.alloc(), explained(Checker::Register), rows)
 }
 
 /// A no that is not explained does not tell what is pending. Where the budget is used up nothing is
@@ -44,20 +43,15 @@ fn marks_what_is_known(rt: HostRuntime) -> Result<(), Fail> {
     let rows = "
         0 :invoke :write 5; 1 :invoke :read; 1 :ok :read 5; 1 :invoke :read; 1 :ok :read 7 => 0 placed 0; 1 placed 1; 2 stuck
         0 :invoke :write 5; 1 :invoke :read; 1 :ok :read 5; 0 :fail :write 5 => 1 stuck";
-    ask_all(rt.alloc(), judging, WHOLE, rows)?;
+    ask_all(rt.alloc(), judging, rows)?;
     let judging = Judging {
         budget: 0,
         ..explained(Checker::Register)
     };
-    ask_all(
-        rt.alloc(),
-        judging,
-        WHOLE,
-        "0 :invoke :write 5; 0 :ok :write 5 =>",
-    )
+    ask_all(rt.alloc(), judging, "0 :invoke :write 5; 0 :ok :write 5 =>")
 }
 
-/// Values are one where their normal forms are.
+/// Values are one where their normal forms are. A completion that answers no invocation gives an id too.
 #[test]
 fn marks_ids(rt: HostRuntime) -> Result<(), Fail> {
     let rows = "
@@ -66,8 +60,9 @@ fn marks_ids(rt: HostRuntime) -> Result<(), Fail> {
         => 0 repeated; 1 repeated
         0 :invoke :generate; 0 :ok :generate (1 2); 0 :invoke :generate; 0 :ok :generate 3; 0 :invoke :generate; \
         0 :ok :generate [1 2]; 1 :invoke :generate; 1 :fail :generate [1 2] => 0 repeated; 2 repeated
-        0 :ok :generate 7; 0 :invoke :generate; 0 :ok :generate 7; :nemesis :ok :generate 7 => 0 repeated";
-    ask_all(rt.alloc(), explained(Checker::Ids), WHOLE, rows)
+        0 :ok :generate 7; 0 :invoke :generate; 0 :ok :generate 7; :nemesis :ok :generate 7 => 0 repeated; 1 repeated
+        0 :invoke :generate; 0 :ok :generate 7; 0 :ok :generate 7; 1 :ok :generate 8 => 0 repeated; 1 repeated";
+    ask_all(rt.alloc(), explained(Checker::Ids), rows)
 }
 
 /// Bounds are told in the order of completions. A call is a read by what its invocation asks for.
@@ -80,10 +75,11 @@ fn marks_reads_outside(rt: HostRuntime) -> Result<(), Fail> {
         0 :invoke :read; 0 :ok :add 4 => 0 outside 0 0
         0 :invoke :add 1; 0 :ok :read 1; 1 :invoke :read; 1 :ok :read 5 => 1 outside 1 1
         0 :invoke :read; 0 :fail :read 7; 1 :invoke :read; 1 :info :read 7; 0 :invoke :read; 0 :ok :read 0 =>";
-    ask_all(rt.alloc(), explained(Checker::Counter), WHOLE, rows)
+    ask_all(rt.alloc(), explained(Checker::Counter), rows)
 }
 
-/// The last read that happened tells what is lost, recovered and unexpected.
+/// The last read that happened tells what is lost, recovered and unexpected. Of a lost element those adds are marked that were
+/// acknowledged before it, also by a completion alone, and those behind it where there are no others.
 #[test]
 fn marks_elements(rt: HostRuntime) -> Result<(), Fail> {
     let rows = "
@@ -91,10 +87,13 @@ fn marks_elements(rt: HostRuntime) -> Result<(), Fail> {
         => 0 lost; 1 recovered; 2 unexpected
         0 :invoke :read; 0 :ok :read [9]; 0 :invoke :read; 0 :ok :read [8]; 0 :invoke :read; 0 :fail :read => 1 unexpected
         0 :invoke :add (1); 0 :info :add (1); 1 :invoke :read; 1 :ok :read #{[1]} => 0 recovered
-        0 :invoke :add 1; 0 :ok :add 1; 1 :invoke :add 1; 1 :fail :add 1; 0 :invoke :read; 0 :ok :read () => 0 lost; 1 lost
+        0 :invoke :add 1; 0 :ok :add 1; 1 :invoke :add 1; 1 :fail :add 1; 0 :invoke :read; 0 :ok :read () => 0 lost
+        0 :invoke :add 1; 0 :ok :add 1; 0 :invoke :read; 0 :ok :read (); 0 :invoke :add 1; 0 :ok :add 1; 0 :invoke :add (2); \
+        0 :ok :add (2); 0 :ok :add [2] => 0 lost; 3 lost; 4 lost
+        1 :invoke :add 1; 0 :invoke :read; 0 :ok :read (); 1 :ok :add 1; 2 :ok :add 3; 2 :invoke :add 4; 2 :info :add 4 => 0 lost; 2 lost
         0 :invoke :add 1; 0 :ok :add 1 =>
         0 :invoke :add 1; 0 :ok :add 1; 0 :invoke :read; 0 :ok :read [1] =>";
-    ask_all(rt.alloc(), explained(Checker::Set), WHOLE, rows)
+    ask_all(rt.alloc(), explained(Checker::Set), rows)
 }
 
 /// Of a yes each transaction has its place in the order. Of a no the transaction of the bad read is marked, or each of the
@@ -107,17 +106,5 @@ fn marks_transactions(rt: HostRuntime) -> Result<(), Fail> {
         0 :invoke :txn [[:append 1 1]]; 0 :ok :txn [[:append 1 1]]; 1 :invoke :txn [[:r 1 nil]]; 1 :ok :txn [[:r 1 nil]] \
         => 0 rt 0; 1 rw 1
         0 :invoke :txn [[:append 1 1]]; 0 :fail :txn nil; 1 :invoke :txn [[:r 1 nil]]; 1 :ok :txn [[:r 1 [1]]] => 1 bad-read";
-    ask_all(rt.alloc(), explained(Checker::ListAppend), WHOLE, rows)
-}
-
-/// A mark has the number of its bar in the picture of a window, and what is not drawn has none.
-#[test]
-fn marks_a_window(rt: HostRuntime) -> Result<(), Fail> {
-    let window = Window { from: 2, to: 5 };
-    let rows = "
-        0 :invoke :write 1; 0 :ok :write 1; 0 :invoke :write 2; 0 :ok :write 2; 1 :invoke :read; 1 :ok :read 1 \
-        => 0 placed 1; 1 stuck
-        0 :invoke :write 1; 0 :ok :write 1; 0 :invoke :read; 0 :ok :read 1; 1 :invoke :read; 1 :ok :read 1; 0 :invoke :read; \
-        0 :ok :read 1 => 0 placed 1; 1 placed 2";
-    ask_all(rt.alloc(), explained(Checker::Register), window, rows)
+    ask_all(rt.alloc(), explained(Checker::ListAppend), rows)
 }

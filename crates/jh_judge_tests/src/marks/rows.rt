@@ -1,27 +1,24 @@
 //! Rows of histories with the marks of each.
 //!
 //! A row is a line `HISTORY => MARKS`. A history is its operations, `PROCESS TYPE F VALUE` each,
-//! with `; ` between two; what is missing behind an operation is left out. Marks are `BAR NOTE`
+//! with `; ` between two; what is missing behind an operation is left out. Marks are `CALL NOTE`
 //! each, with `; ` between two. A table is one text, since the proof of an array takes a second for
 //! each row.
 
 use crate::spelled::{mark_of, ops_of};
 use jh_checkers::{Judging, check_history};
-use jh_timeline::{Mark, Window, picture_in};
+use jh_timeline::{Mark, calls_of};
 use jh_timeline_marks::marks_of;
 use std::alloc::Global;
 use std::test::Fail;
 
-/// All records of a row.
-pub(crate) const WHOLE: Window = Window { from: 0, to: 1_000 };
-
-/// The marks of what is found in a history, at the bars of a window. None: memory was refused, or
-/// nothing is found.
-fn marks_in(alloc: Global, judging: Judging, window: Window, history: &str) -> Option<Vec<Mark>> {
+/// The marks of what is found in a history, at its calls. None: memory was refused, or nothing is
+/// found.
+fn marks_in(alloc: Global, judging: Judging, history: &str) -> Option<Vec<Mark>> {
     let ops = ops_of(alloc, history)?;
     let found = check_history(alloc, &ops, judging).ok()?;
-    let picture = picture_in(alloc, window, &ops).ok()?;
-    marks_of(alloc, &ops, &found, &picture.bars).ok()
+    let calls = calls_of(alloc, &ops).ok()?;
+    marks_of(alloc, &ops, &found, &calls).ok()
 }
 
 /// Whether marks are those that a text spells.
@@ -36,16 +33,11 @@ fn are_spelled(marks: &[Mark], text: &str) -> bool {
 }
 
 /// Asks for the marks of each row. One with others is the failure.
-pub(crate) fn ask_all(
-    alloc: Global,
-    judging: Judging,
-    window: Window,
-    rows: &str,
-) -> Result<(), Fail> {
+pub(crate) fn ask_all(alloc: Global, judging: Judging, rows: &str) -> Result<(), Fail> {
     for row in rows.trim().lines() {
         let (history, expected) = row.split_once("=>").ok_or("no marks")?;
-        let marks = match marks_in(alloc, judging, window, history) {
-            None => marks_in(alloc, judging, window, history),
+        let marks = match marks_in(alloc, judging, history) {
+            None => marks_in(alloc, judging, history),
             marks => marks,
         };
         if !marks.is_some_and(|marks| are_spelled(&marks, expected)) {

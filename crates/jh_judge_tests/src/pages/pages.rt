@@ -283,7 +283,7 @@ fn draws_operations(rt: HostRuntime) -> Result<(), Fail> {
     ask_all(rt.alloc(), rows)
 }
 
-/// A crashed process' lane is taken again. The nemesis has lines.
+/// A crashed process' lane is taken again, by one that its label names. The nemesis has lines.
 #[test]
 fn draws_lanes_and_faults(rt: HostRuntime) -> Result<(), Fail> {
     let rows = r##"{:valid? true}
@@ -313,7 +313,7 @@ fn draws_lanes_and_faults(rt: HostRuntime) -> Result<(), Fail> {
 <svg class="ok" x="480" y="16" width="232" height="64"><rect width="100%" height="100%"/><title>{:type :invoke, :process 1, :f :add, :value 7}
 {:type :ok, :process 1, :f :add, :value 7}</title><text x="4" y="12">&#10003; add 7</text></svg>
 <svg class="ok" x="240" y="48" width="232" height="48"><rect width="100%" height="100%"/><title>{:type :invoke, :process 4, :f :read, :value nil}
-{:type :ok, :process 4, :f :read, :value 3}</title><text x="4" y="12">&#10003; read 3</text></svg>
+{:type :ok, :process 4, :f :read, :value 3}</title><text x="4" y="12">&#10003; 4: read 3</text></svg>
 <svg class="open" x="480" y="96" width="232" height="16"><rect width="100%" height="100%"/><title>{:type :invoke, :process 1, :f :add, :value 8}</title><text x="4" y="12">&#8230; add 8</text></svg>
 <g class="marks">
 </g>
@@ -370,6 +370,7 @@ fn cuts_at_a_window(rt: HostRuntime) -> Result<(), Fail> {
 <h1>{:valid? true}</h1>
 <section>
 <p id="part-0">Records 1 to 3 of 7; --from and --to choose others.</p>
+<p>1 operation of unknown outcome began before and is not drawn.</p>
 <ol class="lanes">
 <li>process 1</li>
 <li>process 4</li>
@@ -425,19 +426,24 @@ fn cuts_at_a_window(rt: HostRuntime) -> Result<(), Fail> {
 <h1>{:valid? true}</h1>
 <section>
 <p id="part-0">Records 2 to 6 of 7; --from and --to choose others.</p>
+<p>1 operation of unknown outcome began before and is not drawn.</p>
 <p><a href="#found-0-0">Go to what was found</a></p>
 <ol class="lanes">
-<li>process 4 1</li>
+<li>process 1</li>
+<li>process 4</li>
 </ol>
 <div class="picture">
-<svg xmlns="http://www.w3.org/2000/svg" width="240" height="80" viewBox="240 0 240 80">
+<svg xmlns="http://www.w3.org/2000/svg" width="480" height="80" viewBox="240 0 480 80">
 <path class="tail" d="M356 80V80"/>
-<svg class="ok" x="240" y="16" width="232" height="48"><rect width="100%" height="100%"/><title>{:type :invoke, :process 4, :f :read, :value nil}
+<svg class="ok" x="240" y="0" width="232" height="48"><rect width="100%" height="100%"/><title>{:type :invoke, :process 1, :f :add, :value 7}
+{:type :ok, :process 1, :f :add, :value 7}</title><text x="4" y="12">&#10003; add 7</text></svg>
+<svg class="ok" x="480" y="16" width="232" height="48"><rect width="100%" height="100%"/><title>{:type :invoke, :process 4, :f :read, :value nil}
 {:type :ok, :process 4, :f :read, :value 3}</title><text x="4" y="12">&#10003; read 3</text></svg>
 <svg class="open" x="240" y="64" width="232" height="16"><rect width="100%" height="100%"/><title>{:type :invoke, :process 1, :f :add, :value 8}</title><text x="4" y="12">&#8230; add 8</text></svg>
 <g class="marks">
-<svg class="stuck" id="found-0-0" x="240" y="16" width="232" height="48"><rect width="100%" height="100%"/><title>stuck: no order has room for this operation</title><text x="228" y="12">stuck</text></svg>
-<svg class="pending" x="240" y="64" width="232" height="16"><rect width="100%" height="100%"/><title>pending: it was not over where the history is stuck</title><text x="228" y="12">pending</text></svg>
+<svg class="stuck" id="found-0-0" x="240" y="0" width="232" height="48"><rect width="100%" height="100%"/><title>stuck: no order has room for this operation</title><text x="228" y="12">stuck</text></svg>
+<svg class="pending" x="480" y="16" width="232" height="48"><rect width="100%" height="100%"/><title>pending: it was not over where the history is stuck</title><text x="228" y="12">pending</text></svg>
+<svg class="lost" id="found-0-2" x="240" y="64" width="232" height="16"><rect width="100%" height="100%"/><title>lost: it was added, and the last read does not show it</title><text x="228" y="12">lost</text></svg>
 </g>
 </svg>
 </div>
@@ -495,9 +501,53 @@ fn cuts_at_a_window(rt: HostRuntime) -> Result<(), Fail> {
 <h2 id="part-2">the last</h2>
 <p>Records 1 to 1 of 2; --from and --to choose others.</p>
 <ol class="lanes">
+<li>process 0</li>
 </ol>
 <div class="picture">
-<svg xmlns="http://www.w3.org/2000/svg" width="0" height="16" viewBox="240 0 0 16">
+<svg xmlns="http://www.w3.org/2000/svg" width="240" height="16" viewBox="240 0 240 16">
+<svg class="ok" x="240" y="0" width="232" height="16"><rect width="100%" height="100%"/><title>{:type :invoke, :process 0, :f :add, :value 1}
+{:type :ok, :process 0, :f :add, :value 1}</title><text x="4" y="12">&#10003; add 1</text></svg>
+<g class="marks">
+</g>
+</svg>
+</div>
+</section>
+</body>
+</html>"##;
+    ask_all(rt.alloc(), rows)
+}
+
+/// A step in words, the shade of its fault, times, how long an operation took, and a second completion.
+#[test]
+fn draws_steps_and_times(rt: HostRuntime) -> Result<(), Fail> {
+    let rows = r##"A history
+#
+0 5
+{:type :invoke, :process 0, :f :read, :value nil, :time 1500000}
+{:type :info, :process :nemesis, :f :step, :value 0, :step [:begin 1 [:kill ["n1"]]]}
+{:type :info, :process :nemesis, :f :step, :value [0 0], :time -1}
+{:type :ok, :process 0, :f :read, :value 3, :time 3001000}
+{:type :ok, :process 0, :f :read, :value 4, :time 3001000}
+=>
+<h1>A history</h1>
+<section>
+<p id="part-0">All 5 records.</p>
+<ol class="lanes">
+<li>process 0</li>
+</ol>
+<div class="picture">
+<svg xmlns="http://www.w3.org/2000/svg" width="560" height="80" viewBox="0 0 560 80">
+<svg class="band" y="32" width="100%" height="48"><rect width="100%" height="100%"/><title>1: kill n1</title><text x="236" y="28">1: kill n1</text></svg>
+<text class="time" x="312" y="12">0.001</text>
+<text class="time" x="312" y="44">-0.000</text>
+<text class="time" x="312" y="60">0.003</text>
+<text class="time" x="312" y="76">0.003</text>
+<svg class="fault" y="16" width="100%" height="16"><line x2="100%"/><title>{:type :info, :process :nemesis, :f :step, :value 0, :step [:begin 1 [:kill [&quot;n1&quot;]]]}</title><text x="4" y="12">begin 1: kill n1</text></svg>
+<svg class="fault" y="32" width="100%" height="16"><line x2="100%"/><title>{:time -1, :type :info, :process :nemesis, :f :step, :value [0 0]}</title><text x="4" y="12">begin 1: kill n1: done</text></svg>
+<svg class="ok" x="320" y="0" width="232" height="64"><rect width="100%" height="100%"/><title>{:time 1500000, :type :invoke, :process 0, :f :read, :value nil}
+{:time 3001000, :type :ok, :process 0, :f :read, :value 3}
+took 1.501 ms</title><text x="4" y="12">&#10003; read 3</text></svg>
+<svg class="alone ok" x="320" y="64" width="232" height="16"><rect width="100%" height="100%"/><title>{:time 3001000, :type :ok, :process 0, :f :read, :value 4}</title><text x="4" y="12">&#8627; &#10003; read 4</text></svg>
 <g class="marks">
 </g>
 </svg>

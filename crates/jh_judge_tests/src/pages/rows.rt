@@ -3,7 +3,7 @@
 //! A row is the title, and behind each ` | ` the notice and the checker's line, where it has them, and
 //! what stands below all sections in further lines; for each section a line `#` with its heading, a
 //! line with the window's two indexes, and behind each `;` a mark: a bar and what is said of it, and
-//! its records; a line `=>`; and the page from its title on, without the legend, which stands behind
+//! its records, whose faults and lines are those that `jh_bands` finds; a line `=>`; and the page from its title on, without the legend, which stands behind
 //! the first line or where a line `<legend>` does. An empty line ends it. A table is one text, since the proof of an array takes a
 //! second for each row.
 
@@ -11,6 +11,7 @@ ghost use Rattle.std.specs.Prelude.{All, IfOk};
 ghost use Rattle.jh_ops.specs.OperationWritten.{IsWritable};
 
 use crate::spelled::mark_of;
+use jh_bands::{Band, Line, bands_of, lines_of};
 use jh_edn::read_all;
 use jh_ops::{Op, history_of};
 use jh_timeline::{Mark, Window, picture_in};
@@ -30,10 +31,14 @@ const BODY: &str = "</style>\n</head>\n<body>\n";
 /// What stands behind the title and what belongs to it.
 const LEGEND: &str = "<p class=\"legend\"><span class=\"ok\">&#10003; ok</span> \
     <span class=\"fail\">&#10007; fail</span> <span class=\"info\">? info</span> \
-    <span class=\"open\">&#8230; no completion</span> <span class=\"marked\">mark</span> \
-    <span class=\"waits\">pending</span> <b>12</b> number in an order. Time goes down, and a line \
-    across is a fault. A dotted line goes on below a bar whose outcome is unknown: it may take effect \
-    at any later time. Point at a bar or a line to see its records, at a mark to see what it means.</p>\n";
+    <span class=\"open\">&#8230; no completion</span> \
+    <span class=\"alone\">&#8627; no invocation</span> <span class=\"marked\">mark</span> \
+    <span class=\"waits\">pending</span> <b>12</b> number in an order. Time goes down, and times are \
+    in seconds. A line across is a record of the nemesis, and a shade, on paper a dashed box, is a \
+    fault while it is active. A number and a colon before a label name the process, where its lane had \
+    another one before. A dotted line goes on below a bar whose outcome is unknown: it may take effect \
+    at any later time. Point at a bar or a line to see its records, at a mark to see what it \
+    means.</p>\n";
 
 /// More bytes than any page here has.
 const ROOM: usize = 20_000;
@@ -64,6 +69,20 @@ fn window_of(text: &str) -> Window {
     }
 }
 
+/// The lines of the nemesis in a window.
+fn lines_in(alloc: Global, window: Window, history: &[Op]) -> Result<Vec<Line>, PageError> {
+    let mut lines = lines_of(alloc, &[], history)?;
+    lines.retain(|line| window.from <= line.index && line.index < window.to);
+    Ok(lines)
+}
+
+/// The faults that are active in a window.
+fn bands_in(alloc: Global, window: Window, history: &[Op]) -> Result<Vec<Band>, PageError> {
+    let mut bands = bands_of(alloc, &[], history)?;
+    bands.retain(|band| band.from < window.to && band.to.is_none_or(|to| window.from < to));
+    Ok(bands)
+}
+
 /// The history that records mean.
 fn history_in(alloc: Global, text: &str) -> Result<Vec<Op>, PageError>
     ensures { IfOk result (λ ops. All (λ op. IsWritable op.process) ops.items) }
@@ -84,7 +103,9 @@ fn section_of(alloc: Global, text: &str) -> Result<Section, PageError>
     Ok(Section {
         heading: Vec::from_slice(alloc, heading.as_bytes())?,
         window,
-        picture: picture_in(alloc, window, &history)?,
+        picture: picture_in(alloc, window, &history, &[])?,
+        bands: bands_in(alloc, window, &history)?,
+        lines: lines_in(alloc, window, &history)?,
         marks: marks_of(alloc, asked)?,
         history,
     })
