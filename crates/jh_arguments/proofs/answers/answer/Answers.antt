@@ -103,8 +103,15 @@ unreachable-requires g c = elim c.in-Ok.ensures.asked [
   | inr (path, asks) ↦ c.settings_path_of.ensures.taken (search rules) path asks
 ]
 
+-- no steps can be had
+pub returns-in-Err-steps_of-clause-unscheduled : goal.returns-in-Err-steps_of-clause-unscheduled
+returns-in-Err-steps_of-clause-unscheduled g c =
+    (unscheduled_ends (map g.S.AsStr.text c.args.arguments.now) (g.R.Read.remaining c.args.streams.now.reader) None None None c.args.streams.now.reader c.args.streams.now.reader c.args.streams.now.writer c.args.streams.now.writer
+    c.in-Err-steps_of.error
+    (without_steps _ c.in-Ok.matches c.in-Err-steps_of.error c.in-Ok.ensures.found c.in-Err-steps_of.ensures.named c.in-Err-steps_of.ensures.error) refl refl).unscheduled
+
 -- a command is asked for
-commanded : (g : given.Over) (c : goal.Joined-matches-2 g)
+commanded : (g : given.Over) (c : goal.Joined-matches-3 g)
     → Ends {R = g.row.R.Denot} {W = g.row.W.Denot} (map g.S.AsStr.text c.args.arguments.now) (g.R.Read.remaining c.args.streams.now.reader) (g.R.Read.remaining c.do_command.new.reader)
     (g.W.Write.contents c.args.streams.now.writer) (g.W.Write.contents c.do_command.new.writer) c.args.streams.now.reader c.do_command.new.reader c.args.streams.now.writer c.do_command.new.writer
     c.of_command.result
