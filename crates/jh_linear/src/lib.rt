@@ -29,7 +29,7 @@ mod walk;
 mod wanted;
 
 pub use judge::check;
-pub use operations::{RegOpsError, reg_ops};
+pub use operations::{RegOpsError, reg_op, reg_ops};
 pub use order_check::{OrderFault, check_order};
 pub use register::{Outcome, RegCall, RegOp};
 pub use verdict::{LinVerdict, Linearization, Reached, Step, Stuck};

@@ -177,8 +177,10 @@ fn answer_of(completion: Option<&Op>) -> Option<&Value>
     }
 }
 
-/// The operation of a register that a pair stands for, if its value can be parsed.
-fn reg_op(ops: &[Op], pair: Pair) -> Option<RegOp>
+/// The operation of a register that a pair of the history stands for, as `reg_ops` gives them. None
+/// where its function or its value is one that `reg_ops` refuses, or where the history has no such
+/// invocation.
+pub fn reg_op(ops: &[Op], pair: Pair) -> Option<RegOp>
     ensures { result ≡ rule.reg_op_of (operations ops.now) pair }
 {
     let invocation = history_op_at(ops, pair.invoke)?;
