@@ -8,7 +8,7 @@ use Rattle.jh_ops.specs.declared.history.HistoryError.TheVariants as history_err
 use Rattle.jh_plots.specs.Plots as plots
 use Rattle.jh_plots.specs.declared.error.PlotError.{PlotError}
 use Rattle.jh_plots.specs.declared.error.PlotError.TheVariants as plot_errors
-use Rattle.jh_timeline_sections.specs.HistoryAndRest.{AreHistoryAndRest, RefusesHistoryAndRest}
+use Rattle.jh_histories.specs.HistoryAndRest.{AreHistoryAndRest, RefusesHistoryAndRest}
 use Rattle.jh_cli.proofs.CheckLemmas.{nothing_written}
 use Rattle.jh_cli.specs.PlotRefusals.{IsUnplottable, RefusesPlot, RefusesPlotting}
 use Rattle.jh_cli.specs.Status.{plot_error, reading_error}

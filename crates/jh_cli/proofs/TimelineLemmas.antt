@@ -12,7 +12,7 @@ use Rattle.jh_independent.specs.declared.error.KeysError.{KeysError}
 use Rattle.jh_independent.specs.declared.error.KeysError.TheVariants as KeysErrors
 use Rattle.jh_ops.specs.Operation.{Operation}
 use Rattle.jh_ops.specs.declared.history.HistoryError.TheVariants as history_errors
-use Rattle.jh_timeline_sections.specs.HistoryAndRest.{AreHistoryAndRest, RefusesHistoryAndRest}
+use Rattle.jh_histories.specs.HistoryAndRest.{AreHistoryAndRest, RefusesHistoryAndRest}
 use Rattle.jh_cli.proofs.CheckLemmas.{IsJudging, by_checker, by_keys, nothing_written}
 use Rattle.jh_cli.specs.Status.{keys_error, reading_error}
 use Rattle.jh_cli.specs.TimelineRefusals.{RefusesFinding, RefusesPage, RefusesShowing, RefusesTimeline}

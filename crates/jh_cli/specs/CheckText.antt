@@ -6,7 +6,7 @@ use Rattle.jh_ops.specs.Operation.{Operation}
 use Rattle.jh_checkers.specs.declared.checker.Checker.{Checker}
 use Rattle.jh_txn.specs.declared.model.ConsistencyModel.{ConsistencyModel}
 use Rattle.jh_reports.specs.Judged.{IsTextBy}
-use Rattle.jh_timeline_sections.specs.HistoryAndRest.{AreHistoryAndRest}
+use Rattle.jh_histories.specs.HistoryAndRest.{AreHistoryAndRest}
 use Rattle.jh_cli.specs.Enough.{answer_where_enough, count_ok_calls}
 use Rattle.jh_cli.specs.declared.check_command.CheckQuestion.{CheckQuestion}
 

@@ -5,7 +5,7 @@ use Rattle.jh_histories.specs.declared.error.ReadHistoryError.TheVariants as rea
 use Rattle.jh_ops.specs.Operation.{Operation}
 use Rattle.jh_plots.specs.Plots as plots
 use Rattle.jh_plots.specs.declared.error.PlotError.{PlotError}
-use Rattle.jh_timeline_sections.specs.HistoryAndRest.{AreHistoryAndRest, RefusesHistoryAndRest}
+use Rattle.jh_histories.specs.HistoryAndRest.{AreHistoryAndRest, RefusesHistoryAndRest}
 use Rattle.jh_cli.specs.PlotText.{IsPlotTextOf}
 use Rattle.jh_cli.specs.Status.{IsInputError, IsHistoryError, plot_error}
 use Rattle.jh_cli.specs.declared.error.CliError.{CliError}

@@ -7,7 +7,7 @@ use Rattle.jh_ops.specs.Operation.{Operation}
 use Rattle.jh_plot_pages.specs.Page.{plot_page_text}
 use Rattle.jh_plots.specs.Plots.{IsPlotOf}
 use Rattle.jh_plots.specs.declared.plot.Plot.{Plot}
-use Rattle.jh_timeline_sections.specs.HistoryAndRest.{AreHistoryAndRest}
+use Rattle.jh_histories.specs.HistoryAndRest.{AreHistoryAndRest}
 
 -- the page of a history: of its plot, with the bands of the faults whose steps it has in its own records
 pub record IsPlotPage (history : List Operation) (output : List ℕ) : Type 0 where

@@ -10,7 +10,7 @@ use Rattle.jh_independent.specs.declared.error.KeysError.TheVariants as KeysErro
 use Rattle.jh_checkers.specs.declared.finding.Judging.{Judging}
 use Rattle.jh_edn.specs.Edn.{Edn}
 use Rattle.jh_ops.specs.Operation.{Operation}
-use Rattle.jh_timeline_sections.specs.HistoryAndRest.{AreHistoryAndRest, RefusesHistoryAndRest}
+use Rattle.jh_histories.specs.HistoryAndRest.{AreHistoryAndRest, RefusesHistoryAndRest}
 use Rattle.jh_cli.specs.CheckRefusals.{RefusesWhole}
 use Rattle.jh_cli.specs.Status.{IsInputError, IsHistoryError, keys_error}
 use Rattle.jh_cli.specs.TimelineText.{IsTimelineTextOf, TakesInitialBy, TakesModelBy}

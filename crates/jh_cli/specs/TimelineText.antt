@@ -15,7 +15,7 @@ use Rattle.jh_timeline_pages.specs.Page.{page_text}
 use Rattle.jh_timeline_pages.specs.declared.section.Section.{Section}
 use Rattle.jh_timeline_pages.specs.declared.top.Top.{Top}
 use Rattle.jh_timeline_sections.specs.KeySections.{AreSectionsOf}
-use Rattle.jh_timeline_sections.specs.HistoryAndRest.{AreHistoryAndRest}
+use Rattle.jh_histories.specs.HistoryAndRest.{AreHistoryAndRest}
 use Rattle.jh_timeline_sections.specs.SaidVerdicts.{said_verdict}
 use Rattle.jh_timeline_sections.specs.Sections.{IsSectionOf}
 use Rattle.jh_timeline_sections.specs.Titles.{history_title, keys_title}

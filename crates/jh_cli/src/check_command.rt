@@ -18,10 +18,10 @@ use crate::enough::answer_where_enough;
 use crate::error::CliError;
 use crate::output::{MAX_READS, finish};
 use jh_checkers::{Checker, Judging};
+use jh_histories::read_history_and_rest;
 use jh_independent::check_keys;
 use jh_ops::Op;
 use jh_reports::{Output, output_of_keys};
-use jh_timeline_sections::read_history_and_rest;
 use std::alloc::Global;
 use std::io::{Read, Write};
 use std::sync::Wait;
@@ -40,7 +40,7 @@ pub struct CheckQuestion {
     pub at_least: Option<usize>,
 }
 
-/// Reads a history as `jh_timeline_sections::read_history_and_rest` does, also out of what `run` or `drive`
+/// Reads a history as `jh_histories::read_history_and_rest` does, also out of what `run` or `drive`
 /// printed, judges it as `jh_checkers::check_history` does, and writes one line with what is found.
 /// The answer is the exit status: 0 where the history is valid, 1 where it is not, 2 where that is not known. All is read
 /// and judged before the first byte is written.

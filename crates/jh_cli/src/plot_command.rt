@@ -12,15 +12,15 @@ ghost use Rattle.jh_cli.specs.PlotText.{IsPlotPage, IsPlotTextOf};
 use crate::error::CliError;
 use crate::output::{MAX_READS, finish};
 use jh_bands::bands_of;
+use jh_histories::read_history_and_rest;
 use jh_ops::Op;
 use jh_plot_pages::write_plot_page;
 use jh_plots::{Plot, plot_of};
 use jh_reports::{DONE, Output};
-use jh_timeline_sections::read_history_and_rest;
 use std::alloc::{AllocError, Global};
 use std::io::{Read, Write};
 
-/// Reads a history as `jh_timeline_sections::read_history_and_rest` does, also out of what `run` or
+/// Reads a history as `jh_histories::read_history_and_rest` does, also out of what `run` or
 /// `drive` printed, and writes a page in HTML with the latency of each call, percentiles of the
 /// latencies and rates over time, as `jh_plots::plot_of` places them. The times of faults are there where
 /// the records of the nemesis have their steps, as those of `drive` do. The answer is the exit status, 0.

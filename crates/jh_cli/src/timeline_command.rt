@@ -23,13 +23,13 @@ use crate::notice::notice_of;
 use crate::output::{MAX_READS, finish};
 use jh_checkers::{Finding, Judging, check_history};
 use jh_edn::Value;
+use jh_histories::{HistoryAndRest, read_history_and_rest};
 use jh_independent::{check_keys_serial, verdict_of_all};
 use jh_ops::Op;
 use jh_reports::{DONE, Output, finding_text, keys_text};
 use jh_timeline_pages::{Section, Top, write_page};
 use jh_timeline_sections::{
-    Choice, HistoryAndRest, read_history_and_rest, said_verdict, section_of, sections_of_keys,
-    title_of, title_of_keys,
+    Choice, said_verdict, section_of, sections_of_keys, title_of, title_of_keys,
 };
 use std::alloc::{AllocError, Global};
 use std::io::{Read, Write};
@@ -55,18 +55,20 @@ struct Shown {
     sections: Vec<Section>,
 }
 
-/// Reads a history as `jh_timeline_sections::read_history_and_rest` does, or all that `run` printed, judges
+/// Reads a history as `jh_histories::read_history_and_rest` does, or all that `run` printed, judges
 /// it by the checker of the workload, if there is one, and writes a page in HTML that shows the
-/// history: what was found in one sentence on top, as `jh_timeline_sections::title_of` says it, with the line
-/// of the checker folded below, and a notice where the input says another verdict; the history as `jh_timeline_sections::section_of` shows it; and below it what
-/// `run` printed behind the history. Where its keys are independent, each is judged by itself, one
-/// after another, sentence and line are those on all keys, and each has the section that
-/// `jh_timeline_sections::sections_of_keys` makes. The answer is the exit status: 0 where the history is
-/// valid or not judged, 1 where it is not valid, 2 where that is not known. All is read and judged,
-/// and the page made, before the first byte is written.
+/// history: what was found in one sentence on top, as `jh_timeline_sections::title_of` says it,
+/// with the line of the checker folded below, and a notice where the input says another verdict;
+/// the history as `jh_timeline_sections::section_of` shows it; and below it what `run` printed
+/// behind the history. Where its keys are independent, each is judged by itself, one after another,
+/// sentence and line are those on all keys, and each has the section that
+/// `jh_timeline_sections::sections_of_keys` makes. The answer is the exit status: 0 where the
+/// history is valid or not judged, 1 where it is not valid, 2 where that is not known. All is read
+/// and judged, and the page made, before the first byte is written.
 ///
-/// The steps are those of the schedule of what recorded the history, as `jh_settings_texts::steps_in_settings`
-/// gives them: by them the page names the records of the nemesis that `run` wrote. There may be none.
+/// The steps are those of the schedule of what recorded the history, as
+/// `jh_settings_texts::steps_in_settings` gives them: by them the page names the records of the
+/// nemesis that `run` wrote. There may be none.
 ///
 /// Takes what the checker takes, O(n log n) for n records beside it, and memory for the text, the
 /// history and the page.

@@ -1,2 +1,3 @@
 pub mod ParsingLemmas
 pub mod FirstValuesLemmas
+pub mod FirstLineLemmas

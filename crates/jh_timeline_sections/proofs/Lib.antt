@@ -1,3 +1,2 @@
-pub mod FirstLineLemmas
 pub mod KeyLemmas
 mod NemesisLemmas

@@ -4,14 +4,12 @@
 
 mod key_sections;
 mod nemesis;
-mod rest;
 mod said;
 mod section;
 mod title;
 mod window;
 
 pub use key_sections::sections_of_keys;
-pub use rest::{HistoryAndRest, history_and_rest, read_history_and_rest};
 pub use said::said_verdict;
 pub use section::section_of;
 pub use title::{title_of, title_of_keys};

@@ -1,7 +1,7 @@
 use Rattle.std.proofs.Common.{◌≡◌, ◌+◌, ap, arith, drop, inr, ◌∙◌}
-use Rattle.jh_timeline_sections.specs.HistoryAndRest.{conversation_end}
-use Rattle.jh_timeline_sections.proofs.FirstLineLemmas.{behind_feed}
-use Rattle.jh_timeline_sections.proofs.rest.behind_end.Goals as goal
+use Rattle.jh_histories.specs.HistoryAndRest.{conversation_end}
+use Rattle.jh_histories.proofs.FirstLineLemmas.{behind_feed}
+use Rattle.jh_histories.proofs.rest.behind_end.Goals as goal
 
 pub returns-in-Some : goal.returns-in-Some
 returns-in-Some c =

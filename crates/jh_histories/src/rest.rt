@@ -5,12 +5,13 @@ ghost use Rattle.std.specs.Str.{IsCharBoundary};
 ghost use Rattle.jh_histories.specs.Histories.{RefusesHistoryOf};
 ghost use Rattle.jh_ops.specs.Operation.{operations};
 ghost use Rattle.jh_ops.specs.OperationWritten.{IsWritable};
-ghost use Rattle.jh_timeline_sections.specs.HistoryAndRest.{AreHistoryAndRest, HasNoLine, IsFirstLine};
-ghost use Rattle.jh_timeline_sections.specs.HistoryAndRest.{active, IsBehindEnd, IsOfBytes};
-ghost use Rattle.jh_timeline_sections.specs.HistoryAndRest.{RefusesHistoryAndRest, IsNoHistory};
+ghost use Rattle.jh_histories.specs.HistoryAndRest.{AreHistoryAndRest, HasNoLine, IsFirstLine};
+ghost use Rattle.jh_histories.specs.HistoryAndRest.{active, IsBehindEnd, IsOfBytes};
+ghost use Rattle.jh_histories.specs.HistoryAndRest.{RefusesHistoryAndRest, IsNoHistory};
 
+use crate::error::ReadHistoryError;
+use crate::reading::history_in;
 use jh_edn::{EdnError, read_bytes, spelled_once};
-use jh_histories::{ReadHistoryError, history_in};
 use jh_ops::{HistoryError, Op};
 use std::alloc::Global;
 use std::io::Read;
