@@ -15,4 +15,5 @@ pub mod ApartLemmas
 pub mod StartLemmas
 pub mod SameLemmas
 pub mod BumpLemmas
+pub mod AmountLemmas
 pub mod NamingLemmas

@@ -1,6 +1,6 @@
 -- Links, nodes and bumps that are given by nodes themselves: a fault of them is judged as its definition says.
 use Rattle.std.proofs.Common.{◌≡◌, ℕ, Bool, true, false, List, [], ◌∷◌, refl, sym, ◌∙◌, ap, length}
-use Rattle.std.specs.Prelude.{⊤, ℤ, Option, Some, None, Result, Ok, Err, MatchResult, if◌then◌else◌, is_none, ◌||◌}
+use Rattle.std.specs.Prelude.{ℤ, Option, Some, None, Result, Ok, Err, MatchResult, if◌then◌else◌, is_none, ◌||◌}
 use Rattle.std.specs.List.{cons_option, filter_map, list_any}
 use Rattle.jh_tables.specs.declared.faults.LinkFault.{LinkFault}
 use Rattle.jh_tables.specs.declared.faults.LinkFault.TheVariants as Kind
@@ -9,8 +9,9 @@ use Rattle.jh_tables.specs.Plain.{fault_on_links, fault_on_nodes}
 use Rattle.jh_env.specs.Amounts.{IsLinkAmount}
 use Rattle.jh_env.specs.Faults.{AreBumps, AreLinksOf, FaultValue, RefusesBumps, RefusesLinks, RefusesNodes, is_self_link, is_unknown_bump, is_unknown_link, is_unknown_node, kept_links, kept_nodes}
 use Rattle.jh_env.specs.Faults.{Bump, Cut}
-use Rattle.jh_env.specs.Naming.{AreAllFound, AreLinksBy, IsFaultBy, IsRightKind, RefusesBumpsBy, RefusesLinksBy, RefusesNodesBy, are_bumps, known_bump, known_link, known_node}
+use Rattle.jh_env.specs.Naming.{AreAllFound, AreLinksBy, IsFaultBy, RefusesBumpsBy, RefusesLinksBy, RefusesNodesBy, are_bumps, known_bump, known_link, known_node}
 use Rattle.jh_env.specs.declared.faults.FaultError.TheVariants as FaultError
+use Rattle.jh_env.proofs.AmountLemmas.{IsJudged, judged_cut}
 use Rattle.jh_env.proofs.BumpLemmas.{bumps_right, right_bumps}
 use Rattle.std.proofs.lemmas.Bool.{false≢true}
 
@@ -57,23 +58,26 @@ same_bumps names bumps known = same_unless (is_unknown_bump (length names)) bump
 links_known_by : (names : List (List ℕ)) (links : List (ℕ × ℕ)) → AreLinksBy (known_link names) links → AreLinksOf (length names) links
 links_known_by names links (known, other) = (sym (unknown_links names links) ∙ known, ap (list_any is_self_link) (sym (same_links names links known)) ∙ other)
 
-pub links_made : (names : List (List ℕ)) (kind : LinkFault) (links : List (ℕ × ℕ)) (fault : FaultValue)
-    → IsFaultBy (known_link names) (Some kind) links fault × AreLinksBy (known_link names) links × IsRightKind (Some kind)
+pub links_made : (names : List (List ℕ)) (kind : LinkFault) (judged : Option LinkFault) (links : List (ℕ × ℕ)) → IsJudged kind judged → (fault : FaultValue)
+    → IsFaultBy (known_link names) judged links fault × AreLinksBy (known_link names) links
     → (fault ≡ fault_on_links kind (kept_links links)) × AreLinksOf (length names) links × IsLinkAmount kind
-links_made names kind links fault (is, known, right) =
-    (is ∙ ap (λ ls. fault_on_links kind (kept_links ls)) (same_links names links known.0), links_known_by names links known, right)
+links_made names kind None links wrong fault (is, known) = absurd is
+links_made names kind (Some judged) links (same, right) fault (is, known) =
+    (is ∙ ap (λ ls. fault_on_links judged (kept_links ls)) (same_links names links known.0) ∙ ap (λ k. fault_on_links k (kept_links links)) same, links_known_by names links known, right)
 
 pub cut_made : (names : List (List ℕ)) (links : List (ℕ × ℕ)) (fault : FaultValue)
-    → IsFaultBy (known_link names) (Some Kind.Cut) links fault × AreLinksBy (known_link names) links × IsRightKind (Some Kind.Cut)
+    → IsFaultBy (known_link names) (Some Kind.Cut) links fault × AreLinksBy (known_link names) links
     → (fault ≡ Cut (kept_links links)) × AreLinksOf (length names) links
-cut_made names links fault made = let all = links_made names Kind.Cut links fault made in (all.0, all.1)
+cut_made names links fault made = let all = links_made names Kind.Cut (Some Kind.Cut) links judged_cut fault made in (all.0, all.1)
 
-pub links_refused : (names : List (List ℕ)) (kind : LinkFault) (links : List (ℕ × ℕ)) (refusal : FaultError.the_data)
-    → RefusesLinksBy (known_link names) (Some kind) links refusal → RefusesLinks (length names) links (IsLinkAmount kind) refusal
-links_refused names kind links FaultError.UnknownNode refused = sym (unknown_links names links) ∙ refused
-links_refused names kind links FaultError.SelfLink (known, self) = (sym (unknown_links names links) ∙ known, ap (list_any is_self_link) (sym (same_links names links known)) ∙ self)
-links_refused names kind links FaultError.BadAmount (known, wrong) = (links_known_by names links known, wrong)
-links_refused names kind links FaultError.OutOfMemory (known, right, some) = (links_known_by names links known, right, some)
+pub links_refused : (names : List (List ℕ)) (kind : LinkFault) (judged : Option LinkFault) (links : List (ℕ × ℕ)) → IsJudged kind judged → (refusal : FaultError.the_data)
+    → RefusesLinksBy (known_link names) judged links refusal → RefusesLinks (length names) links (IsLinkAmount kind) refusal
+links_refused names kind judged links is FaultError.UnknownNode refused = sym (unknown_links names links) ∙ refused
+links_refused names kind judged links is FaultError.SelfLink (known, self) = (sym (unknown_links names links) ∙ known, ap (list_any is_self_link) (sym (same_links names links known)) ∙ self)
+links_refused names kind None links wrong FaultError.BadAmount (known, none) = (links_known_by names links known, wrong)
+links_refused names kind (Some judged) links is FaultError.BadAmount (known, none) = absurd cc
+links_refused names kind None links wrong FaultError.OutOfMemory (known, right, some) = absurd cc
+links_refused names kind (Some judged) links is FaultError.OutOfMemory (known, right, some) = (links_known_by names links known, is.1, some)
 
 pub nodes_made : (names : List (List ℕ)) (kind : NodeFault) (nodes : List ℕ) (fault : FaultValue)
     → (fault ≡ fault_on_nodes kind (kept_nodes (filter_map (known_node names) nodes))) × AreAllFound (known_node names) nodes

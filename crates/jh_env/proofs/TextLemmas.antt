@@ -3,7 +3,7 @@ use Rattle.std.proofs.Common.{◌≡◌, ℕ, ◌+◌, ◌<◌, if◌then◌else
 use Rattle.std.proofs.lemmas.List.{at_drop_more}
 use Rattle.std.proofs.lemmas.List.Folds.{list_all-map}
 use Rattle.std.specs.List.{list_all}
-use Rattle.jh_edn.specs.Edn.{Edn, mapping, members_of, value_under, pairs_in}
+use Rattle.jh_edn.specs.Edn.{mapping, members_of, value_under}
 use Rattle.jh_edn.proofs.CitedLemmas.{pairs_in-members_of}
 use Rattle.jh_edn.specs.View.{view_pair, view_pairs}
 use Rattle.jh_edn.specs.declared.value.Value.{Value}

@@ -1,6 +1,6 @@
 -- The order of what a fault names (this project's own): links by the place of their source and then
 -- of their destination, nodes and bumps by place.
-use Rattle.std.specs.Prelude.{ℕ, Bool, ℤ, List}
+use Rattle.std.specs.Prelude.{ℕ, Bool, ℤ}
 use Rattle.std.specs.Ordering.{nat_cmp, ordering_then, is_lt}
 use Rattle.jh_edn.specs.Order.{in_order}
 use Rattle.jh_tables.specs.Faults.{FaultValue}

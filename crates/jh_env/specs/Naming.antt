@@ -4,12 +4,11 @@
 -- so it is judged alike however they are given.
 use Rattle.std.specs.Prelude.{◌≡◌, ◌≢◌, ℕ, ◌^◌, ◌&&◌, Bool, true, false, not, ℤ, pos, negsuc}
 use Rattle.std.specs.Prelude.{List, [], ◌∷◌, ◌++◌, length, nat_lt, nat_le, if◌then◌else◌}
-use Rattle.std.specs.Prelude.{is_none, Option, Some, None, option_and_then, option_map}
+use Rattle.std.specs.Prelude.{is_none, IsSome, Option, Some, None, option_and_then, option_map}
 use Rattle.std.specs.List.{filter_map, list_all, list_any}
 use Rattle.jh_edn.specs.Edn.{Edn, int, str, elements_of}
 use Rattle.jh_tables.specs.Plain.{fault_on_links}
 use Rattle.jh_tables.specs.declared.faults.LinkFault.{LinkFault}
-use Rattle.jh_env.specs.Amounts.{IsLinkAmount}
 use Rattle.jh_env.specs.Faults.{FaultValue, is_same_bumped, is_self_link, is_unknown_bump}
 use Rattle.jh_env.specs.Faults.{is_unknown_link, is_unknown_node, kept_links}
 use Rattle.jh_env.specs.TextErrors.{place_of}
@@ -90,12 +89,8 @@ abbrev pub AreLinksBy : {A : Type 0} → (A → Option (ℕ × ℕ)) → List A 
 AreLinksBy ends links =
     AreAllFound ends links × (list_any is_self_link (filter_map ends links) ≡ false)
 
--- the kind of a fault of links, where its amount is in its range; none is an amount that is not
-abbrev pub IsRightKind : Option LinkFault → Type 0
-IsRightKind None = ⊥
-IsRightKind (Some kind) = IsLinkAmount kind
-
--- the fault of this kind on the links that are found, each once
+-- the fault that does this to the links that are found, each once; none stands for what has an amount
+-- out of its range
 abbrev pub IsFaultBy : {A : Type 0} → (A → Option (ℕ × ℕ)) → Option LinkFault → List A
     → FaultValue → Type 0
 IsFaultBy ends None links fault = ⊥
@@ -103,15 +98,15 @@ IsFaultBy ends (Some kind) links fault =
     fault ≡ fault_on_links kind (kept_links (filter_map ends links))
 
 -- Why a fault on the links that are found is refused: an unknown node anywhere, else a node linked
--- with itself, else its amount, else memory, which only a link to keep needs.
+-- with itself, else its amount, for which none stands, else memory, which only a link to keep needs.
 abbrev pub RefusesLinksBy : {A : Type 0} → (A → Option (ℕ × ℕ)) → Option LinkFault → List A
     → FaultError → Type 0
 RefusesLinksBy ends kind links UnknownNode = list_any (λ l. is_none (ends l)) links ≡ true
 RefusesLinksBy ends kind links SelfLink =
     AreAllFound ends links × (list_any is_self_link (filter_map ends links) ≡ true)
-RefusesLinksBy ends kind links BadAmount = AreLinksBy ends links × (IsRightKind kind → ⊥)
+RefusesLinksBy ends kind links BadAmount = AreLinksBy ends links × (kind ≡ None)
 RefusesLinksBy ends kind links OutOfMemory =
-    AreLinksBy ends links × IsRightKind kind × (links ≢ [])
+    AreLinksBy ends links × IsSome kind × (links ≢ [])
 
 -- why a fault on the nodes that are found is refused: an unknown node anywhere, else memory
 abbrev pub RefusesNodesBy : {A : Type 0} → (A → Option ℕ) → List A → FaultError → Type 0

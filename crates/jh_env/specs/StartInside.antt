@@ -9,13 +9,13 @@ use Rattle.jh_env.specs.declared.starting.Start.TheInside.{Inside}
 -- the names and the cells
 abbrev pub start_value : Inside → StartValue
 start_value a =
-    record { names = a.names; cells = record { links = a.links.items; nodes = a.cells.items } }
+    record { names = a.names; cells = record { links = a.links.items; nodes = a.nodes.items } }
 
 -- good names, a cell for each pair of nodes and each node, and amounts within their ranges
 pub record IsSetUp (a : Inside) : Type 0 where
   pub names : AreFew a.names × AreNodeNames a.names
-  pub few : length a.cells.items ≤ 64
-  pub named : length a.cells.items ≡ length a.names
-  pub square : length a.links.items ≡ length a.cells.items * length a.cells.items
+  pub few : length a.nodes.items ≤ 64
+  pub named : length a.nodes.items ≡ length a.names
+  pub square : length a.links.items ≡ length a.nodes.items * length a.nodes.items
   pub links : All IsStartingLink a.links.items
-  pub cells : All IsStartingNode a.cells.items
+  pub nodes : All IsStartingNode a.nodes.items

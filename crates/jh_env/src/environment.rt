@@ -16,15 +16,15 @@ use jh_tables::{Link, Node, NodeCell, Tables};
 use std::alloc::{AllocError, Global};
 use std::marker::Model;
 
-/// The most faults that can be put and not taken.
+/// The most faults that can be laid at once: put and not taken off again.
 pub const MAX_LAID: usize = jh_tables::MAX_LAID;
 
-/// The most milliseconds by which a message can be late: a minute at the start or by a fix, and one
-/// for each fault.
+/// The most milliseconds by which a message can be late: a minute at the start or by a fix, and a
+/// further minute for each of 256 faults.
 pub const MAX_DELAY_MS: u64 = 60_000 * 257;
 
-/// The most milliseconds by which a clock can be off, either way: 10^12 at the start and 10^9 for
-/// each fault.
+/// The most milliseconds by which a clock can be off, either way: 10^12 at the start and a further
+/// 10^9 for each of 256 faults.
 pub const MAX_OFFSET_MS: u64 = 1_000_000_000_000 + 256 * 1_000_000_000;
 
 /// Cells of links and nodes, and what faults make of them. A contract sees the names, the starting
@@ -57,9 +57,9 @@ impl Env {
         let Start {
             names,
             links,
-            cells,
+            nodes,
         } = start;
-        let tables = Tables::start(alloc, &links, &cells)?;
+        let tables = Tables::start(alloc, &links, &nodes)?;
         Ok(Env { names, tables })
     }
 
@@ -100,7 +100,7 @@ impl Env {
         self.tables.node(node)
     }
 
-    /// How many faults are put and not taken, at most 256.
+    /// How many faults are laid, which is put and not taken off again: at most 256.
     pub fn laid(&self) -> usize
         ensures { result ≡ self.now.laid }
     {

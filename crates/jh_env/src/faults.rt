@@ -10,15 +10,17 @@ ghost use Rattle.jh_env.specs.Faults.{AreBumps, AreLinksOf, FitsCount, IsFault, 
 ghost use Rattle.jh_env.specs.Faults.{IsLossAmount, IsSlowAmount, RefusesBumps, RefusesLinks};
 ghost use Rattle.jh_env.specs.Faults.{RefusesNodes, is_unknown_bump, is_unknown_node};
 ghost use Rattle.jh_env.specs.Faults.{kept_links, kept_nodes};
-ghost use Rattle.jh_env.specs.Naming.{AreAllFound, AreLinksBy, IsFaultBy, IsRightKind};
+ghost use Rattle.jh_env.specs.Amounts.{link_fault_of};
+ghost use Rattle.jh_env.specs.Naming.{AreAllFound, AreLinksBy, IsFaultBy};
 ghost use Rattle.jh_env.specs.Naming.{are_bumps};
 ghost use Rattle.jh_env.specs.Naming.{RefusesBumpsBy, RefusesLinksBy, RefusesNodesBy};
 
+use crate::amounts::GivenLinkFault;
 use crate::environment::Env;
 use crate::names::Nodes;
 use crate::naming::{NamesBump, NamesLink, NamesNode};
 use crate::{judging, keeping};
-use jh_tables::{LinkFault, Node, NodeFault, PlainFault};
+use jh_tables::{Node, NodeFault, PlainFault};
 use std::alloc::{AllocError, Global};
 use std::marker::Model;
 use thiserror::Error;
@@ -88,26 +90,26 @@ fn are_same_bumps(bumps: &[(Node, i64)], others: &[(Node, i64)]) -> bool
 }
 
 impl Fault {
-    /// The fault of this kind on these links, given by their nodes, their places or their names. A
-    /// link that is named twice is kept once, where it stood first; a fault that names no link is
-    /// allowed. No kind stands for one whose amount is out of its range. Takes time linear in the
-    /// links given: each is looked up in a hashed set of those kept so far, of which 64 nodes have
-    /// at most 4,032.
+    /// The fault that does this to these links, which are given by their nodes, their places or
+    /// their names. A link that is named twice is kept once, where it stood first; a fault that
+    /// names no link is allowed. Takes time linear in the links given: each is looked up in a hashed
+    /// set of those kept so far, of which 64 nodes have at most 4,032.
     ///
-    /// Errors, over all links: `UnknownNode`, `SelfLink`, `BadAmount`, `OutOfMemory`.
+    /// Errors, over all links: `UnknownNode`, `SelfLink`, `BadAmount` where the amount is out of its
+    /// range, `OutOfMemory`.
     pub fn on_links<L: NamesLink>(
         alloc: Global,
         nodes: &Nodes,
-        kind: Option<LinkFault>,
+        given: GivenLinkFault,
         links: &[L],
     ) -> Result<Fault, FaultError>
         ensures made { MatchResult result
-            (λ fault. IsFaultBy (L.linked nodes.now) kind links.now fault
-            × AreLinksBy (L.linked nodes.now) links.now × IsRightKind kind)
-            (RefusesLinksBy (L.linked nodes.now) kind links.now) }
+            (λ fault. IsFaultBy (L.linked nodes.now) (link_fault_of given) links.now fault
+            × AreLinksBy (L.linked nodes.now) links.now)
+            (RefusesLinksBy (L.linked nodes.now) (link_fault_of given) links.now) }
         ensures fits { IfOk result (FitsCount (length nodes.now)) }
     {
-        let kind = judging::judged_links(nodes, kind, links)?;
+        let kind = judging::judged_links(nodes, given, links)?;
         match keeping::kept_links(alloc, nodes, links) {
             Ok(links) => Ok(Fault {
                 fault: PlainFault::OnLinks(kind, links),
@@ -185,7 +187,7 @@ impl Fault {
             (RefusesLinks (length nodes.now) links.now ⊤) }
         ensures fits { IfOk result (FitsCount (length nodes.now)) }
     {
-        Fault::on_links(alloc, nodes, Some(LinkFault::Cut), links)
+        Fault::on_links(alloc, nodes, GivenLinkFault::Cut, links)
     }
 
     /// Makes messages on links later, by 1 to 60,000 milliseconds. Links are kept as `on_links` keeps
@@ -204,7 +206,7 @@ impl Fault {
             (RefusesLinks (length nodes.now) links.now (IsSlowAmount ms)) }
         ensures fits { IfOk result (FitsCount (length nodes.now)) }
     {
-        Fault::on_links(alloc, nodes, Some(LinkFault::Slow(ms)), links)
+        Fault::on_links(alloc, nodes, GivenLinkFault::Slow(i128::from(ms)), links)
     }
 
     /// Loses messages on links, at a level of 1 to 20 in 20. Links are kept as `on_links` keeps them.
@@ -222,7 +224,7 @@ impl Fault {
             (RefusesLinks (length nodes.now) links.now (IsLossAmount level)) }
         ensures fits { IfOk result (FitsCount (length nodes.now)) }
     {
-        Fault::on_links(alloc, nodes, Some(LinkFault::Loss(level)), links)
+        Fault::on_links(alloc, nodes, GivenLinkFault::Loss(i128::from(level)), links)
     }
 
     /// Fixes the delay of links, at 0 to 60,000 milliseconds, whatever it was before; slow delays
@@ -242,7 +244,7 @@ impl Fault {
             (RefusesLinks (length nodes.now) links.now (IsFixAmount ms)) }
         ensures fits { IfOk result (FitsCount (length nodes.now)) }
     {
-        Fault::on_links(alloc, nodes, Some(LinkFault::Fix(ms)), links)
+        Fault::on_links(alloc, nodes, GivenLinkFault::Fix(i128::from(ms)), links)
     }
 
     /// Pauses the processes of nodes. Nodes are kept as `on_nodes` keeps them.

@@ -1,31 +1,20 @@
-//! Whether a fault is refused, memory aside, whatever its links, nodes or bumps are given by:
-//! `specs/Naming.antt` has the rules. Each is judged here alone.
+//! Whether a fault is refused, whether its links, nodes or bumps are given by nodes, places or
+//! names. `specs/Naming.antt` has the rules, and no other file judges a fault; only memory may be
+//! refused later, while a fault is kept.
 
-ghost use Rattle.std.specs.Prelude.{◌≡◌, ◌≢◌, ◌↔◌, ◌==◌, [], Some, IsTrue, MatchResult, is_none};
+ghost use Rattle.std.specs.Prelude.{◌≡◌, ◌≢◌, ◌==◌, [], Some, MatchResult, is_none};
 ghost use Rattle.std.specs.List.{filter_map, list_all, list_any};
-ghost use Rattle.jh_env.specs.Amounts.{IsLinkAmount};
+ghost use Rattle.jh_env.specs.Amounts.{IsLinkAmount, link_fault_of};
 ghost use Rattle.jh_env.specs.Faults.{is_self_link};
 ghost use Rattle.jh_env.specs.Naming as rule;
 ghost use Rattle.jh_env.specs.Naming.{AreLinksBy, RefusesLinksBy};
 ghost use Rattle.jh_env.specs.declared.faults.FaultError.TheVariants.{OutOfMemory};
 
-use crate::faults::{FaultError, MAX_BUMPED_MS, MAX_FIXED_MS, MAX_LOSS, MAX_SLOWED_MS};
+use crate::amounts::GivenLinkFault;
+use crate::faults::{FaultError, MAX_BUMPED_MS};
 use crate::names::Nodes;
 use crate::naming::{NamesBump, NamesLink, NamesNode};
 use jh_tables::{LinkFault, Node};
-
-/// Whether the amount of a fault of links is in its range: to slow by 1 to 60,000 milliseconds, to
-/// lose at a level of 1 to 20, to fix at 0 to 60,000 milliseconds.
-pub fn is_link_amount(kind: LinkFault) -> bool
-    ensures { IsTrue result ↔ IsLinkAmount kind }
-{
-    match kind {
-        LinkFault::Cut => true,
-        LinkFault::Slow(ms) => 0 < ms && ms <= MAX_SLOWED_MS,
-        LinkFault::Loss(level) => 0 < level && level <= MAX_LOSS,
-        LinkFault::Fix(ms) => ms <= MAX_FIXED_MS,
-    }
-}
 
 /// Whether the amount of a bump is in its range.
 fn is_bump_amount(ms: i64) -> bool
@@ -100,16 +89,17 @@ pub(crate) fn are_apart<B: NamesBump>(nodes: &Nodes, bumps: &[B]) -> bool
     true
 }
 
-/// The kind of a fault on these links, or why such a fault is refused whatever memory there is.
+/// What a fault does to these links, or why such a fault is refused whatever memory there is.
 pub(crate) fn judged_links<L: NamesLink>(
     nodes: &Nodes,
-    kind: Option<LinkFault>,
+    given: GivenLinkFault,
     links: &[L],
 ) -> Result<LinkFault, FaultError>
     ensures { MatchResult result
-        (λ right. (kind ≡ Some right) × IsLinkAmount right
+        (λ kind. (link_fault_of given ≡ Some kind) × IsLinkAmount kind
         × AreLinksBy (L.linked nodes.now) links.now)
-        (λ e. (e ≢ OutOfMemory) × RefusesLinksBy (L.linked nodes.now) kind links.now e) }
+        (λ e. (e ≢ OutOfMemory)
+        × RefusesLinksBy (L.linked nodes.now) (link_fault_of given) links.now e) }
 {
     if is_any_end_unknown(nodes, links) {
         return Err(FaultError::UnknownNode);
@@ -117,8 +107,8 @@ pub(crate) fn judged_links<L: NamesLink>(
     if is_any_self_link(nodes, links) {
         return Err(FaultError::SelfLink);
     }
-    match kind {
-        Some(kind) if is_link_amount(kind) => Ok(kind),
-        _ => Err(FaultError::BadAmount),
+    match given.judged() {
+        Some(kind) => Ok(kind),
+        None => Err(FaultError::BadAmount),
     }
 }

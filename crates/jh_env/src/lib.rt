@@ -2,6 +2,7 @@
 //! make of the cells.
 #![tactic(auto)]
 
+mod amounts;
 mod environment;
 mod fault_order;
 mod faults;
@@ -13,10 +14,10 @@ mod naming;
 mod starting;
 mod texts;
 
+pub use amounts::GivenLinkFault;
 pub use environment::{Env, MAX_DELAY_MS, MAX_LAID, MAX_OFFSET_MS};
 pub use faults::{Fault, FaultError, MAX_BUMPED_MS, MAX_FIXED_MS, MAX_LOSS, MAX_SLOWED_MS};
 pub use jh_tables::{Life, Link, LinkFault, Node, NodeCell, NodeFault, PlainFault};
-pub use judging::is_link_amount;
 pub use laws::limits;
 pub use names::{Nodes, NodesError};
 pub use naming::{NamesBump, NamesLink, NamesNode, bump_spelled, link_names, node_name};

@@ -25,7 +25,7 @@ pub const MAX_START_OFFSET_MS: i64 = 1_000_000_000_000;
 pub struct Start {
     pub(crate) names: Nodes,
     pub(crate) links: Vec<Link>,
-    pub(crate) cells: Vec<NodeCell>,
+    pub(crate) nodes: Vec<NodeCell>,
 }
 
 impl Model for Start {
@@ -59,7 +59,7 @@ impl Start {
         let count = nodes.len();
         Ok(Start {
             links: vec![in alloc; Link::calm(); count * count]?,
-            cells: vec![in alloc; NodeCell::running(); count]?,
+            nodes: vec![in alloc; NodeCell::running(); count]?,
             names: nodes,
         })
     }
@@ -75,7 +75,7 @@ impl Start {
     pub fn link(&self, from: Node, to: Node) -> Option<Link>
         ensures { result ≡ link_at self.now.cells from to }
     {
-        let count = self.cells.len();
+        let count = self.nodes.len();
         let (from, to) = (from.place() as usize, to.place() as usize);
         if from < count && to < count && from != to {
             Some(self.links[from * count + to])
@@ -88,7 +88,7 @@ impl Start {
     pub fn node(&self, node: Node) -> Option<NodeCell>
         ensures { result ≡ node_at self.now.cells node }
     {
-        self.cells.get(node.place() as usize).copied()
+        self.nodes.get(node.place() as usize).copied()
     }
 
     /// Sets the link from one node to another.
@@ -100,7 +100,7 @@ impl Start {
             (λ _. SetsLink self.old from to link self.new)
             (λ e. (self.new ≡ self.old) × RefusesLink self.old from to link e) }
     {
-        let count = self.cells.len();
+        let count = self.nodes.len();
         let (source, destination) = (from.place() as usize, to.place() as usize);
         if source >= count || destination >= count {
             return Err(StartError::UnknownNode);
@@ -125,13 +125,13 @@ impl Start {
             (λ e. (self.new ≡ self.old) × RefusesNode self.old node cell e) }
     {
         let place = node.place() as usize;
-        if place >= self.cells.len() {
+        if place >= self.nodes.len() {
             return Err(StartError::UnknownNode);
         }
         if cell.clock < -MAX_START_OFFSET_MS || cell.clock > MAX_START_OFFSET_MS {
             return Err(StartError::BadAmount);
         }
-        self.cells[place] = cell;
+        self.nodes[place] = cell;
         Ok(())
     }
 }

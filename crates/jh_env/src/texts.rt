@@ -109,11 +109,11 @@ impl From<StartError> for EnvTextError {
 /// The environment that a value is the text of, at its start: no cell of it has been written.
 ///
 /// Errors, in this order: `NotMap`; `UnknownKey` for a key that is none of the six; `MissingNodes`;
-/// `BadEntry` where a value under a key has not its shape; `NoNodes`, `TooManyNodes`, `BadName`,
+/// `BadEntry` where what stands under a key does not have the key's shape; `NoNodes`, `TooManyNodes`, `BadName`,
 /// `DuplicateName` as `Nodes::of` has them; then for the first entry in error, in the order of the
 /// keys, `UnknownNode`, `SelfLink`, `BadAmount` or `RepeatedEntry`. `OutOfMemory` where memory was
-/// refused before another error was found. Of a key that a map made by hand holds twice, the first
-/// counts.
+/// refused before another error was found. Where a map that no text spells has a key twice, the
+/// first of them counts.
 ///
 /// Takes time linear in the text: repeats are looked for among the accepted entries, of which 64
 /// nodes have at most 12,224.

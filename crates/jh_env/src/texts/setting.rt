@@ -159,7 +159,8 @@ fn set_entry(start: &mut Start, entry: &Entry) -> Result<(), EnvTextError>
     }
 }
 
-/// Sets what the entries mean, or finds the first in error, where nothing was set before.
+/// Sets what the entries mean in an environment where nothing is set yet, or finds the first entry
+/// in error.
 pub fn set_all(start: &mut Start, entries: &[Entry]) -> Result<(), EnvTextError>
     requires { IsCalm start.old }
     ensures { MatchResult result

@@ -1,7 +1,16 @@
+use Rattle.std.proofs.Common.{SFits}
+use Rattle.std.specs.Int.{w128}
+use Rattle.std.proofs.lemmas.Int.{to_z-of_z}
 use Rattle.jh_tables.specs.declared.faults.LinkFault.TheVariants.{Slow}
+use Rattle.jh_env.proofs.AmountLemmas.{judged_slow}
 use Rattle.jh_env.proofs.NamingLemmas.{links_made, links_refused, match_both}
 use Rattle.jh_env.proofs.faults.Fault.slow.Goals as goal
 
 pub returns-clause-made : goal.returns-clause-made
 returns-clause-made c =
-    match_both c.on_links.result (links_made c.args.nodes.now (Slow c.args.ms) c.args.links.now) (links_refused c.args.nodes.now (Slow c.args.ms) c.args.links.now) c.on_links.ensures.made
+    let names = c.args.nodes.now in
+    let links = c.args.links.now in
+    let judged = judged_slow c.args.ms c.from.result c.from.ensures in
+    let fits : SFits w128 c.from.result = record { sfits = c.from.type_inv } in
+    let made = simp to_z-of_z at c.on_links.ensures.made in
+    match_both c.on_links.result (links_made names (Slow c.args.ms) _ links judged) (links_refused names (Slow c.args.ms) _ links judged) made
