@@ -15,9 +15,9 @@ use Rattle.jh_nemesis.specs.Changed.{AgreeElsewhere, changed_by}
 use Rattle.jh_nemesis.specs.Work.{NemesisValue, faults_only_in}
 use Rattle.jh_nemesis.specs.NemesisInside.{nemesis_of, state_from, state_of}
 use Rattle.jh_nemesis.specs.declared.nemesis.Nemesis.TheInside.{Inside}
-use Rattle.jh_nemesis.specs.RecordsInside.{active_after, begun_fault, faults_at, moment, past_of, future_of, record_at, stamps_changed, AreRight, AreStamps, IsBegin, IsRight, IsTrueTo}
-use Rattle.jh_nemesis.specs.declared.records.AcceptedStep.{AcceptedStep}
-use Rattle.jh_nemesis.specs.declared.records.AcceptedStep.TheVariants.{Begun, Withdrawn, WithdrawnAll}
+use Rattle.jh_nemesis.specs.AcceptedInside.{active_after, begun_fault, faults_at, moment, past_of, future_of, accepted_at, stamps_changed, AreRight, AreStamps, IsBegin, IsRight, IsTrueTo}
+use Rattle.jh_nemesis.specs.declared.accepted.AcceptedStep.{AcceptedStep}
+use Rattle.jh_nemesis.specs.declared.accepted.AcceptedStep.TheVariants.{Begun, Withdrawn, WithdrawnAll}
 use Rattle.jh_nemesis.specs.declared.steps.Step.{Step}
 use Rattle.jh_nemesis.specs.declared.steps.Step.TheVariants.{Begin, Withdraw, WithdrawAll, Undo, Redo}
 use Rattle.jh_nemesis.specs.declared.steps.StepAnswer.TheVariants as StepAnswer
@@ -25,7 +25,7 @@ use Rattle.jh_nemesis.proofs.CellLemmas.{agree, none_kept}
 use Rattle.jh_nemesis.proofs.CursorLemmas.{apart, has_future, has_past}
 use Rattle.jh_nemesis.proofs.EffectLemmas.{begun_moment, begun_right, withdrawn_begin, withdrawn_moment, withdrawn_right}
 use Rattle.jh_nemesis.proofs.LawLemmas.{fresh}
-use Rattle.jh_nemesis.proofs.RecordLemmas.{Apart, apart_after, are_stamps}
+use Rattle.jh_nemesis.proofs.AcceptedLemmas.{Apart, apart_after, are_stamps}
 use Rattle.jh_nemesis.proofs.StampLemmas.{split_at}
 use Rattle.jh_nemesis.proofs.MomentLemmas.{HasMore, active_there, all_more, id_more, none_alone, one_more}
 
@@ -59,67 +59,67 @@ pushed_more id f fs new =
 
 -- ---- at a step that is kept
 
-others_fail : (id : ℕ) (records : List AcceptedStep) (stamps : List ℕ) → All (λ k. has_id id (begun_fault (record_at records k)) ≡ false) stamps
-    → filter (has_id id) (faults_at records stamps) ≡ []
-others_fail id records stamps other =
-    none_kept (has_id id) (faults_at records stamps)
-    (list_any_none (has_id id) (faults_at records stamps) (All-map (λ (f : ℕ × FaultValue). has_id id f ≡ false) (λ k. begun_fault (record_at records k)) stamps other))
+others_fail : (id : ℕ) (accepted : List AcceptedStep) (stamps : List ℕ) → All (λ k. has_id id (begun_fault (accepted_at accepted k)) ≡ false) stamps
+    → filter (has_id id) (faults_at accepted stamps) ≡ []
+others_fail id accepted stamps other =
+    none_kept (has_id id) (faults_at accepted stamps)
+    (list_any_none (has_id id) (faults_at accepted stamps) (All-map (λ (f : ℕ × FaultValue). has_id id f ≡ false) (λ k. begun_fault (accepted_at accepted k)) stamps other))
 
 -- the fault of a stamp alone has its id
-stamp_alone : (records : List AcceptedStep) (active : List ℕ) (id stamp : ℕ) → AllPairs (Apart records) active → Contains active stamp
-    → (begun_fault (record_at records stamp)).0 ≡ id → filter (has_id id) (faults_at records active) ≡ faults_at records (stamp ∷ [])
-stamp_alone records active id stamp apart inside is =
-    let f : ℕ → ℕ × FaultValue = λ k. begun_fault (record_at records k) in
-    let s = split_at (Apart records) active stamp apart inside in
-    let before = others_fail id records s.before (λ k d h. ne_eqb _ id (λ e. (s.below k d h).ids (e ∙ sym is))) in
-    let after = others_fail id records s.after (λ k d h. ne_eqb _ id (λ e. (s.above k d h).ids (is ∙ sym e))) in
+stamp_alone : (accepted : List AcceptedStep) (active : List ℕ) (id stamp : ℕ) → AllPairs (Apart accepted) active → Contains active stamp
+    → (begun_fault (accepted_at accepted stamp)).0 ≡ id → filter (has_id id) (faults_at accepted active) ≡ faults_at accepted (stamp ∷ [])
+stamp_alone accepted active id stamp apart inside is =
+    let f : ℕ → ℕ × FaultValue = λ k. begun_fault (accepted_at accepted k) in
+    let s = split_at (Apart accepted) active stamp apart inside in
+    let before = others_fail id accepted s.before (λ k d h. ne_eqb _ id (λ e. (s.below k d h).ids (e ∙ sym is))) in
+    let after = others_fail id accepted s.after (λ k d h. ne_eqb _ id (λ e. (s.above k d h).ids (is ∙ sym e))) in
     let here : has_id id (f stamp) ≡ true = eq-eqb (f stamp).0 id is in
-    rw (s.is, map-append f s.before (stamp ∷ s.after), filter-append (has_id id) (faults_at records s.before) (f stamp ∷ faults_at records s.after), before, here, after) refl
+    rw (s.is, map-append f s.before (stamp ∷ s.after), filter-append (has_id id) (faults_at accepted s.before) (f stamp ∷ faults_at accepted s.after), before, here, after) refl
 
 abbrev IsStamp : List AcceptedStep → ℕ → Type 0
-IsStamp records k = (k < length records) × IsBegin (record_at records k)
+IsStamp accepted k = (k < length accepted) × IsBegin (accepted_at accepted k)
 
 -- one of some stamps
-pub one_known : (records : List AcceptedStep) (stamps : List ℕ) (stamp : ℕ) → AreStamps records stamps → Contains stamps stamp → AreStamps records (stamp ∷ [])
-one_known records stamps stamp known inside =
-    All-cons (IsStamp records) stamp [] (All-contains (IsStamp records) stamps stamp known inside) (All-nil (IsStamp records))
+pub one_known : (accepted : List AcceptedStep) (stamps : List ℕ) (stamp : ℕ) → AreStamps accepted stamps → Contains stamps stamp → AreStamps accepted (stamp ∷ [])
+one_known accepted stamps stamp known inside =
+    All-cons (IsStamp accepted) stamp [] (All-contains (IsStamp accepted) stamps stamp known inside) (All-nil (IsStamp accepted))
 
 -- a step and its undoing change the same
 abbrev AreChanges : Active → Active → List FaultValue → Type 0
 AreChanges before after named = IsChange before after named × IsChange after before named
 
-module _ (nodes : ℕ) (records : List AcceptedStep) (right : AreRight nodes records) (n : ℕ) (within : n < length records) where
-  record_changes : (step : AcceptedStep) → record_at records n ≡ step → AreChanges (moment records n) (moment records (n + 1)) (faults_in (faults_at records (stamps_changed n step)))
-  record_changes (Begun id fault) at =
-      let more = pushed_more id fault (moment records n) (begun_right nodes records right n within id fault at).2 in
-      let both : AreChanges (moment records n) (moment records n ++ (id, fault) ∷ []) (fault ∷ []) = (begun _ _ _ more, ended _ _ _ more) in
-      rw (at, begun_moment nodes records right n within id fault at) both
-  record_changes (Withdrawn stamp) at =
-      let id : ℕ = (begun_fault (record_at records stamp)).0 in
-      let more = id_more id (moment records n) in
-      let alone = stamp_alone records (active_after records n) id stamp (apart_after nodes records right n (omega arith)) (withdrawn_right nodes records right n within stamp at) refl in
-      let both : AreChanges (moment records n) (active_without (moment records n) id) (faults_in (filter (has_id id) (moment records n))) = (ended _ _ _ more, begun _ _ _ more) in
-      rw (withdrawn_moment nodes records right n within stamp at) (subst (λ (named : Active). AreChanges (moment records n) (active_without (moment records n) id) (faults_in named)) alone both)
-  record_changes (WithdrawnAll stamps) at =
-      let is : stamps.items ≡ active_after records n = subst (IsRight nodes records n) at (right n within) in
-      let none : active_after records (n + 1) ≡ [] = rw (add-one n, at) refl in
-      let more = all_more (moment records n) in
-      let both : AreChanges (moment records n) [] (faults_in (moment records n)) = (ended _ _ _ more, begun _ _ _ more) in
+module _ (nodes : ℕ) (accepted : List AcceptedStep) (right : AreRight nodes accepted) (n : ℕ) (within : n < length accepted) where
+  step_changes : (step : AcceptedStep) → accepted_at accepted n ≡ step → AreChanges (moment accepted n) (moment accepted (n + 1)) (faults_in (faults_at accepted (stamps_changed n step)))
+  step_changes (Begun id fault) at =
+      let more = pushed_more id fault (moment accepted n) (begun_right nodes accepted right n within id fault at).2 in
+      let both : AreChanges (moment accepted n) (moment accepted n ++ (id, fault) ∷ []) (fault ∷ []) = (begun _ _ _ more, ended _ _ _ more) in
+      rw (at, begun_moment nodes accepted right n within id fault at) both
+  step_changes (Withdrawn stamp) at =
+      let id : ℕ = (begun_fault (accepted_at accepted stamp)).0 in
+      let more = id_more id (moment accepted n) in
+      let alone = stamp_alone accepted (active_after accepted n) id stamp (apart_after nodes accepted right n (omega arith)) (withdrawn_right nodes accepted right n within stamp at) refl in
+      let both : AreChanges (moment accepted n) (active_without (moment accepted n) id) (faults_in (filter (has_id id) (moment accepted n))) = (ended _ _ _ more, begun _ _ _ more) in
+      rw (withdrawn_moment nodes accepted right n within stamp at) (subst (λ (named : Active). AreChanges (moment accepted n) (active_without (moment accepted n) id) (faults_in named)) alone both)
+  step_changes (WithdrawnAll stamps) at =
+      let is : stamps.items ≡ active_after accepted n = subst (IsRight nodes accepted n) at (right n within) in
+      let none : active_after accepted (n + 1) ≡ [] = rw (add-one n, at) refl in
+      let more = all_more (moment accepted n) in
+      let both : AreChanges (moment accepted n) [] (faults_in (moment accepted n)) = (ended _ _ _ more, begun _ _ _ more) in
       rw (none, is) both
 
-  record_known : (step : AcceptedStep) → record_at records n ≡ step → AreStamps records (stamps_changed n step)
-  record_known (Begun id fault) at =
-      All-cons (IsStamp records) n [] (within, subst IsBegin (sym at) tt) (All-nil (IsStamp records))
-  record_known (Withdrawn stamp) at =
-      All-cons (IsStamp records) stamp [] (withdrawn_begin nodes records right n within stamp at) (All-nil (IsStamp records))
-  record_known (WithdrawnAll stamps) at = rw (subst (IsRight nodes records n) at (right n within)) (are_stamps records n (omega arith))
+  step_known : (step : AcceptedStep) → accepted_at accepted n ≡ step → AreStamps accepted (stamps_changed n step)
+  step_known (Begun id fault) at =
+      All-cons (IsStamp accepted) n [] (within, subst IsBegin (sym at) tt) (All-nil (IsStamp accepted))
+  step_known (Withdrawn stamp) at =
+      All-cons (IsStamp accepted) stamp [] (withdrawn_begin nodes accepted right n within stamp at) (All-nil (IsStamp accepted))
+  step_known (WithdrawnAll stamps) at = rw (subst (IsRight nodes accepted n) at (right n within)) (are_stamps accepted n (omega arith))
 
   -- each of its stamps is that of a begin
-  pub changed_known : AreStamps records (stamps_changed n (record_at records n))
-  changed_known = record_known (record_at records n) refl
+  pub changed_known : AreStamps accepted (stamps_changed n (accepted_at accepted n))
+  changed_known = step_known (accepted_at accepted n) refl
 
-  pub changes : AreChanges (moment records n) (moment records (n + 1)) (faults_in (faults_at records (stamps_changed n (record_at records n))))
-  changes = record_changes (record_at records n) refl
+  pub changes : AreChanges (moment accepted n) (moment accepted (n + 1)) (faults_in (faults_at accepted (stamps_changed n (accepted_at accepted n))))
+  changes = step_changes (accepted_at accepted n) refl
 
 -- ---- at a step
 
@@ -155,29 +155,29 @@ redo_ok : (b : Bool) → is_ok (if b then StepAnswer.NothingToRedo else StepAnsw
 redo_ok true ok = cc
 redo_ok false ok = refl
 
-module _ {env : EnvValue} {records : List AcceptedStep} {cursor : ℕ} {active : List ℕ} (sound : IsTrueTo env records cursor active) where
+module _ {env : EnvValue} {accepted : List AcceptedStep} {cursor : ℕ} {active : List ℕ} (sound : IsTrueTo env accepted cursor active) where
   abbrev now : State
-  now = state_from env records cursor active
+  now = state_from env accepted cursor active
 
   undo_from : (n : ℕ) → cursor ≡ suc n
-      → IsChange now.active (state_after now Undo).active (faults_in (faults_at records (stamps_changed n (record_at records n))))
+      → IsChange now.active (state_after now Undo).active (faults_in (faults_at accepted (stamps_changed n (accepted_at accepted n))))
   undo_from n at =
-      let within : n < length records = let w = sound.within in omega (arith, at) in
-      let both = rw (add-one n) at (changes (length env.names) records sound.right n within).1 in
+      let within : n < length accepted = let w = sound.within in omega (arith, at) in
+      let both = rw (add-one n) at (changes (length env.names) accepted sound.right n within).1 in
       rw (sound.now, at) both
 
   pub undo_changes : is_ok (answer_of now Undo) ≡ true
-      → IsChange now.active (state_after now Undo).active (faults_in (faults_at records (stamps_changed (cursor - 1) (record_at records (cursor - 1)))))
+      → IsChange now.active (state_after now Undo).active (faults_in (faults_at accepted (stamps_changed (cursor - 1) (accepted_at accepted (cursor - 1)))))
   undo_changes ok =
-      let later : 0 < cursor = has_past records cursor (undo_ok (is_empty (past_of records cursor)) ok) in
+      let later : 0 < cursor = has_past accepted cursor (undo_ok (is_empty (past_of accepted cursor)) ok) in
       undo_from (cursor - 1) (omega arith)
 
   pub redo_changes : is_ok (answer_of now Redo) ≡ true
-      → IsChange now.active (state_after now Redo).active (faults_in (faults_at records (stamps_changed cursor (record_at records cursor))))
+      → IsChange now.active (state_after now Redo).active (faults_in (faults_at accepted (stamps_changed cursor (accepted_at accepted cursor))))
   redo_changes ok =
-      let h : cursor < length records = has_future records cursor (redo_ok (is_empty (future_of records cursor (length records - cursor))) ok) in
-      let left : length records - cursor ≡ suc (length records - suc cursor) = omega arith in
-      let both = rw (add-one cursor) at (changes (length env.names) records sound.right cursor h).0 in
+      let h : cursor < length accepted = has_future accepted cursor (redo_ok (is_empty (future_of accepted cursor (length accepted - cursor))) ok) in
+      let left : length accepted - cursor ≡ suc (length accepted - suc cursor) = omega arith in
+      let both = rw (add-one cursor) at (changes (length env.names) accepted sound.right cursor h).0 in
       rw (left, sound.now) both
 
   -- the faults that an accepted step begins or ends
@@ -192,11 +192,11 @@ module _ {env : EnvValue} {records : List AcceptedStep} {cursor : ℕ} {active :
   withdraw_gives id ok = rw ok (ended _ _ _ (id_more id now.active))
 
   pub withdraw_changes : (id stamp : ℕ) → is_ok (answer_of now (Withdraw id)) ≡ true → Contains active stamp
-      → (begun_fault (record_at records stamp)).0 ≡ id
-      → IsChange now.active (state_after now (Withdraw id)).active (faults_in (faults_at records (stamp ∷ [])))
+      → (begun_fault (accepted_at accepted stamp)).0 ≡ id
+      → IsChange now.active (state_after now (Withdraw id)).active (faults_in (faults_at accepted (stamp ∷ [])))
   withdraw_changes id stamp ok inside is =
       subst (λ (named : Active). IsChange now.active (state_after now (Withdraw id)).active (faults_in named))
-      (stamp_alone records active id stamp (apart sound) inside is) (withdraw_gives id ok)
+      (stamp_alone accepted active id stamp (apart sound) inside is) (withdraw_gives id ok)
 
   pub all_changes : is_ok (answer_of now WithdrawAll) ≡ true → IsChange now.active (state_after now WithdrawAll).active (faults_in now.active)
   all_changes ok = rw ok (ended _ _ _ (all_more now.active))

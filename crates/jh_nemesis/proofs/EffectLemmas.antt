@@ -9,29 +9,29 @@ use Rattle.jh_env.specs.Faults.{FaultValue, FitsCount, fault_size}
 use Rattle.jh_env.specs.Standing.{AreInOrder}
 use Rattle.jh_nemesis.specs.State.{Active, has_id, is_active}
 use Rattle.jh_nemesis.specs.Steps.{active_without}
-use Rattle.jh_nemesis.specs.RecordsInside.{active_after, begun_fault, faults_at, moment, record_at, fault_with_stamp, faults_with_stamps, AreRight, AreStamps, IsBegin, IsRight}
+use Rattle.jh_nemesis.specs.AcceptedInside.{active_after, begun_fault, faults_at, moment, accepted_at, fault_with_stamp, faults_with_stamps, AreRight, AreStamps, IsBegin, IsRight}
 use Rattle.jh_nemesis.specs.Work.{faults_only_in, size_between, size_of_all}
 use Rattle.jh_nemesis.specs.Steps.{max_active}
-use Rattle.jh_nemesis.specs.declared.records.AcceptedStep.{AcceptedStep}
-use Rattle.jh_nemesis.specs.declared.records.AcceptedStep.TheVariants.{Begun, Withdrawn}
-use Rattle.jh_nemesis.proofs.RecordLemmas.{Apart, apart_after, are_stamps, few_after, fit_after, without_stamp}
+use Rattle.jh_nemesis.specs.declared.accepted.AcceptedStep.{AcceptedStep}
+use Rattle.jh_nemesis.specs.declared.accepted.AcceptedStep.TheVariants.{Begun, Withdrawn}
+use Rattle.jh_nemesis.proofs.AcceptedLemmas.{Apart, apart_after, are_stamps, few_after, fit_after, without_stamp}
 use Rattle.jh_nemesis.proofs.StampLemmas.{SplitAt, all_pass, split_at, taken_out}
 
 -- the step that is read
-pub step_read : (records : List AcceptedStep) (n : ℕ) (step : AcceptedStep) → n < length records → step ≡ get_or records n step → record_at records n ≡ step
-step_read records n step within is = get_or_default records n (Withdrawn 0) step within ∙ sym is
+pub step_read : (accepted : List AcceptedStep) (n : ℕ) (step : AcceptedStep) → n < length accepted → step ≡ get_or accepted n step → accepted_at accepted n ≡ step
+step_read accepted n step within is = get_or_default accepted n (Withdrawn 0) step within ∙ sym is
 
 -- ---- in order of their stamps
 
-pub stamps_rise : (records : List AcceptedStep) (stamps : List ℕ) → AllPairs (λ x y. x < y) stamps → AreInOrder (faults_with_stamps records stamps)
-stamps_rise records stamps rise i j d less within =
-    let below : j < length stamps = rw (length-map stamps (fault_with_stamp records)) at within in
-    let first = get_or-map (fault_with_stamp records) stamps i 0 d (omega arith) in
-    let second = get_or-map (fault_with_stamp records) stamps j 0 d below in
+pub stamps_rise : (accepted : List AcceptedStep) (stamps : List ℕ) → AllPairs (λ x y. x < y) stamps → AreInOrder (faults_with_stamps accepted stamps)
+stamps_rise accepted stamps rise i j d less within =
+    let below : j < length stamps = rw (length-map stamps (fault_with_stamp accepted)) at within in
+    let first = get_or-map (fault_with_stamp accepted) stamps i 0 d (omega arith) in
+    let second = get_or-map (fault_with_stamp accepted) stamps j 0 d below in
     rw (first, second) (rise i j 0 less below)
 
-pub active_rise : (nodes : ℕ) (records : List AcceptedStep) → AreRight nodes records → (n : ℕ) → n ≤ length records → AllPairs (λ x y. x < y) (active_after records n)
-active_rise nodes records right n within i j d less inside = (apart_after nodes records right n within i j d less inside).less
+pub active_rise : (nodes : ℕ) (accepted : List AcceptedStep) → AreRight nodes accepted → (n : ℕ) → n ≤ length accepted → AllPairs (λ x y. x < y) (active_after accepted n)
+active_rise nodes accepted right n within i j d less inside = (apart_after nodes accepted right n within i j d less inside).less
 
 pub rise_take : (n : ℕ) (stamps : List ℕ) → AllPairs (λ x y. x < y) stamps → AllPairs (λ x y. x < y) (take n stamps)
 rise_take n stamps rise i j d less within =
@@ -39,21 +39,21 @@ rise_take n stamps rise i j d less within =
     rw (get_or-take n stamps i d (omega (arith, less, short.0)), get_or-take n stamps j d short.0) (rise i j d less short.1)
 
 -- one more stamp
-pub stamped_more : (records : List AcceptedStep) (stamps : List ℕ) (i : ℕ) → i < length stamps
-    → faults_with_stamps records (take (i + 1) stamps) ≡ faults_with_stamps records (take i stamps) ++ fault_with_stamp records (get_or stamps i 0) ∷ []
-stamped_more records stamps i h = ap (faults_with_stamps records) (take_more stamps i 0 h) ∙ map-append (fault_with_stamp records) (take i stamps) (get_or stamps i 0 ∷ [])
+pub stamped_more : (accepted : List AcceptedStep) (stamps : List ℕ) (i : ℕ) → i < length stamps
+    → faults_with_stamps accepted (take (i + 1) stamps) ≡ faults_with_stamps accepted (take i stamps) ++ fault_with_stamp accepted (get_or stamps i 0) ∷ []
+stamped_more accepted stamps i h = ap (faults_with_stamps accepted) (take_more stamps i 0 h) ∙ map-append (fault_with_stamp accepted) (take i stamps) (get_or stamps i 0 ∷ [])
 
-pub faults_more : (records : List AcceptedStep) (stamps : List ℕ) (i : ℕ) → i < length stamps
-    → faults_at records (take (i + 1) stamps) ≡ faults_at records (take i stamps) ++ begun_fault (record_at records (get_or stamps i 0)) ∷ []
-faults_more records stamps i h =
-    ap (faults_at records) (take_more stamps i 0 h) ∙ map-append (λ k. begun_fault (record_at records k)) (take i stamps) (get_or stamps i 0 ∷ [])
+pub faults_more : (accepted : List AcceptedStep) (stamps : List ℕ) (i : ℕ) → i < length stamps
+    → faults_at accepted (take (i + 1) stamps) ≡ faults_at accepted (take i stamps) ++ begun_fault (accepted_at accepted (get_or stamps i 0)) ∷ []
+faults_more accepted stamps i h =
+    ap (faults_at accepted) (take_more stamps i 0 h) ∙ map-append (λ k. begun_fault (accepted_at accepted k)) (take i stamps) (get_or stamps i 0 ∷ [])
 
 -- the stamp at i, and those behind it
-pub stamped_left : (records : List AcceptedStep) (stamps : List ℕ) (i : ℕ) → i < length stamps
-    → faults_with_stamps records (drop i stamps) ≡ fault_with_stamp records (get_or stamps i 0) ∷ faults_with_stamps records (drop (i + 1) stamps)
-stamped_left records stamps i h =
+pub stamped_left : (accepted : List AcceptedStep) (stamps : List ℕ) (i : ℕ) → i < length stamps
+    → faults_with_stamps accepted (drop i stamps) ≡ fault_with_stamp accepted (get_or stamps i 0) ∷ faults_with_stamps accepted (drop (i + 1) stamps)
+stamped_left accepted stamps i h =
     let cut : drop i stamps ≡ get_or stamps i 0 ∷ drop (i + 1) stamps = rw add-one (drop-cons stamps i 0 h) in
-    ap (faults_with_stamps records) cut
+    ap (faults_with_stamps accepted) cut
 
 -- ---- how much is written
 
@@ -102,10 +102,10 @@ size_more f (g ∷ before) =
     omega (arith, size_more f before, sum_by-cons (λ (f : ℕ × FaultValue). fault_size f.1) g (before ++ f ∷ []), sum_by-cons (λ (f : ℕ × FaultValue). fault_size f.1) g before)
 
 -- what is written of the first of some stamps, and of one more
-pub work_more : (records : List AcceptedStep) (stamps : List ℕ) (i was now start : ℕ) → i < length stamps → was ≤ start + size_of_all (faults_at records (take i stamps))
-    → now ≤ was + fault_size (fault_with_stamp records (get_or stamps i 0)).1 → now ≤ start + size_of_all (faults_at records (take (i + 1) stamps))
-work_more records stamps i was now start h before here =
-    rw (faults_more records stamps i h) (omega (arith, before, here, size_more (begun_fault (record_at records (get_or stamps i 0))) (faults_at records (take i stamps))))
+pub work_more : (accepted : List AcceptedStep) (stamps : List ℕ) (i was now start : ℕ) → i < length stamps → was ≤ start + size_of_all (faults_at accepted (take i stamps))
+    → now ≤ was + fault_size (fault_with_stamp accepted (get_or stamps i 0)).1 → now ≤ start + size_of_all (faults_at accepted (take (i + 1) stamps))
+work_more accepted stamps i was now start h before here =
+    rw (faults_more accepted stamps i h) (omega (arith, before, here, size_more (begun_fault (accepted_at accepted (get_or stamps i 0))) (faults_at accepted (take i stamps))))
 
 -- no fault of an id is left where they are taken out
 pub gone : (id : ℕ) (fs : Active) → is_active (active_without fs id) id ≡ false
@@ -116,87 +116,87 @@ gone id (f ∷ fs) =
       | false ↦ λ is. rw is (gone id fs)
     ] refl
 
-module _ (nodes : ℕ) (records : List AcceptedStep) (right : AreRight nodes records) (n : ℕ) (within : n < length records) where
-  before_rise : AllPairs (λ x y. x < y) (active_after records n)
-  before_rise = active_rise nodes records right n (omega arith)
+module _ (nodes : ℕ) (accepted : List AcceptedStep) (right : AreRight nodes accepted) (n : ℕ) (within : n < length accepted) where
+  before_rise : AllPairs (λ x y. x < y) (active_after accepted n)
+  before_rise = active_rise nodes accepted right n (omega arith)
 
-  pub before_order : AreInOrder (faults_with_stamps records (active_after records n))
-  before_order = stamps_rise records (active_after records n) before_rise
+  pub before_order : AreInOrder (faults_with_stamps accepted (active_after accepted n))
+  before_order = stamps_rise accepted (active_after accepted n) before_rise
 
-  pub after_order : AreInOrder (faults_with_stamps records (active_after records (n + 1)))
-  after_order = stamps_rise records (active_after records (n + 1)) (active_rise nodes records right (n + 1) (omega arith))
+  pub after_order : AreInOrder (faults_with_stamps accepted (active_after accepted (n + 1)))
+  after_order = stamps_rise accepted (active_after accepted (n + 1)) (active_rise nodes accepted right (n + 1) (omega arith))
 
-  before_few : length (active_after records n) ≤ max_active
-  before_few = few_after nodes records right n (omega arith)
+  before_few : length (active_after accepted n) ≤ max_active
+  before_few = few_after nodes accepted right n (omega arith)
 
   -- a begin
-  module _ (id : ℕ) (fault : FaultValue) (at : record_at records n ≡ Begun id fault) where
-    pub begun_right : IsRight nodes records n (Begun id fault)
-    begun_right = subst (IsRight nodes records n) at (right n within)
+  module _ (id : ℕ) (fault : FaultValue) (at : accepted_at accepted n ≡ Begun id fault) where
+    pub begun_right : IsRight nodes accepted n (Begun id fault)
+    begun_right = subst (IsRight nodes accepted n) at (right n within)
 
-    pub begun_fits : FitsCount nodes (fault_with_stamp records n).1
+    pub begun_fits : FitsCount nodes (fault_with_stamp accepted n).1
     begun_fits = rw at begun_right.0
 
-    pub begun_room : (laid : ℕ) → laid ≡ length (faults_with_stamps records (active_after records n)) → laid < max_active
-    begun_room laid is = let short = begun_right.1 in omega (arith, is, short, length-map (active_after records n) (fault_with_stamp records))
+    pub begun_room : (laid : ℕ) → laid ≡ length (faults_with_stamps accepted (active_after accepted n)) → laid < max_active
+    begun_room laid is = let short = begun_right.1 in omega (arith, is, short, length-map (active_after accepted n) (fault_with_stamp accepted))
 
-    begun_active : active_after records (n + 1) ≡ active_after records n ++ n ∷ []
+    begun_active : active_after accepted (n + 1) ≡ active_after accepted n ++ n ∷ []
     begun_active = rw (add-one n, at) refl
 
-    pub begun_stamped : faults_with_stamps records (active_after records (n + 1)) ≡ faults_with_stamps records (active_after records n) ++ fault_with_stamp records n ∷ []
-    begun_stamped = ap (faults_with_stamps records) begun_active ∙ map-append (fault_with_stamp records) (active_after records n) (n ∷ [])
+    pub begun_stamped : faults_with_stamps accepted (active_after accepted (n + 1)) ≡ faults_with_stamps accepted (active_after accepted n) ++ fault_with_stamp accepted n ∷ []
+    begun_stamped = ap (faults_with_stamps accepted) begun_active ∙ map-append (fault_with_stamp accepted) (active_after accepted n) (n ∷ [])
 
-    pub begun_moment : moment records (n + 1) ≡ moment records n ++ (id, fault) ∷ []
+    pub begun_moment : moment accepted (n + 1) ≡ moment accepted n ++ (id, fault) ∷ []
     begun_moment =
-        ap (faults_at records) begun_active
-        ∙ map-append (λ k. begun_fault (record_at records k)) (active_after records n) (n ∷ [])
-        ∙ ap (λ (step : AcceptedStep). moment records n ++ begun_fault step ∷ []) at
+        ap (faults_at accepted) begun_active
+        ∙ map-append (λ k. begun_fault (accepted_at accepted k)) (active_after accepted n) (n ∷ [])
+        ∙ ap (λ (step : AcceptedStep). moment accepted n ++ begun_fault step ∷ []) at
 
-    pub begun_size : fault_size (fault_with_stamp records n).1 ≤ size_between (moment records n) (moment records (n + 1))
+    pub begun_size : fault_size (fault_with_stamp accepted n).1 ≤ size_between (moment accepted n) (moment accepted (n + 1))
     begun_size =
         let new : ℕ × FaultValue = (id, fault) in
-        let there : Contains (moment records n ++ new ∷ []) new = Contains-append_right (moment records n) (new ∷ []) new (zero, omega arith, refl) in
-        let size : fault_size fault ≤ size_between (moment records n) (moment records n ++ new ∷ []) = alone_after new (moment records n) (moment records n ++ new ∷ []) there begun_right.2 in
+        let there : Contains (moment accepted n ++ new ∷ []) new = Contains-append_right (moment accepted n) (new ∷ []) new (zero, omega arith, refl) in
+        let size : fault_size fault ≤ size_between (moment accepted n) (moment accepted n ++ new ∷ []) = alone_after new (moment accepted n) (moment accepted n ++ new ∷ []) there begun_right.2 in
         rw (begun_moment, at) size
 
   -- a withdrawal
-  module _ (stamp : ℕ) (at : record_at records n ≡ Withdrawn stamp) where
-    pub withdrawn_right : Contains (active_after records n) stamp
-    withdrawn_right = subst (IsRight nodes records n) at (right n within)
+  module _ (stamp : ℕ) (at : accepted_at accepted n ≡ Withdrawn stamp) where
+    pub withdrawn_right : Contains (active_after accepted n) stamp
+    withdrawn_right = subst (IsRight nodes accepted n) at (right n within)
 
-    pub withdrawn_begin : (stamp < length records) × IsBegin (record_at records stamp)
-    withdrawn_begin = All-contains (λ k. (k < length records) × IsBegin (record_at records k)) (active_after records n) stamp (are_stamps records n (omega arith)) withdrawn_right
+    pub withdrawn_begin : (stamp < length accepted) × IsBegin (accepted_at accepted stamp)
+    withdrawn_begin = All-contains (λ k. (k < length accepted) × IsBegin (accepted_at accepted k)) (active_after accepted n) stamp (are_stamps accepted n (omega arith)) withdrawn_right
 
-    pub withdrawn_fits : FitsCount nodes (fault_with_stamp records stamp).1
+    pub withdrawn_fits : FitsCount nodes (fault_with_stamp accepted stamp).1
     withdrawn_fits =
-        All-contains (λ k. FitsCount nodes (begun_fault (record_at records k)).1) (active_after records n) stamp (fit_after nodes records right n (omega arith)) withdrawn_right
+        All-contains (λ k. FitsCount nodes (begun_fault (accepted_at accepted k)).1) (active_after accepted n) stamp (fit_after nodes accepted right n (omega arith)) withdrawn_right
 
-    pub split : SplitAt (Apart records) (active_after records n) stamp
-    split = split_at (Apart records) (active_after records n) stamp (apart_after nodes records right n (omega arith)) withdrawn_right
+    pub split : SplitAt (Apart accepted) (active_after accepted n) stamp
+    split = split_at (Apart accepted) (active_after accepted n) stamp (apart_after nodes accepted right n (omega arith)) withdrawn_right
 
     -- the others, before it and after it
     abbrev pub first : List (ℕ × FaultValue)
-    first = faults_with_stamps records split.before
+    first = faults_with_stamps accepted split.before
 
     abbrev pub last : List (ℕ × FaultValue)
-    last = faults_with_stamps records split.after
+    last = faults_with_stamps accepted split.after
 
-    pub withdrawn_before : faults_with_stamps records (active_after records n) ≡ first ++ fault_with_stamp records stamp ∷ last
-    withdrawn_before = ap (faults_with_stamps records) split.is ∙ map-append (fault_with_stamp records) split.before (stamp ∷ split.after)
+    pub withdrawn_before : faults_with_stamps accepted (active_after accepted n) ≡ first ++ fault_with_stamp accepted stamp ∷ last
+    withdrawn_before = ap (faults_with_stamps accepted) split.is ∙ map-append (fault_with_stamp accepted) split.before (stamp ∷ split.after)
 
-    withdrawn_active : active_after records (n + 1) ≡ filter (λ other. not (eqb other stamp)) (active_after records n)
+    withdrawn_active : active_after accepted (n + 1) ≡ filter (λ other. not (eqb other stamp)) (active_after accepted n)
     withdrawn_active = rw (add-one n, at) refl
 
-    others_left : active_after records (n + 1) ≡ split.before ++ split.after
+    others_left : active_after accepted (n + 1) ≡ split.before ++ split.after
     others_left =
         withdrawn_active
         ∙ ap (filter (λ other. not (eqb other stamp))) split.is
         ∙ taken_out split.before split.after stamp (λ k d h e. let less = (split.below k d h).less in omega arith) (λ k d h e. let less = (split.above k d h).less in omega arith)
 
-    pub withdrawn_after : faults_with_stamps records (active_after records (n + 1)) ≡ first ++ last
-    withdrawn_after = ap (faults_with_stamps records) others_left ∙ map-append (fault_with_stamp records) split.before split.after
+    pub withdrawn_after : faults_with_stamps accepted (active_after accepted (n + 1)) ≡ first ++ last
+    withdrawn_after = ap (faults_with_stamps accepted) others_left ∙ map-append (fault_with_stamp accepted) split.before split.after
 
-    pub withdrawn_room : (laid : ℕ) → laid ≡ length (faults_with_stamps records (active_after records (n + 1))) → laid < max_active
+    pub withdrawn_room : (laid : ℕ) → laid ≡ length (faults_with_stamps accepted (active_after accepted (n + 1))) → laid < max_active
     withdrawn_room laid is =
         omega (
           arith,
@@ -204,38 +204,38 @@ module _ (nodes : ℕ) (records : List AcceptedStep) (right : AreRight nodes rec
           before_few,
           ap length split.is,
           ap length others_left,
-          length-map (active_after records (n + 1)) (fault_with_stamp records),
+          length-map (active_after accepted (n + 1)) (fault_with_stamp accepted),
           length-append split.before (stamp ∷ split.after),
           length-append split.before split.after,
         )
 
-    pub withdrawn_moment : moment records (n + 1) ≡ active_without (moment records n) (begun_fault (record_at records stamp)).0
+    pub withdrawn_moment : moment accepted (n + 1) ≡ active_without (moment accepted n) (begun_fault (accepted_at accepted stamp)).0
     withdrawn_moment =
-        ap (faults_at records) withdrawn_active
-        ∙ without_stamp records (active_after records n) (begun_fault (record_at records stamp)).0 stamp (apart_after nodes records right n (omega arith)) withdrawn_right refl
+        ap (faults_at accepted) withdrawn_active
+        ∙ without_stamp accepted (active_after accepted n) (begun_fault (accepted_at accepted stamp)).0 stamp (apart_after nodes accepted right n (omega arith)) withdrawn_right refl
 
-    pub withdrawn_size : fault_size (fault_with_stamp records stamp).1 ≤ size_between (moment records n) (moment records (n + 1))
+    pub withdrawn_size : fault_size (fault_with_stamp accepted stamp).1 ≤ size_between (moment accepted n) (moment accepted (n + 1))
     withdrawn_size =
-        let f : ℕ × FaultValue = begun_fault (record_at records stamp) in
-        let parts : moment records n ≡ faults_at records split.before ++ f ∷ faults_at records split.after =
-        ap (faults_at records) split.is ∙ map-append (λ k. begun_fault (record_at records k)) split.before (stamp ∷ split.after) in
-        let there : Contains (moment records n) f =
-        subst (λ fs. Contains fs f) (sym parts) (Contains-append_right (faults_at records split.before) (f ∷ faults_at records split.after) f (zero, omega arith, refl)) in
-        alone_before f (moment records n) (moment records (n + 1)) there (ap (λ fs. is_active fs f.0) withdrawn_moment ∙ gone f.0 (moment records n))
+        let f : ℕ × FaultValue = begun_fault (accepted_at accepted stamp) in
+        let parts : moment accepted n ≡ faults_at accepted split.before ++ f ∷ faults_at accepted split.after =
+        ap (faults_at accepted) split.is ∙ map-append (λ k. begun_fault (accepted_at accepted k)) split.before (stamp ∷ split.after) in
+        let there : Contains (moment accepted n) f =
+        subst (λ fs. Contains fs f) (sym parts) (Contains-append_right (faults_at accepted split.before) (f ∷ faults_at accepted split.after) f (zero, omega arith, refl)) in
+        alone_before f (moment accepted n) (moment accepted (n + 1)) there (ap (λ fs. is_active fs f.0) withdrawn_moment ∙ gone f.0 (moment accepted n))
 
   -- a withdrawal of all
-  module _ (stamps : List ℕ) (is : stamps ≡ active_after records n) (none : active_after records (n + 1) ≡ []) where
-    pub all_begins : AreStamps records stamps
-    all_begins = rw is (are_stamps records n (omega arith))
+  module _ (stamps : List ℕ) (is : stamps ≡ active_after accepted n) (none : active_after accepted (n + 1) ≡ []) where
+    pub all_begins : AreStamps accepted stamps
+    all_begins = rw is (are_stamps accepted n (omega arith))
 
     pub all_few : length stamps ≤ max_active
     all_few = rw is before_few
 
-    pub all_fit : All (λ k. FitsCount nodes (fault_with_stamp records k).1) stamps
-    all_fit = rw is (fit_after nodes records right n (omega arith))
+    pub all_fit : All (λ k. FitsCount nodes (fault_with_stamp accepted k).1) stamps
+    all_fit = rw is (fit_after nodes accepted right n (omega arith))
 
     pub all_rise : AllPairs (λ x y. x < y) stamps
     all_rise = rw is before_rise
 
-    pub all_size : size_of_all (faults_at records stamps) ≤ size_between (moment records n) (moment records (n + 1))
-    all_size = rw (is, none) (all_before (moment records n))
+    pub all_size : size_of_all (faults_at accepted stamps) ≤ size_between (moment accepted n) (moment accepted (n + 1))
+    all_size = rw (is, none) (all_before (moment accepted n))

@@ -1,5 +1,5 @@
 pub mod StampLemmas
-pub mod RecordLemmas
+pub mod AcceptedLemmas
 pub mod EffectLemmas
 pub mod CursorLemmas
 pub mod LawLemmas

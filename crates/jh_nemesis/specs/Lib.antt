@@ -4,5 +4,5 @@ pub mod Laws
 pub mod Work
 pub mod WorkLaws
 pub mod Changed
-pub mod RecordsInside
+pub mod AcceptedInside
 pub mod NemesisInside

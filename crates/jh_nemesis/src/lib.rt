@@ -2,10 +2,10 @@
 //! were, the environment is what the faults that are active make of its start.
 #![tactic(auto)]
 
+mod accepted;
 mod effects;
 mod laws;
 mod nemesis;
-mod records;
 mod steps;
 
 pub use laws::{

@@ -1,7 +1,7 @@
 //! A nemesis: faults that are begun and withdrawn over an environment, and steps back and forth.
 //! `specs/Steps.antt` says what a step does, `specs/Work.antt` how much it may write,
-//! `specs/RecordsInside.antt` what the steps that are kept make active, and what holds between the
-//! fields.
+//! `specs/AcceptedInside.antt` which faults the accepted steps make active, and what holds between
+//! the fields.
 
 ghost use Rattle.std.specs.Prelude.{◌≡◌, ◌≢◌, ◌+◌, ◌≤◌, ◌<◌, ◌↔◌, [], true, false, length, map};
 ghost use Rattle.jh_edn.specs.Edn.{is_empty};
@@ -15,10 +15,10 @@ ghost use Rattle.jh_nemesis.specs.State.{state_forth_to};
 ghost use Rattle.jh_nemesis.specs.Work.{size_between, size_of_step, size_of_steps};
 ghost use Rattle.jh_nemesis.specs.Changed.{changed_by, AgreeElsewhere};
 
-use crate::effects::{step_back, step_forth};
-use crate::records::{
+use crate::accepted::{
     AcceptedStep, Stamps, changed_at, faults_of, play, play_back, put_at, stamp_of,
 };
+use crate::effects::{step_back, step_forth};
 use crate::steps::{
     BeginError, MAX_ACTIVE, MAX_STEPS, NothingToRedo, NothingToUndo, Step, StepAnswer, Stopped,
     WithdrawAllError, WithdrawError,
@@ -34,7 +34,7 @@ use std::marker::Model;
 pub struct Nemesis {
     alloc: Global,
     env: Env,
-    records: Vec<AcceptedStep>,
+    accepted: Vec<AcceptedStep>,
     cursor: usize,
     active: Stamps,
 }
@@ -82,7 +82,7 @@ impl Nemesis {
         Nemesis {
             alloc,
             env,
-            records: Vec::new(alloc),
+            accepted: Vec::new(alloc),
             cursor: 0,
             active: Stamps::new(),
         }
@@ -111,13 +111,13 @@ impl Nemesis {
         ensures { option_map (λ f. (f.0, f.1.now)) result ≡ slice_get self.now.state.active place }
     {
         let stamp = *self.active.get(place)?;
-        match &self.records[stamp] {
+        match &self.accepted[stamp] {
             AcceptedStep::Begun(id, fault) => Some((*id, fault)),
             _ => None,
         }
     }
 
-    /// Whether so many steps lie in the past that none can follow.
+    /// Whether as many steps lie in the past as can be kept.
     fn is_full(&self) -> bool
         ensures { result ≡ nat_le max_steps (length self.now.state.past) }
     {
@@ -128,7 +128,7 @@ impl Nemesis {
     fn check_begin(&self, id: u32) -> StepAnswer
         ensures { result ≡ begin_answer self.now.state id }
     {
-        if stamp_of(&self.records, &self.active, id).is_some() {
+        if stamp_of(&self.accepted, &self.active, id).is_some() {
             return StepAnswer::IdTaken;
         }
         if self.active.len() >= MAX_ACTIVE {
@@ -140,8 +140,8 @@ impl Nemesis {
         StepAnswer::Ok
     }
 
-    /// An accepted step is put at the cursor, as though it had been undone, and then taken as a
-    /// redo takes it.
+    /// Begins a fault under an id, and answers the step. An accepted step is put at the cursor, as
+    /// though it had been undone, and then taken as a redo takes it.
     fn begin_step(&mut self, id: u32, fault: Fault) -> Result<StepAnswer, AllocError>
         requires { FitsCount (length self.old.state.names) fault }
         ensures ok { IfOk result
@@ -158,7 +158,7 @@ impl Nemesis {
             return Ok(answer);
         }
         put_at(
-            &mut self.records,
+            &mut self.accepted,
             self.cursor,
             AcceptedStep::Begun(id, fault),
         )?;
@@ -166,7 +166,7 @@ impl Nemesis {
         Ok(StepAnswer::Ok)
     }
 
-    /// Withdraws the active fault of an id, and answers the step.
+    /// Withdraws the active fault of an id, and answers the step, as `begin_step` does.
     fn withdraw_step(&mut self, id: u32) -> Result<StepAnswer, AllocError>
         ensures ok { IfOk result
             (λ answer. (answer ≡ withdraw_answer self.old.state id)
@@ -176,14 +176,15 @@ impl Nemesis {
             ((withdraw_answer self.old.state id ≡ StepAnswer.Ok) × (self.new ≡ self.old)) }
         ensures work { self.new.work ≤ self.old.work + size_of_step self.old.state (Withdraw id) }
     {
-        let Some(stamp) = stamp_of(&self.records, &self.active, id) else {
-            return Ok(StepAnswer::NotActive);
-        };
-        if self.is_full() {
-            return Ok(StepAnswer::TooManySteps);
+        let answer = self.check_withdraw(id);
+        if answer != StepAnswer::Ok {
+            return Ok(answer);
         }
+        let Some(stamp) = stamp_of(&self.accepted, &self.active, id) else {
+            unreachable!();
+        };
         put_at(
-            &mut self.records,
+            &mut self.accepted,
             self.cursor,
             AcceptedStep::Withdrawn(stamp),
         )?;
@@ -195,7 +196,7 @@ impl Nemesis {
     fn check_withdraw(&self, id: u32) -> StepAnswer
         ensures { result ≡ withdraw_answer self.now.state id }
     {
-        if stamp_of(&self.records, &self.active, id).is_none() {
+        if stamp_of(&self.accepted, &self.active, id).is_none() {
             return StepAnswer::NotActive;
         }
         if self.is_full() {
@@ -233,7 +234,7 @@ impl Nemesis {
         }
         let stamps = Vec::from_slice(self.alloc, &self.active)?;
         put_at(
-            &mut self.records,
+            &mut self.accepted,
             self.cursor,
             AcceptedStep::WithdrawnAll(stamps),
         )?;
@@ -252,7 +253,7 @@ impl Nemesis {
     fn is_at_end(&self) -> bool
         ensures { result ≡ is_empty self.now.state.future }
     {
-        self.cursor == self.records.len()
+        self.cursor == self.accepted.len()
     }
 
     /// The answer to a step, if there is memory.
@@ -291,13 +292,13 @@ impl Nemesis {
         }
         match step {
             Step::Begin(_, fault) => Ok(vec![in alloc; fault]?),
-            Step::Withdraw(id) => match stamp_of(&self.records, &self.active, *id) {
-                Some(stamp) => faults_of(alloc, &self.records, &[stamp]),
+            Step::Withdraw(id) => match stamp_of(&self.accepted, &self.active, *id) {
+                Some(stamp) => faults_of(alloc, &self.accepted, &[stamp]),
                 None => Ok(Vec::new(alloc)),
             },
-            Step::WithdrawAll => faults_of(alloc, &self.records, &self.active),
-            Step::Undo => changed_at(alloc, &self.records, self.cursor - 1),
-            Step::Redo => changed_at(alloc, &self.records, self.cursor),
+            Step::WithdrawAll => faults_of(alloc, &self.accepted, &self.active),
+            Step::Undo => changed_at(alloc, &self.accepted, self.cursor - 1),
+            Step::Redo => changed_at(alloc, &self.accepted, self.cursor),
         }
     }
 
@@ -309,8 +310,8 @@ impl Nemesis {
             ≤ self.old.work + size_between self.old.state.active self.new.state.active }
     {
         self.cursor -= 1;
-        step_back(&mut self.env, &self.records, self.cursor);
-        play_back(&self.records, self.cursor, &mut self.active);
+        step_back(&mut self.env, &self.accepted, self.cursor);
+        play_back(&self.accepted, self.cursor, &mut self.active);
     }
 
     /// Goes forth to the moment after the next step.
@@ -320,8 +321,8 @@ impl Nemesis {
         ensures work { self.new.work
             ≤ self.old.work + size_between self.old.state.active self.new.state.active }
     {
-        step_forth(&mut self.env, &self.records, self.cursor);
-        play(&self.records, self.cursor, &mut self.active);
+        step_forth(&mut self.env, &self.accepted, self.cursor);
+        play(&self.accepted, self.cursor, &mut self.active);
         self.cursor += 1;
     }
 
@@ -468,7 +469,7 @@ impl Nemesis {
         }
     }
 
-    /// Goes back to the moment before the last step that stands: the faults that were active then
+    /// Takes back the last begin or withdrawal that stands: the faults that were active before it
     /// are active again, each in its place. It takes no memory.
     ///
     /// Error, which changes nothing: no step lies in the past.
@@ -484,7 +485,7 @@ impl Nemesis {
         }
     }
 
-    /// Goes forth again to the moment that the last step back left. It takes no memory.
+    /// Takes the begin or withdrawal again that was taken back last. It takes no memory.
     ///
     /// Error, which changes nothing: no step was undone since the last begin or withdrawal.
     pub fn redo(&mut self) -> Result<(), NothingToRedo>

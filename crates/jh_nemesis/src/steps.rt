@@ -12,7 +12,7 @@ use thiserror::Error;
 /// The most faults that are active at once.
 pub const MAX_ACTIVE: usize = 256;
 
-/// The most steps that are kept in the past.
+/// The most begins and withdrawals that lie in the past, where undo can reach them.
 pub const MAX_STEPS: usize = 4096;
 
 /// A step of a nemesis.
@@ -24,9 +24,9 @@ pub enum Step {
     Withdraw(u32),
     /// Withdraws all active faults.
     WithdrawAll,
-    /// Goes back to the moment before the last step that stands.
+    /// Takes back the last begin or withdrawal that stands.
     Undo,
-    /// Goes forth again to the moment before the last step back.
+    /// Takes the begin or withdrawal again that was taken back last.
     Redo,
 }
 
@@ -69,9 +69,9 @@ pub enum StepAnswer {
     Ok,
     /// A fault of this id is active already.
     IdTaken,
-    /// So many faults are active that none can be begun.
+    /// As many faults are active as can be (`MAX_ACTIVE`).
     TooManyActive,
-    /// So many steps lie in the past that none can follow.
+    /// As many steps lie in the past as can be kept (`MAX_STEPS`).
     TooManySteps,
     /// No fault of this id is active.
     NotActive,

@@ -8,7 +8,7 @@ use Rattle.jh_nemesis.specs.Work.{NemesisValue, size_of_step}
 use Rattle.jh_nemesis.specs.Steps.{begin_answer, state_after}
 use Rattle.jh_nemesis.specs.declared.steps.Step.TheVariants.{Begin}
 use Rattle.jh_nemesis.specs.declared.steps.StepAnswer.TheVariants as StepAnswer
-use Rattle.jh_nemesis.specs.declared.records.AcceptedStep.TheVariants.{Begun}
+use Rattle.jh_nemesis.specs.declared.accepted.AcceptedStep.TheVariants.{Begun}
 use Rattle.jh_nemesis.proofs.CursorLemmas.{begin_right, put_true, put_future, put_work, begun_state}
 use Rattle.jh_nemesis.proofs.nemesis.Nemesis.begin_step.Goals as goal
 
@@ -32,7 +32,7 @@ returns-clause-ok c =
     let found : begin_answer c.args.self.now.state c.args.id ≡ StepAnswer.Ok = search rules in
     let ok : begin_answer (state_of a) c.args.id ≡ StepAnswer.Ok = rw (← c.self.view_is) at found in
     let state =
-    begun_state c.self.invariant c.args.id c.args.fault c.put_at.new.records.items c.go_forth.new.self.state
+    begun_state c.self.invariant c.args.id c.args.fault c.put_at.new.accepted.items c.go_forth.new.self.state
     c.in_ok-put_at.ensures.ok c.go_forth.ensures.state ok in
     subst (λ (s : State). (StepAnswer.Ok ≡ begin_answer s c.args.id) × (c.go_forth.new.self.state ≡ state_after s (Begin c.args.id c.args.fault)))
     (ap (λ (n : NemesisValue). n.state) c.self.view_is) (sym ok, state)
@@ -49,9 +49,9 @@ returns-clause-work c =
     let found : begin_answer c.args.self.now.state c.args.id ≡ StepAnswer.Ok = search rules in
     let ok : begin_answer (state_of a) c.args.id ≡ StepAnswer.Ok = rw (← c.self.view_is) at found in
     let state =
-    begun_state c.self.invariant c.args.id c.args.fault c.put_at.new.records.items c.go_forth.new.self.state
+    begun_state c.self.invariant c.args.id c.args.fault c.put_at.new.accepted.items c.go_forth.new.self.state
     c.in_ok-put_at.ensures.ok c.go_forth.ensures.state ok in
     let written =
-    put_work c.self.invariant (Begun c.args.id c.args.fault) c.put_at.new.records.items c.go_forth.new.self.state (state_after (state_of a) (Begin c.args.id c.args.fault))
+    put_work c.self.invariant (Begun c.args.id c.args.fault) c.put_at.new.accepted.items c.go_forth.new.self.state (state_after (state_of a) (Begin c.args.id c.args.fault))
     c.go_forth.new.self.work (work_of a.env) c.in_ok-put_at.ensures.ok state c.go_forth.ensures.work in
     subst (λ (n : NemesisValue). c.go_forth.new.self.work ≤ n.work + size_of_step n.state (Begin c.args.id c.args.fault)) c.self.view_is written

@@ -2,7 +2,7 @@ use Rattle.std.proofs.Common.{◌≡◌, ◌<◌, ◌-◌, List, [], ◌∷◌, 
 use Rattle.std.specs.List.{Contains}
 use Rattle.jh_env.specs.Faults.{FaultValue}
 use Rattle.jh_nemesis.specs.State.{faults_in}
-use Rattle.jh_nemesis.specs.RecordsInside.{begun_fault, faults_at, record_at, stamps_changed}
+use Rattle.jh_nemesis.specs.AcceptedInside.{begun_fault, faults_at, accepted_at, stamps_changed}
 use Rattle.jh_nemesis.specs.Steps.{answer_of, is_ok}
 use Rattle.jh_nemesis.specs.declared.steps.Step.TheVariants.{Begin, Withdraw, WithdrawAll, Undo, Redo}
 use Rattle.jh_nemesis.specs.declared.steps.StepAnswer.TheVariants as StepAnswer
@@ -22,7 +22,7 @@ pub faults_of-requires : goal.faults_of-requires
 faults_of-requires c =
     let a = c.self.inside in
     let inside : Contains a.active.items c.in-Some.stamp = rw c.deref-in-Withdraw.ensures.0 at c.in-Some.ensures.stamp.0 in
-    rw c.deref-in-Some.ensures.value (one_known a.records.items a.active.items c.in-Some.stamp (known c.self.invariant) inside)
+    rw c.deref-in-Some.ensures.value (one_known a.accepted.items a.active.items c.in-Some.stamp (known c.self.invariant) inside)
 
 pub faults_of-requires-in-WithdrawAll : goal.faults_of-requires-in-WithdrawAll
 faults_of-requires-in-WithdrawAll c = rw (c.deref-in-WithdrawAll.ensures.value, c.deref-in-WithdrawAll-2.ensures.0) (known c.self.invariant)
@@ -30,14 +30,14 @@ faults_of-requires-in-WithdrawAll c = rw (c.deref-in-WithdrawAll.ensures.value, 
 pub changed_at-requires-clause-begins : goal.changed_at-requires-clause-begins
 changed_at-requires-clause-begins c =
     let a = c.self.inside in
-    let within : a.cursor - 1 < length a.records.items = search rules in
-    rw c.deref-in-Undo.ensures.value (changed_known (length a.env.names) a.records.items c.self.invariant.right (a.cursor - 1) within)
+    let within : a.cursor - 1 < length a.accepted.items = search rules in
+    rw c.deref-in-Undo.ensures.value (changed_known (length a.env.names) a.accepted.items c.self.invariant.right (a.cursor - 1) within)
 
 pub changed_at-requires-in-Redo-clause-begins : goal.changed_at-requires-in-Redo-clause-begins
 changed_at-requires-in-Redo-clause-begins c =
     let a = c.self.inside in
-    let within : a.cursor < length a.records.items = search rules in
-    rw c.deref-in-Redo.ensures.value (changed_known (length a.env.names) a.records.items c.self.invariant.right a.cursor within)
+    let within : a.cursor < length a.accepted.items = search rules in
+    rw c.deref-in-Redo.ensures.value (changed_known (length a.env.names) a.accepted.items c.self.invariant.right a.cursor within)
 
 pub returns-in_err-vec-in-Begin : goal.returns-in_err-vec-in-Begin
 returns-in_err-vec-in-Begin c =
@@ -54,9 +54,9 @@ returns-in_ok-vec-in-Begin c =
 pub returns-in-Some : goal.returns-in-Some
 returns-in-Some c =
     let a = c.self.inside in
-    let named : List FaultValue = faults_in (faults_at a.records.items (c.in-Some.stamp ∷ [])) in
+    let named : List FaultValue = faults_in (faults_at a.accepted.items (c.in-Some.stamp ∷ [])) in
     let inside : Contains a.active.items c.in-Some.stamp = rw c.deref-in-Withdraw.ensures.0 at c.in-Some.ensures.stamp.0 in
-    let at : (begun_fault (record_at a.records.items c.in-Some.stamp)).0 ≡ c.in-Withdraw.id = rw c.deref.ensures.value at c.in-Some.ensures.stamp.1 in
+    let at : (begun_fault (accepted_at a.accepted.items c.in-Some.stamp)).0 ≡ c.in-Withdraw.id = rw c.deref.ensures.value at c.in-Some.ensures.stamp.1 in
     let ok : answer_of c.args.self.now.state c.args.step.now ≡ StepAnswer.Ok = search rules in
     let h = seen a c.args.self.now c.args.step.now (Withdraw c.in-Withdraw.id) named c.self.view_is c.in-Withdraw.is ok (λ accepted. withdraw_changes c.self.invariant c.in-Withdraw.id c.in-Some.stamp accepted inside at) in
     record {
@@ -68,7 +68,7 @@ returns-in-Some c =
 pub returns-in-WithdrawAll : goal.returns-in-WithdrawAll
 returns-in-WithdrawAll c =
     let a = c.self.inside in
-    let named : List FaultValue = faults_in (faults_at a.records.items a.active.items) in
+    let named : List FaultValue = faults_in (faults_at a.accepted.items a.active.items) in
     let ok : answer_of c.args.self.now.state c.args.step.now ≡ StepAnswer.Ok = search rules in
     let h = seen a c.args.self.now c.args.step.now WithdrawAll named c.self.view_is c.in-WithdrawAll.is ok (all_changes c.self.invariant) in
     record {
@@ -80,7 +80,7 @@ returns-in-WithdrawAll c =
 pub returns-in-Undo : goal.returns-in-Undo
 returns-in-Undo c =
     let a = c.self.inside in
-    let named : List FaultValue = faults_in (faults_at a.records.items (stamps_changed (a.cursor - 1) (record_at a.records.items (a.cursor - 1)))) in
+    let named : List FaultValue = faults_in (faults_at a.accepted.items (stamps_changed (a.cursor - 1) (accepted_at a.accepted.items (a.cursor - 1)))) in
     let ok : answer_of c.args.self.now.state c.args.step.now ≡ StepAnswer.Ok = search rules in
     let h = seen a c.args.self.now c.args.step.now Undo named c.self.view_is c.in-Undo.is ok (undo_changes c.self.invariant) in
     record {
@@ -92,7 +92,7 @@ returns-in-Undo c =
 pub returns-in-Redo : goal.returns-in-Redo
 returns-in-Redo c =
     let a = c.self.inside in
-    let named : List FaultValue = faults_in (faults_at a.records.items (stamps_changed a.cursor (record_at a.records.items a.cursor))) in
+    let named : List FaultValue = faults_in (faults_at a.accepted.items (stamps_changed a.cursor (accepted_at a.accepted.items a.cursor))) in
     let ok : answer_of c.args.self.now.state c.args.step.now ≡ StepAnswer.Ok = search rules in
     let h = seen a c.args.self.now c.args.step.now Redo named c.self.view_is c.in-Redo.is ok (redo_changes c.self.invariant) in
     record {

@@ -4,7 +4,7 @@ use Rattle.jh_nemesis.specs.State.{State}
 use Rattle.jh_nemesis.specs.Work.{NemesisValue, size_of_step}
 use Rattle.jh_nemesis.specs.Steps.{withdraw_all_answer, state_after}
 use Rattle.jh_nemesis.specs.NemesisInside.{state_of}
-use Rattle.jh_nemesis.specs.declared.records.AcceptedStep.TheVariants.{WithdrawnAll}
+use Rattle.jh_nemesis.specs.declared.accepted.AcceptedStep.TheVariants.{WithdrawnAll}
 use Rattle.jh_nemesis.specs.declared.steps.Step.TheVariants.{WithdrawAll}
 use Rattle.jh_nemesis.specs.declared.steps.StepAnswer.TheVariants as StepAnswer
 use Rattle.jh_nemesis.proofs.CursorLemmas.{all_room, all_right, put_true, put_future, put_work, all_withdrawn_state}
@@ -32,7 +32,7 @@ returns-clause-ok c =
     let found : withdraw_all_answer c.args.self.now.state ≡ StepAnswer.Ok = search rules in
     let ok : withdraw_all_answer (state_of a) ≡ StepAnswer.Ok = rw (← c.self.view_is) at found in
     let state =
-    all_withdrawn_state c.self.invariant c.in_ok-stamps.stamps c.put_at.new.records.items c.go_forth.new.self.state
+    all_withdrawn_state c.self.invariant c.in_ok-stamps.stamps c.put_at.new.accepted.items c.go_forth.new.self.state
     c.in_ok-put_at.ensures.ok
     c.go_forth.ensures.state ok in
     subst (λ (s : State). (StepAnswer.Ok ≡ withdraw_all_answer s) × (c.go_forth.new.self.state ≡ state_after s WithdrawAll))
@@ -44,10 +44,10 @@ returns-clause-work c =
     let found : withdraw_all_answer c.args.self.now.state ≡ StepAnswer.Ok = search rules in
     let ok : withdraw_all_answer (state_of a) ≡ StepAnswer.Ok = rw (← c.self.view_is) at found in
     let state =
-    all_withdrawn_state c.self.invariant c.in_ok-stamps.stamps c.put_at.new.records.items c.go_forth.new.self.state
+    all_withdrawn_state c.self.invariant c.in_ok-stamps.stamps c.put_at.new.accepted.items c.go_forth.new.self.state
     c.in_ok-put_at.ensures.ok
     c.go_forth.ensures.state ok in
     let written =
-    put_work c.self.invariant (WithdrawnAll c.in_ok-stamps.stamps) c.put_at.new.records.items c.go_forth.new.self.state (state_after (state_of a) WithdrawAll)
+    put_work c.self.invariant (WithdrawnAll c.in_ok-stamps.stamps) c.put_at.new.accepted.items c.go_forth.new.self.state (state_after (state_of a) WithdrawAll)
     c.go_forth.new.self.work (work_of a.env) c.in_ok-put_at.ensures.ok state c.go_forth.ensures.work in
     subst (λ (n : NemesisValue). c.go_forth.new.self.work ≤ n.work + size_of_step n.state WithdrawAll) c.self.view_is written

@@ -1,17 +1,15 @@
-use Rattle.std.proofs.Common.{◌≡◌, ◌≤◌, ◌+◌, ap, true, false, length, subst, sym, ◌∙◌, refl}
-use Rattle.std.specs.Prelude.{nat_le}
+use Rattle.std.proofs.Common.{◌≡◌, ◌≤◌, ◌+◌, ap, length, rules, subst, sym, ◌∙◌}
 use Rattle.std.specs.List.{Contains}
 use Rattle.jh_env.specs.Overlay.{work_of}
 use Rattle.jh_nemesis.specs.State.{State, is_active}
 use Rattle.jh_nemesis.specs.Work.{NemesisValue, size_of_step}
 use Rattle.jh_nemesis.specs.Steps.{withdraw_answer, state_after}
-use Rattle.jh_nemesis.specs.RecordsInside.{begun_fault, faults_at, past_of, record_at}
+use Rattle.jh_nemesis.specs.AcceptedInside.{begun_fault, faults_at, past_of, accepted_at}
 use Rattle.jh_nemesis.specs.NemesisInside.{state_of}
-use Rattle.jh_nemesis.specs.declared.records.AcceptedStep.TheVariants.{Withdrawn}
+use Rattle.jh_nemesis.specs.declared.accepted.AcceptedStep.TheVariants.{Withdrawn}
 use Rattle.jh_nemesis.specs.declared.steps.Step.TheVariants.{Withdraw}
-use Rattle.jh_nemesis.specs.Steps.{max_steps}
 use Rattle.jh_nemesis.specs.declared.steps.StepAnswer.TheVariants as StepAnswer
-use Rattle.jh_nemesis.proofs.CursorLemmas.{known, room_left, withdraw_right, put_true, put_future, put_work, withdrawn_state}
+use Rattle.jh_nemesis.proofs.CursorLemmas.{known, withdraw_room, withdraw_right, put_true, put_future, put_work, withdrawn_state}
 use Rattle.jh_nemesis.proofs.nemesis.Nemesis.withdraw_step.Goals as goal
 
 pub stamp_of-requires : goal.stamp_of-requires
@@ -23,10 +21,10 @@ pub invariant_of-self-2 : goal.invariant_of-self-2
 invariant_of-self-2 c =
     let a = c.self.inside in
     let inside : Contains a.active.items c.in-Some.stamp = rw c.deref-2.ensures.0 at c.in-Some.ensures.stamp.0 in
-    let full : nat_le max_steps (length c.args.self.now.state.past) ≡ false = sym c.is_full.ensures ∙ c.if-is_full.false in
-    let left : nat_le max_steps (length (past_of a.records.items a.cursor)) ≡ false = rw (← c.self.view_is) at full in
+    let found : withdraw_answer c.args.self.now.state c.args.id ≡ StepAnswer.Ok = search rules in
+    let ok : withdraw_answer (state_of a) c.args.id ≡ StepAnswer.Ok = rw (← c.self.view_is) at found in
     rw c.in_ok-put_at.ensures.ok
-    (put_true c.self.invariant (Withdrawn c.in-Some.stamp) (room_left a.records.items a.cursor left)
+    (put_true c.self.invariant (Withdrawn c.in-Some.stamp) (withdraw_room c.self.invariant c.args.id ok)
     (withdraw_right c.self.invariant (length a.env.names) c.in-Some.stamp inside))
 
 pub go_forth-requires : goal.go_forth-requires
@@ -38,15 +36,12 @@ pub returns-clause-ok : goal.returns-clause-ok
 returns-clause-ok c =
     let a = c.self.inside in
     let inside : Contains a.active.items c.in-Some.stamp = rw c.deref-2.ensures.0 at c.in-Some.ensures.stamp.0 in
-    let at : (begun_fault (record_at a.records.items c.in-Some.stamp)).0 ≡ c.args.id =
+    let at : (begun_fault (accepted_at a.accepted.items c.in-Some.stamp)).0 ≡ c.args.id =
     rw c.deref.ensures.value at c.in-Some.ensures.stamp.1 in
-    let active : true ≡ is_active (faults_at a.records.items a.active.items) c.args.id =
-    rw (c.deref.ensures.value, c.deref-2.ensures.0) at c.in-Some.ensures.variant in
-    let full : nat_le max_steps (length c.args.self.now.state.past) ≡ false = sym c.is_full.ensures ∙ c.if-is_full.false in
-    let left : nat_le max_steps (length (past_of a.records.items a.cursor)) ≡ false = rw (← c.self.view_is) at full in
-    let ok : withdraw_answer (state_of a) c.args.id ≡ StepAnswer.Ok = rw (← active, left) refl in
+    let found : withdraw_answer c.args.self.now.state c.args.id ≡ StepAnswer.Ok = search rules in
+    let ok : withdraw_answer (state_of a) c.args.id ≡ StepAnswer.Ok = rw (← c.self.view_is) at found in
     let state =
-    withdrawn_state c.self.invariant c.args.id c.in-Some.stamp c.put_at.new.records.items c.go_forth.new.self.state
+    withdrawn_state c.self.invariant c.args.id c.in-Some.stamp c.put_at.new.accepted.items c.go_forth.new.self.state
     c.in_ok-put_at.ensures.ok inside at
     c.go_forth.ensures.state ok in
     subst (λ (s : State). (StepAnswer.Ok ≡ withdraw_answer s c.args.id) × (c.go_forth.new.self.state ≡ state_after s (Withdraw c.args.id)))
@@ -56,18 +51,15 @@ pub returns-clause-work : goal.returns-clause-work
 returns-clause-work c =
     let a = c.self.inside in
     let inside : Contains a.active.items c.in-Some.stamp = rw c.deref-2.ensures.0 at c.in-Some.ensures.stamp.0 in
-    let at : (begun_fault (record_at a.records.items c.in-Some.stamp)).0 ≡ c.args.id =
+    let at : (begun_fault (accepted_at a.accepted.items c.in-Some.stamp)).0 ≡ c.args.id =
     rw c.deref.ensures.value at c.in-Some.ensures.stamp.1 in
-    let active : true ≡ is_active (faults_at a.records.items a.active.items) c.args.id =
-    rw (c.deref.ensures.value, c.deref-2.ensures.0) at c.in-Some.ensures.variant in
-    let full : nat_le max_steps (length c.args.self.now.state.past) ≡ false = sym c.is_full.ensures ∙ c.if-is_full.false in
-    let left : nat_le max_steps (length (past_of a.records.items a.cursor)) ≡ false = rw (← c.self.view_is) at full in
-    let ok : withdraw_answer (state_of a) c.args.id ≡ StepAnswer.Ok = rw (← active, left) refl in
+    let found : withdraw_answer c.args.self.now.state c.args.id ≡ StepAnswer.Ok = search rules in
+    let ok : withdraw_answer (state_of a) c.args.id ≡ StepAnswer.Ok = rw (← c.self.view_is) at found in
     let state =
-    withdrawn_state c.self.invariant c.args.id c.in-Some.stamp c.put_at.new.records.items c.go_forth.new.self.state
+    withdrawn_state c.self.invariant c.args.id c.in-Some.stamp c.put_at.new.accepted.items c.go_forth.new.self.state
     c.in_ok-put_at.ensures.ok inside at
     c.go_forth.ensures.state ok in
     let written =
-    put_work c.self.invariant (Withdrawn c.in-Some.stamp) c.put_at.new.records.items c.go_forth.new.self.state (state_after (state_of a) (Withdraw c.args.id))
+    put_work c.self.invariant (Withdrawn c.in-Some.stamp) c.put_at.new.accepted.items c.go_forth.new.self.state (state_after (state_of a) (Withdraw c.args.id))
     c.go_forth.new.self.work (work_of a.env) c.in_ok-put_at.ensures.ok state c.go_forth.ensures.work in
     subst (λ (n : NemesisValue). c.go_forth.new.self.work ≤ n.work + size_of_step n.state (Withdraw c.args.id)) c.self.view_is written

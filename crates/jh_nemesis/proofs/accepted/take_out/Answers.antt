@@ -1,6 +1,6 @@
 use Rattle.std.proofs.Common.{rules}
 use Rattle.arrayvec.proofs.ArrayVecLemmas.{filter-from_retain}
-use Rattle.jh_nemesis.proofs.records.take_out.Goals as goal
+use Rattle.jh_nemesis.proofs.accepted.take_out.Goals as goal
 
 pub returns : goal.returns
 returns c = filter-from_retain _ _ _ (λ x b f after called. search rules) _ _ c.retain.ensures.filtered

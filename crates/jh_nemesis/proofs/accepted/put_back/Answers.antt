@@ -4,7 +4,7 @@ use Rattle.std.specs.List.{position, position_or_len}
 use Rattle.std.proofs.lemmas.Iterator.{YieldsList-from_slice}
 use Rattle.std.proofs.lemmas.Iterator.Search.{position_from_yields_List}
 use Rattle.jh_nemesis.proofs.StampLemmas.{position_or_end}
-use Rattle.jh_nemesis.proofs.records.put_back.Goals as goal
+use Rattle.jh_nemesis.proofs.accepted.put_back.Goals as goal
 
 pub returns : goal.returns
 returns c =

@@ -1,15 +1,15 @@
-//! The steps that a nemesis keeps, and the stamps of the faults that they make active. The stamp of
-//! a fault is the index of its begin among the steps. `specs/RecordsInside.antt` says what a step
-//! makes of the active stamps.
+//! The accepted steps that a nemesis keeps, over which undo and redo walk, and the stamps of the
+//! faults that they make active. The stamp of a fault is the index of its begin among these steps.
+//! `specs/AcceptedInside.antt` says what a step makes of the active stamps.
 
 ghost use Rattle.std.specs.Prelude.{◌≡◌, ◌==◌, ◌≤◌, ◌<◌, ◌++◌, ◌∷◌, [], OnErr, OnOk, IfSome};
 ghost use Rattle.std.specs.Prelude.{◌≢◌, filter, insert, is_some, length, map, nat_lt, not, take};
 ghost use Rattle.std.specs.Prelude.{IfOk};
 ghost use Rattle.std.specs.List.{Contains, position_or_len};
 ghost use Rattle.jh_nemesis.specs.State as spec;
-ghost use Rattle.jh_nemesis.specs.RecordsInside.{faults_at, begun_fault, stamps_after};
-ghost use Rattle.jh_nemesis.specs.RecordsInside.{stamps_before, record_at, AreStamps, IsBegin};
-ghost use Rattle.jh_nemesis.specs.RecordsInside.{stamps_changed};
+ghost use Rattle.jh_nemesis.specs.AcceptedInside.{faults_at, begun_fault, stamps_after};
+ghost use Rattle.jh_nemesis.specs.AcceptedInside.{stamps_before, accepted_at, AreStamps, IsBegin};
+ghost use Rattle.jh_nemesis.specs.AcceptedInside.{stamps_changed};
 ghost use Rattle.jh_nemesis.specs.Steps.{max_active};
 
 use crate::steps::MAX_ACTIVE;
@@ -31,20 +31,20 @@ pub enum AcceptedStep {
     WithdrawnAll(Vec<usize>),
 }
 
-/// Puts a step at the cursor, in place of all from there on. Memory is taken first: where it is
-/// refused, all steps stay.
+/// Puts a step at the cursor, in place of all steps from there on. Memory is taken first: where it
+/// is refused, all steps stay.
 pub fn put_at(
-    records: &mut Vec<AcceptedStep>,
+    accepted: &mut Vec<AcceptedStep>,
     cursor: usize,
     step: AcceptedStep,
 ) -> Result<(), AllocError>
-    requires { cursor ≤ length records.old.items }
-    ensures ok { OnOk result (records.new.items ≡ take cursor records.old.items ++ step ∷ []) }
-    ensures err { OnErr result (records.new.items ≡ records.old.items) }
+    requires { cursor ≤ length accepted.old.items }
+    ensures ok { OnOk result (accepted.new.items ≡ take cursor accepted.old.items ++ step ∷ []) }
+    ensures err { OnErr result (accepted.new.items ≡ accepted.old.items) }
 {
-    records.reserve(1)?;
-    records.truncate(cursor);
-    records.push_reserved(step);
+    accepted.reserve(1)?;
+    accepted.truncate(cursor);
+    accepted.push_reserved(step);
     Ok(())
 }
 
@@ -75,13 +75,13 @@ fn put_all(active: &mut Stamps, stamps: &[usize])
 }
 
 /// Takes the step at this index, over the active stamps.
-pub fn play(records: &[AcceptedStep], index: usize, active: &mut Stamps)
-    requires known { index < length records.now }
-    requires room { length (stamps_after index (record_at records.now index) active.old.items)
+pub fn play(accepted: &[AcceptedStep], index: usize, active: &mut Stamps)
+    requires known { index < length accepted.now }
+    requires room { length (stamps_after index (accepted_at accepted.now index) active.old.items)
         ≤ max_active }
-    ensures { active.new.items ≡ stamps_after index (record_at records.now index) active.old.items }
+    ensures { active.new.items ≡ stamps_after index (accepted_at accepted.now index) active.old.items }
 {
-    match &records[index] {
+    match &accepted[index] {
         AcceptedStep::Begun(_, _) => active.push(index),
         AcceptedStep::Withdrawn(stamp) => take_out(active, *stamp),
         AcceptedStep::WithdrawnAll(_) => active.clear(),
@@ -89,13 +89,13 @@ pub fn play(records: &[AcceptedStep], index: usize, active: &mut Stamps)
 }
 
 /// Takes the step at this index back, over the active stamps.
-pub fn play_back(records: &[AcceptedStep], index: usize, active: &mut Stamps)
-    requires known { index < length records.now }
-    requires room { length (stamps_before (record_at records.now index) active.old.items)
+pub fn play_back(accepted: &[AcceptedStep], index: usize, active: &mut Stamps)
+    requires known { index < length accepted.now }
+    requires room { length (stamps_before (accepted_at accepted.now index) active.old.items)
         ≤ max_active }
-    ensures { active.new.items ≡ stamps_before (record_at records.now index) active.old.items }
+    ensures { active.new.items ≡ stamps_before (accepted_at accepted.now index) active.old.items }
 {
-    match &records[index] {
+    match &accepted[index] {
         AcceptedStep::Begun(_, _) => {
             let _ = active.pop();
         }
@@ -116,15 +116,15 @@ fn is_begin_of(step: &AcceptedStep, id: u32) -> bool
 }
 
 /// The stamp of the fault of the id, of these stamps.
-pub fn stamp_of(records: &[AcceptedStep], stamps: &[usize], id: u32) -> Option<usize>
-    requires { AreStamps records.now stamps.now }
-    ensures variant { is_some result ≡ spec.is_active (faults_at records.now stamps.now) id }
+pub fn stamp_of(accepted: &[AcceptedStep], stamps: &[usize], id: u32) -> Option<usize>
+    requires { AreStamps accepted.now stamps.now }
+    ensures variant { is_some result ≡ spec.is_active (faults_at accepted.now stamps.now) id }
     ensures stamp { IfSome result
         (λ stamp. Contains stamps.now stamp
-        × ((begun_fault (record_at records.now stamp)).0 ≡ id)) }
+        × ((begun_fault (accepted_at accepted.now stamp)).0 ≡ id)) }
 {
     for stamp in stamps {
-        if is_begin_of(&records[*stamp], id) {
+        if is_begin_of(&accepted[*stamp], id) {
             return Some(*stamp);
         }
     }
@@ -134,18 +134,18 @@ pub fn stamp_of(records: &[AcceptedStep], stamps: &[usize], id: u32) -> Option<u
 /// The faults of these stamps.
 pub fn faults_of<'a>(
     alloc: Global,
-    records: &'a [AcceptedStep],
+    accepted: &'a [AcceptedStep],
     stamps: &[usize],
 ) -> Result<Vec<&'a Fault>, AllocError>
-    requires { AreStamps records.now stamps.now }
+    requires { AreStamps accepted.now stamps.now }
     ensures faults { IfOk result
         (λ faults. map (λ f. f.now) faults.items
-        ≡ spec.faults_in (faults_at records.now stamps.now)) }
-    ensures memory { OnErr result (spec.faults_in (faults_at records.now stamps.now) ≢ []) }
+        ≡ spec.faults_in (faults_at accepted.now stamps.now)) }
+    ensures memory { OnErr result (spec.faults_in (faults_at accepted.now stamps.now) ≢ []) }
 {
     let mut faults = Vec::new(alloc);
     for stamp in stamps {
-        if let AcceptedStep::Begun(_, fault) = &records[*stamp] {
+        if let AcceptedStep::Begun(_, fault) = &accepted[*stamp] {
             faults.push(fault)?;
         }
     }
@@ -155,22 +155,22 @@ pub fn faults_of<'a>(
 /// The faults that the step at this index begins or ends.
 pub fn changed_at<'a>(
     alloc: Global,
-    records: &'a [AcceptedStep],
+    accepted: &'a [AcceptedStep],
     index: usize,
 ) -> Result<Vec<&'a Fault>, AllocError>
-    requires known { index < length records.now }
-    requires begins { AreStamps records.now (stamps_changed index (record_at records.now index)) }
+    requires known { index < length accepted.now }
+    requires begins { AreStamps accepted.now (stamps_changed index (accepted_at accepted.now index)) }
     ensures faults { IfOk result
         (λ faults. map (λ f. f.now) faults.items
         ≡ spec.faults_in
-        (faults_at records.now (stamps_changed index (record_at records.now index)))) }
+        (faults_at accepted.now (stamps_changed index (accepted_at accepted.now index)))) }
     ensures memory { OnErr result
         (spec.faults_in
-        (faults_at records.now (stamps_changed index (record_at records.now index))) ≢ []) }
+        (faults_at accepted.now (stamps_changed index (accepted_at accepted.now index))) ≢ []) }
 {
-    match &records[index] {
-        AcceptedStep::Begun(_, _) => faults_of(alloc, records, &[index]),
-        AcceptedStep::Withdrawn(stamp) => faults_of(alloc, records, &[*stamp]),
-        AcceptedStep::WithdrawnAll(stamps) => faults_of(alloc, records, stamps),
+    match &accepted[index] {
+        AcceptedStep::Begun(_, _) => faults_of(alloc, accepted, &[index]),
+        AcceptedStep::Withdrawn(stamp) => faults_of(alloc, accepted, &[*stamp]),
+        AcceptedStep::WithdrawnAll(stamps) => faults_of(alloc, accepted, stamps),
     }
 }

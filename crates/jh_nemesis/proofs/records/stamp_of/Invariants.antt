@@ -1,7 +1,0 @@
-use Rattle.std.proofs.Common.{◌≡◌, take, false}
-use Rattle.jh_nemesis.specs.State as spec
-use Rattle.jh_nemesis.specs.RecordsInside.{faults_at}
-use Rattle.jh_nemesis.proofs.records.stamp_of.Given as goal
-
-abbrev pub invariant-loop-stamp : goal.invariant-loop-stamp
-invariant-loop-stamp l = spec.is_active (faults_at l.records (take l.stamp-index l.stamps)) l.id ≡ false
