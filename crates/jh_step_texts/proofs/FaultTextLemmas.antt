@@ -9,12 +9,13 @@ use Rattle.jh_edn.specs.View.{view, views, view_pair, view_pairs}
 use Rattle.jh_edn.specs.declared.value.Value.{Value}
 use Rattle.jh_env.specs.Amounts.{IsLinkAmount}
 use Rattle.jh_env.specs.Faults.{FaultValue, Bump, is_self_link, is_unknown_link, kept_links, kept_nodes}
-use Rattle.jh_env.specs.Naming.{AreAllFound, AreLinksBy, IsFaultBy, IsRightKind, RefusesBumpsBy, RefusesLinksBy, RefusesNodesBy, are_bumps, bump_of, ends_of, known_link, named_node}
+use Rattle.jh_env.specs.Naming.{AreAllFound, AreLinksBy, IsFaultBy, RefusesBumpsBy, RefusesLinksBy, RefusesNodesBy, are_bumps, bump_of, ends_of, known_link, named_node}
 use Rattle.jh_tables.specs.Plain.{fault_on_links, fault_on_nodes}
 use Rattle.jh_tables.specs.declared.faults.LinkFault.{LinkFault}
 use Rattle.jh_tables.specs.declared.faults.LinkFault.TheVariants as Kind
 use Rattle.jh_tables.specs.declared.faults.NodeFault.{NodeFault}
 use Rattle.jh_env.specs.declared.faults.FaultError.TheVariants as FaultError
+use Rattle.jh_env.proofs.AmountLemmas.{judged_cut}
 use Rattle.jh_env.proofs.NamingLemmas.{links_refused}
 use Rattle.jh_env.specs.Faults.{RefusesLinks}
 use Rattle.jh_step_texts.specs.FaultText.{cut_of, parsed_bumps, parsed_links, parsed_nodes, refusal_of}
@@ -52,19 +53,19 @@ parsed_links-fault names kind links known other = rw (list_any-map (λ l. is_non
 
 -- the fault that is made is the one that is parsed
 pub links_parsed : (names : List (List ℕ)) (kind : Option LinkFault) (links : List Value) (fault : FaultValue)
-    → IsFaultBy (λ l. ends_of names (view l)) kind links fault × AreLinksBy (λ l. ends_of names (view l)) links × IsRightKind kind
+    → IsFaultBy (λ l. ends_of names (view l)) kind links fault × AreLinksBy (λ l. ends_of names (view l)) links
     → parsed_links names kind (views links) ≡ Ok fault
-links_parsed names None links fault (is, known, right) = absurd is
-links_parsed names (Some kind) links fault (is, known, right) = parsed_links-fault names kind links known.0 known.1 ∙ ap Ok (sym is)
+links_parsed names None links fault (is, known) = absurd is
+links_parsed names (Some kind) links fault (is, known) = parsed_links-fault names kind links known.0 known.1 ∙ ap Ok (sym is)
 
-pub links_unparsed : (names : List (List ℕ)) (kind : Option LinkFault) (links : List Value) (refusal : FaultError.the_data) → IfSome kind IsLinkAmount
+pub links_unparsed : (names : List (List ℕ)) (kind : Option LinkFault) (links : List Value) (refusal : FaultError.the_data)
     → RefusesLinksBy (λ l. ends_of names (view l)) kind links refusal → IsRefusedAs (parsed_links names kind (views links)) refusal
-links_unparsed names kind links FaultError.UnknownNode right refused = inl (parsed_links-unknown names kind links refused)
-links_unparsed names kind links FaultError.SelfLink right (known, self) = inl (parsed_links-self names kind links known self)
-links_unparsed names None links FaultError.BadAmount right (known, wrong) = inl (parsed_links-bad names links known.0 known.1)
-links_unparsed names (Some kind) links FaultError.BadAmount right (known, wrong) = absurd (wrong right)
-links_unparsed names None links FaultError.OutOfMemory right (known, fits, some) = absurd fits
-links_unparsed names (Some kind) links FaultError.OutOfMemory right (known, fits, some) = inr (refl, rw (parsed_links-fault names kind links known.0 known.1) refl)
+links_unparsed names kind links FaultError.UnknownNode refused = inl (parsed_links-unknown names kind links refused)
+links_unparsed names kind links FaultError.SelfLink (known, self) = inl (parsed_links-self names kind links known self)
+links_unparsed names None links FaultError.BadAmount (known, wrong) = inl (parsed_links-bad names links known.0 known.1)
+links_unparsed names (Some kind) links FaultError.BadAmount (known, wrong) = absurd cc
+links_unparsed names None links FaultError.OutOfMemory (known, fits, some) = absurd cc
+links_unparsed names (Some kind) links FaultError.OutOfMemory (known, fits, some) = inr (refl, rw (parsed_links-fault names kind links known.0 known.1) refl)
 
 -- a fault on nodes
 parsed_nodes-unknown : (names : List (List ℕ)) (kind : NodeFault) (nodes : List Value) → list_any (λ n. is_none (named_node names (view n))) nodes ≡ true
@@ -130,4 +131,4 @@ cut_refused_of n links FaultError.OutOfMemory among refused = refl
 
 pub cut_refused : (names : List (List ℕ)) (links : List (ℕ × ℕ)) (refusal : FaultError.the_data) → AreLinksAmong (length names) links
     → RefusesLinksBy (known_link names) (Some Kind.Cut) links refusal → refusal ≡ FaultError.OutOfMemory
-cut_refused names links refusal among refused = cut_refused_of (length names) links refusal among (links_refused names Kind.Cut links refusal refused)
+cut_refused names links refusal among refused = cut_refused_of (length names) links refusal among (links_refused names Kind.Cut (Some Kind.Cut) links judged_cut refusal refused)

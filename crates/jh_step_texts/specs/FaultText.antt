@@ -10,6 +10,8 @@ use Rattle.std.specs.Prelude.{Result, Ok, Err, MatchResult, IsOk}
 use Rattle.std.specs.List.{filter_map, list_all, list_any}
 use Rattle.std.specs.Str.{bytes_eq}
 use Rattle.jh_edn.specs.Edn.{Edn, int, str, keyword, mapping, elements_of, pairs_in}
+use Rattle.jh_env.specs.Amounts.{link_fault_of}
+use Rattle.jh_env.specs.declared.amounts.GivenLinkFault.{GivenLinkFault}
 use Rattle.jh_env.specs.Faults.{FaultValue, kept_links, kept_nodes, is_self_link, Cut, Bump}
 use Rattle.jh_env.specs.Naming.{are_bumps, bump_of, bump_spelled, ends_of, link_names, named_node}
 use Rattle.jh_env.specs.Naming.{node_name}
@@ -21,14 +23,15 @@ use Rattle.jh_tables.specs.declared.faults.NodeFault.{NodeFault}
 use Rattle.jh_step_texts.specs.declared.steps.StepTextError.{StepTextError}
 use Rattle.jh_step_texts.specs.declared.steps.StepTextError.TheVariants.{UnknownNode, SelfLink}
 use Rattle.jh_step_texts.specs.declared.steps.StepTextError.TheVariants.{BadAmount, OutOfMemory}
+use Rattle.jh_step_texts.specs.Kinds.{fault_kind_named}
+use Rattle.jh_step_texts.specs.declared.kinds.FaultKind.{FaultKind}
 use Rattle.jh_step_texts.specs.NamedFaults.{links_that, named_links, touches, IsOverAll}
 use Rattle.jh_step_texts.specs.declared.spelling.NamedGrudge.{NamedGrudge}
 
--- a fault as it is spelled: its kind, none where the amount is out of its range, and the values of
--- its links; its kind and the values of its nodes; those of its bumps; or the loner's name; or the
--- name of its grudge
+-- a fault as it is spelled: what it does to its links, whatever its amount, and their values; its
+-- kind and the values of its nodes; those of its bumps; or the loner's name; or the name of its grudge
 pub data FaultSpelling : Type 0 where
-  Links : Option LinkFault → List Edn → FaultSpelling
+  Links : GivenLinkFault → List Edn → FaultSpelling
   Nodes : NodeFault → List Edn → FaultSpelling
   Bumps : List (Edn × Edn) → FaultSpelling
   SplitOne : List ℕ → FaultSpelling
@@ -61,41 +64,39 @@ abbrev pub spelled_ring : Edn → Option FaultSpelling
 spelled_ring (int seed) = Some (Grudge (NamedGrudge.ShuffledRing seed))
 spelled_ring _ = None
 
--- a keyword and what it is about
-abbrev pub plain_fault : List ℕ → Edn → Option FaultSpelling
-plain_fault name v =
-    if bytes_eq name (codes "cut") then option_map (Links (Some LinkFault.Cut)) (links_in v)
-    else if bytes_eq name (codes "pause") then option_map (Nodes NodeFault.Pause) (nodes_in v)
-    else if bytes_eq name (codes "kill") then option_map (Nodes NodeFault.Kill) (nodes_in v)
-    else if bytes_eq name (codes "bump") then option_map Bumps (bumps_in v)
-    else if bytes_eq name (codes "split-one") then option_map SplitOne (node_name v)
+-- a keyword and what a cut of a grudge is about
+abbrev pub spelled_grudge : List ℕ → Edn → Option FaultSpelling
+spelled_grudge name v =
+    if bytes_eq name (codes "split-one") then option_map SplitOne (node_name v)
     else if bytes_eq name (codes "ring") then spelled_ring v
     else None
 
--- an integer from the least to the most
-abbrev pub amount_within : ℕ → ℕ → ℤ → Option ℕ
-amount_within least most (pos n) = if nat_le least n && nat_le n most then Some n else None
-amount_within least most (negsuc n) = None
+-- a kind and what a fault of it is about, without an amount; or, where the keyword is no kind's, a
+-- cut of a grudge
+abbrev pub spelled_plainly : Option FaultKind → List ℕ → Edn → Option FaultSpelling
+spelled_plainly (Some FaultKind.Cut) name v = option_map (Links GivenLinkFault.Cut) (links_in v)
+spelled_plainly (Some FaultKind.Pause) name v = option_map (Nodes NodeFault.Pause) (nodes_in v)
+spelled_plainly (Some FaultKind.Kill) name v = option_map (Nodes NodeFault.Kill) (nodes_in v)
+spelled_plainly (Some FaultKind.Bump) name v = option_map Bumps (bumps_in v)
+spelled_plainly (Some kind) name v = None
+spelled_plainly None name v = spelled_grudge name v
 
--- the kind of a fault that slows by this amount, if it is 1 to 60,000 milliseconds
-abbrev pub slow_kind : ℤ → Option LinkFault
-slow_kind z = option_map LinkFault.Slow (amount_within 1 60000 z)
+-- a keyword and what it is about
+abbrev pub plain_fault : List ℕ → Edn → Option FaultSpelling
+plain_fault name v = spelled_plainly (fault_kind_named name) name v
 
--- the kind of a fault that loses at this amount, if it is a level of 1 to 20
-abbrev pub loss_kind : ℤ → Option LinkFault
-loss_kind z = option_map LinkFault.Loss (amount_within 1 20 z)
-
--- the kind of a fault that fixes the delay at this amount, if it is 0 to 60,000 milliseconds
-abbrev pub fix_kind : ℤ → Option LinkFault
-fix_kind z = option_map LinkFault.Fix (amount_within 0 60000 z)
+-- what a fault of this kind does to its links with an amount, if it has one
+abbrev pub measured : FaultKind → ℤ → Option GivenLinkFault
+measured FaultKind.Slow z = Some (GivenLinkFault.Slow z)
+measured FaultKind.Loss z = Some (GivenLinkFault.Loss z)
+measured FaultKind.Fix z = Some (GivenLinkFault.Fix z)
+measured kind z = None
 
 -- a keyword, an amount and what it is about
 abbrev pub measured_fault : List ℕ → ℤ → Edn → Option FaultSpelling
 measured_fault name z v =
-    if bytes_eq name (codes "slow") then option_map (Links (slow_kind z)) (links_in v)
-    else if bytes_eq name (codes "loss") then option_map (Links (loss_kind z)) (links_in v)
-    else if bytes_eq name (codes "fix") then option_map (Links (fix_kind z)) (links_in v)
-    else None
+    option_and_then (λ given. option_map (Links given) (links_in v))
+    (option_and_then (λ kind. measured kind z) (fault_kind_named name))
 
 abbrev pub spelling_in : List Edn → Option FaultSpelling
 spelling_in (keyword name ∷ []) = spelled_by_keyword name
@@ -155,7 +156,7 @@ parsed_named count named =
 -- node, a link of a node with itself, an amount or a seed out of range or a node that is bumped
 -- twice.
 abbrev pub parsed_fault : List (List ℕ) → FaultSpelling → Result FaultValue StepTextError
-parsed_fault names (Links kind links) = parsed_links names kind links
+parsed_fault names (Links given links) = parsed_links names (link_fault_of given) links
 parsed_fault names (Nodes kind nodes) = parsed_nodes names kind nodes
 parsed_fault names (Bumps bumps) = parsed_bumps names bumps
 parsed_fault names (SplitOne loner) = parsed_split names loner

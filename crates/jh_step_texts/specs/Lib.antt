@@ -1,3 +1,4 @@
+pub mod Kinds
 pub mod NamedFaults
 pub mod GrudgeLaws
 pub mod FaultText

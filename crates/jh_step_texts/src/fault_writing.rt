@@ -8,10 +8,13 @@ ghost use Rattle.jh_tables.specs.Plain.{fault_on_links, fault_on_nodes};
 ghost use Rattle.jh_env.specs.Amounts.{IsLinkAmount};
 ghost use Rattle.jh_env.specs.Faults.{FitsCount};
 ghost use Rattle.jh_tables.specs.Faults.FaultValue.{Bump};
+ghost use Rattle.jh_edn.specs.Edn as edn;
 ghost use Rattle.jh_step_texts.specs.FaultWritten as text;
+ghost use Rattle.jh_step_texts.specs.Kinds.{fault_kind_name};
 ghost use Rattle.jh_step_texts.specs.WritingInside.{link_fault_values};
 ghost use Rattle.jh_step_texts.specs.FaultWritten.{fault_values, text_of_fault};
 
+use crate::kinds::FaultKind;
 use jh_edn::{Pairs, Text, Value, Values};
 use jh_env::{Fault, LinkFault, Node, NodeFault, Nodes, PlainFault};
 use std::alloc::{AllocError, Global};
@@ -85,6 +88,13 @@ fn bump_pairs(
     Ok(pairs)
 }
 
+/// The keyword of a kind of faults.
+fn keyword(alloc: Global, kind: FaultKind) -> Result<Value, AllocError>
+    ensures { IfOk result (λ value. view value ≡ edn.keyword (fault_kind_name kind)) }
+{
+    Value::keyword(alloc, kind.name())
+}
+
 /// The keyword of a fault of links and its amount, before the links.
 fn link_fault_values(alloc: Global, kind: LinkFault) -> Result<Vec<Value>, AllocError>
     requires { IsLinkAmount kind }
@@ -92,17 +102,17 @@ fn link_fault_values(alloc: Global, kind: LinkFault) -> Result<Vec<Value>, Alloc
 {
     let mut values = Vec::new(alloc);
     match kind {
-        LinkFault::Cut => values.push(Value::keyword(alloc, "cut")?)?,
+        LinkFault::Cut => values.push(keyword(alloc, FaultKind::Cut)?)?,
         LinkFault::Slow(ms) => {
-            values.push(Value::keyword(alloc, "slow")?)?;
+            values.push(keyword(alloc, FaultKind::Slow)?)?;
             values.push(Value::Int(ms as i64))?;
         }
         LinkFault::Loss(level) => {
-            values.push(Value::keyword(alloc, "loss")?)?;
+            values.push(keyword(alloc, FaultKind::Loss)?)?;
             values.push(Value::Int(i64::from(level)))?;
         }
         LinkFault::Fix(ms) => {
-            values.push(Value::keyword(alloc, "fix")?)?;
+            values.push(keyword(alloc, FaultKind::Fix)?)?;
             values.push(Value::Int(ms as i64))?;
         }
     }
@@ -139,8 +149,8 @@ fn values_of_nodes(
 {
     let mut values = Vec::new(alloc);
     values.push(match kind {
-        NodeFault::Pause => Value::keyword(alloc, "pause")?,
-        NodeFault::Kill => Value::keyword(alloc, "kill")?,
+        NodeFault::Pause => keyword(alloc, FaultKind::Pause)?,
+        NodeFault::Kill => keyword(alloc, FaultKind::Kill)?,
     })?;
     values.push(Value::Vector(Values::of(node_values(alloc, nodes, named)?)))?;
     Ok(values)
@@ -157,7 +167,7 @@ fn values_of_bumps(
         (λ values. views values.items ≡ fault_values nodes.now (Bump bumps.now)) }
 {
     let mut values = Vec::new(alloc);
-    values.push(Value::keyword(alloc, "bump")?)?;
+    values.push(keyword(alloc, FaultKind::Bump)?)?;
     values.push(Value::Map(Pairs::of(bump_pairs(alloc, nodes, bumps)?)))?;
     Ok(values)
 }

@@ -1,33 +1,33 @@
 //! Faults as EDN values: which fault is parsed. `specs/FaultText.antt` has the rule, case by case.
 //! Whether a fault is refused, jh_env judges; here its refusals are those of a step.
 
-ghost use Rattle.std.specs.Prelude.{Some, IfOk, IfSome, length};
+ghost use Rattle.std.specs.Prelude.{Some, IfOk, length};
 ghost use Rattle.jh_edn.specs.View.{views, view_pairs};
-ghost use Rattle.jh_env.specs.Amounts.{IsLinkAmount};
+ghost use Rattle.jh_env.specs.Amounts.{link_fault_of};
 ghost use Rattle.jh_env.specs.Faults.{FitsCount};
 ghost use Rattle.jh_step_texts.specs.FaultText.{IsParsedAs, IsRingOverAll, parsed_bumps};
 ghost use Rattle.jh_step_texts.specs.FaultText.{parsed_fault, parsed_links, parsed_nodes};
-ghost use Rattle.jh_step_texts.specs.SpellingInside.{IsRightSpelling, spelling_of};
+ghost use Rattle.jh_step_texts.specs.SpellingInside.{spelling_of};
 
 use crate::named::{named_fault, split_fault};
 use crate::spelling::SpelledFault;
 use crate::steps::StepTextError;
 use jh_edn::Value;
-use jh_env::{Fault, LinkFault, NodeFault, Nodes};
+use jh_env::{Fault, GivenLinkFault, NodeFault, Nodes};
 use std::alloc::Global;
 
-/// The fault of this kind on the links that are spelled, or why it is refused.
+/// The fault that does this to the links that are spelled, or why it is refused.
 fn on_links(
     alloc: Global,
     nodes: &Nodes,
-    kind: Option<LinkFault>,
+    given: GivenLinkFault,
     links: &[Value],
 ) -> Result<Fault, StepTextError>
-    requires { IfSome kind IsLinkAmount }
-    ensures parsed { IsParsedAs result (parsed_links nodes.now kind (views links.now)) }
+    ensures parsed { IsParsedAs result
+        (parsed_links nodes.now (link_fault_of given) (views links.now)) }
     ensures fits { IfOk result (FitsCount (length nodes.now)) }
 {
-    match Fault::on_links(alloc, nodes, kind, links) {
+    match Fault::on_links(alloc, nodes, given, links) {
         Ok(fault) => Ok(fault),
         Err(refusal) => Err(StepTextError::from(refusal)),
     }
@@ -60,16 +60,15 @@ fn of_bumps(alloc: Global, nodes: &Nodes, bumps: &[(Value, Value)]) -> Result<Fa
     }
 }
 
-/// The fault that is spelled, if its nodes are known and its amounts are in their ranges.
+/// The fault that is spelled, or why it is refused.
 pub fn fault_of(alloc: Global, nodes: &Nodes, spelled: SpelledFault) -> Result<Fault, StepTextError>
-    requires { IsRightSpelling (spelling_of spelled) }
     ensures parsed { IsParsedAs result (parsed_fault nodes.now (spelling_of spelled.entry)) }
     ensures ring { IfOk result
         (λ _. IsRingOverAll (length nodes.now) (Some (spelling_of spelled.entry))) }
     ensures fits { IfOk result (FitsCount (length nodes.now)) }
 {
     match spelled {
-        SpelledFault::Links(kind, links) => on_links(alloc, nodes, kind, links),
+        SpelledFault::Links(given, links) => on_links(alloc, nodes, given, links),
         SpelledFault::Nodes(kind, named) => on_nodes(alloc, nodes, kind, named),
         SpelledFault::Bumps(bumps) => of_bumps(alloc, nodes, bumps),
         SpelledFault::SplitOne(loner) => split_fault(alloc, nodes, loner),

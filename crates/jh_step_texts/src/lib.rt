@@ -5,6 +5,7 @@
 
 mod fault_writing;
 mod faults;
+mod kinds;
 mod laws;
 mod named;
 mod ordering;
@@ -13,6 +14,7 @@ mod steps;
 mod writing;
 
 pub use fault_writing::value_of_fault;
+pub use kinds::FaultKind;
 pub use laws::{named_faults_are_grudges, order_changes_no_fault};
 pub use named::ring_order;
 pub use ordering::step_in_order;

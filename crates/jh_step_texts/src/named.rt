@@ -21,7 +21,7 @@ ghost use Rattle.jh_step_texts.specs.NamedFaults.{
 
 use crate::spelling::NamedGrudge;
 use crate::steps::StepTextError;
-use jh_env::{Fault, LinkFault, Node, Nodes};
+use jh_env::{Fault, GivenLinkFault, Node, Nodes};
 use jh_grudge::{Grudge, SplitError, bisect, bridge, complete_grudge, majorities_ring, split_one};
 use rand::SeedableRng;
 use rand::seq::SliceRandom;
@@ -145,7 +145,7 @@ fn cut(alloc: Global, nodes: &Nodes, grudge: &Grudge) -> Result<Fault, StepTextE
     ensures cut { MatchResult result (λ fault. fault ≡ cut_of grudge.now) (λ e. e ≡ OutOfMemory) }
     ensures fits { IfOk result (FitsCount (length nodes.now)) }
 {
-    match Fault::on_links(alloc, nodes, Some(LinkFault::Cut), grudge.links()) {
+    match Fault::on_links(alloc, nodes, GivenLinkFault::Cut, grudge.links()) {
         Ok(fault) => Ok(fault),
         Err(refusal) => Err(StepTextError::from(refusal)),
     }

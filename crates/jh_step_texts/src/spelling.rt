@@ -1,15 +1,15 @@
 //! Faults as EDN values: how they are spelled. `specs/FaultText.antt` has the rule, case by case.
 
-ghost use Rattle.std.specs.Prelude.{◌≡◌, IfSome, MatchOption, option_map, is_some};
-ghost use Rattle.jh_env.specs.Amounts.{IsLinkAmount};
+ghost use Rattle.std.specs.Prelude.{◌≡◌, option_map, is_some};
 ghost use Rattle.std.specs.List.{list_all};
 ghost use Rattle.jh_edn.specs.View.{view, views, view_pair, view_pairs};
 ghost use Rattle.jh_env.specs.Naming as naming;
 ghost use Rattle.jh_step_texts.specs.FaultText as rule;
-ghost use Rattle.jh_step_texts.specs.SpellingInside.{IsRightSpelling, spelling_of};
+ghost use Rattle.jh_step_texts.specs.SpellingInside.{spelling_of};
 
+use crate::kinds::FaultKind;
 use jh_edn::Value;
-use jh_env::{LinkFault, NodeFault, bump_spelled, is_link_amount, link_names, node_name};
+use jh_env::{GivenLinkFault, NodeFault, bump_spelled, link_names, node_name};
 
 /// A cut that is named by its grudge over all nodes.
 #[derive(Clone, Copy, Debug, PartialEq, Eq)]
@@ -22,11 +22,10 @@ pub enum NamedGrudge {
 }
 
 /// A fault as it is spelled: the values of its links, its nodes or its bumps, each of the right
-/// shape, or the name of the node that is split off, or the name of its grudge. A fault of links
-/// has no kind where its amount is out of its range.
+/// shape, or the name of the node that is split off, or the name of its grudge.
 #[derive(Clone, Copy, Debug)]
 pub enum SpelledFault<'a> {
-    Links(Option<LinkFault>, &'a [Value]),
+    Links(GivenLinkFault, &'a [Value]),
     Nodes(NodeFault, &'a [Value]),
     Bumps(&'a [(Value, Value)]),
     SplitOne(&'a str),
@@ -145,52 +144,42 @@ fn spelled_ring(seed: &Value) -> Option<SpelledFault<'_>>
     }
 }
 
-/// The fault that a keyword and a value spell, if they do.
-fn plain_fault<'a>(name: &str, value: &'a Value) -> Option<SpelledFault<'a>>
-    ensures { option_map spelling_of result ≡ rule.plain_fault name.now (view value.now) }
+/// The cut of a grudge that a keyword and a value spell, if they do.
+fn spelled_grudge<'a>(name: &str, value: &'a Value) -> Option<SpelledFault<'a>>
+    ensures { option_map spelling_of result ≡ rule.spelled_grudge name.now (view value.now) }
 {
     match name {
-        "cut" => Some(SpelledFault::Links(Some(LinkFault::Cut), links_in(value)?)),
-        "pause" => Some(SpelledFault::Nodes(NodeFault::Pause, nodes_in(value)?)),
-        "kill" => Some(SpelledFault::Nodes(NodeFault::Kill, nodes_in(value)?)),
-        "bump" => Some(SpelledFault::Bumps(bumps_in(value)?)),
         "split-one" => Some(SpelledFault::SplitOne(node_name(value)?)),
         "ring" => spelled_ring(value),
         _ => None,
     }
 }
 
-/// The kind, if its amount is in its range.
-fn in_range(kind: LinkFault) -> Option<LinkFault>
-    ensures { MatchOption result (IsLinkAmount kind → ⊥)
-        (λ right. (right ≡ kind) × IsLinkAmount kind) }
+/// The fault that a keyword and a value spell, if they do.
+fn plain_fault<'a>(name: &str, value: &'a Value) -> Option<SpelledFault<'a>>
+    ensures { option_map spelling_of result ≡ rule.plain_fault name.now (view value.now) }
 {
-    if is_link_amount(kind) {
-        Some(kind)
-    } else {
-        None
+    match FaultKind::named(name) {
+        Some(FaultKind::Cut) => Some(SpelledFault::Links(GivenLinkFault::Cut, links_in(value)?)),
+        Some(FaultKind::Pause) => Some(SpelledFault::Nodes(NodeFault::Pause, nodes_in(value)?)),
+        Some(FaultKind::Kill) => Some(SpelledFault::Nodes(NodeFault::Kill, nodes_in(value)?)),
+        Some(FaultKind::Bump) => Some(SpelledFault::Bumps(bumps_in(value)?)),
+        Some(FaultKind::Slow | FaultKind::Loss | FaultKind::Fix) => None,
+        None => spelled_grudge(name, value),
     }
 }
 
-/// The kind of a fault that slows by this amount, if it is in its range.
-fn slow_kind(amount: i64) -> Option<LinkFault>
-    ensures { result ≡ rule.slow_kind amount }
+/// What a fault of this kind does to its links with an amount, if it has one.
+fn measured(kind: FaultKind, amount: i64) -> Option<GivenLinkFault>
+    ensures { result ≡ rule.measured kind amount }
 {
-    in_range(LinkFault::Slow(u64::try_from(amount).ok()?))
-}
-
-/// The kind of a fault that loses at this amount, if it is in its range.
-fn loss_kind(amount: i64) -> Option<LinkFault>
-    ensures { result ≡ rule.loss_kind amount }
-{
-    in_range(LinkFault::Loss(u8::try_from(amount).ok()?))
-}
-
-/// The kind of a fault that fixes the delay at this amount, if it is in its range.
-fn fix_kind(amount: i64) -> Option<LinkFault>
-    ensures { result ≡ rule.fix_kind amount }
-{
-    in_range(LinkFault::Fix(u64::try_from(amount).ok()?))
+    let amount = i128::from(amount);
+    match kind {
+        FaultKind::Slow => Some(GivenLinkFault::Slow(amount)),
+        FaultKind::Loss => Some(GivenLinkFault::Loss(amount)),
+        FaultKind::Fix => Some(GivenLinkFault::Fix(amount)),
+        FaultKind::Cut | FaultKind::Pause | FaultKind::Kill | FaultKind::Bump => None,
+    }
 }
 
 /// The fault that a keyword, an amount and a value spell, if they do.
@@ -198,20 +187,15 @@ fn measured_fault<'a>(name: &str, amount: i64, value: &'a Value) -> Option<Spell
     ensures { option_map spelling_of result
         ≡ rule.measured_fault name.now amount (view value.now) }
 {
-    match name {
-        "slow" => Some(SpelledFault::Links(slow_kind(amount), links_in(value)?)),
-        "loss" => Some(SpelledFault::Links(loss_kind(amount), links_in(value)?)),
-        "fix" => Some(SpelledFault::Links(fix_kind(amount), links_in(value)?)),
-        _ => None,
-    }
+    let given = measured(FaultKind::named(name)?, amount)?;
+    Some(SpelledFault::Links(given, links_in(value)?))
 }
 
-/// How a value spells a fault, if it does.
-pub fn fault_spelling(fault: &Value) -> Option<SpelledFault<'_>>
-    ensures spelled { option_map spelling_of result ≡ rule.fault_spelling (view fault.now) }
-    ensures right { IfSome result (λ spelled. IsRightSpelling (spelling_of spelled)) }
+/// How these elements of a list or a vector spell a fault, if they do.
+fn spelling_in(elements: &[Value]) -> Option<SpelledFault<'_>>
+    ensures { option_map spelling_of result ≡ rule.spelling_in (views elements.now) }
 {
-    match fault.elements()? {
+    match elements {
         [Value::Keyword(name)] => spelled_by_keyword(name.as_str()),
         [Value::Keyword(name), value] => plain_fault(name.as_str(), value),
         [Value::Keyword(name), Value::Int(amount), value] => {
@@ -219,4 +203,11 @@ pub fn fault_spelling(fault: &Value) -> Option<SpelledFault<'_>>
         }
         _ => None,
     }
+}
+
+/// How a value spells a fault, if it does.
+pub fn fault_spelling(fault: &Value) -> Option<SpelledFault<'_>>
+    ensures { option_map spelling_of result ≡ rule.fault_spelling (view fault.now) }
+{
+    spelling_in(fault.elements()?)
 }
