@@ -13,6 +13,8 @@ use Rattle.jh_edn.specs.Order.{in_order}
 use Rattle.jh_edn.proofs.CitedLemmas.{list_of-items_of}
 use Rattle.jh_env.specs.Faults.{FaultValue, AreApart, IsBumpAmount, kept_links, kept_nodes, is_self_link, is_same_link, is_same_node, is_same_bumped}
 use Rattle.jh_env.specs.Faults.{Cut, Slow, Loss, Fix, Pause, Kill, Bump}
+use Rattle.jh_env.specs.Amounts.{amount_within, link_fault_of}
+use Rattle.jh_env.specs.declared.amounts.GivenLinkFault.{GivenLinkFault}
 use Rattle.jh_tables.specs.Plain.{fault_on_links, fault_on_nodes}
 use Rattle.jh_tables.specs.declared.faults.LinkFault.{LinkFault}
 use Rattle.jh_tables.specs.declared.faults.NodeFault.{NodeFault}
@@ -21,7 +23,8 @@ use Rattle.jh_env.specs.Names.{AreNodeNames}
 use Rattle.jh_env.proofs.TextPlaceLemmas.{place_of-at}
 use Rattle.jh_env.specs.TextErrors.{place_of}
 use Rattle.jh_env.specs.Naming.{link_names, node_name, bump_spelled, ends_of, named_node, bump_of, is_bump_amount, are_apart_after, are_bumps}
-use Rattle.jh_step_texts.specs.FaultText.{Links, Nodes, Bumps, all_of, links_in, nodes_in, bumps_in, amount_within, slow_kind, loss_kind, fix_kind, parsed_links, parsed_nodes, parsed_bumps}
+use Rattle.jh_step_texts.specs.Kinds.{fault_kind_named}
+use Rattle.jh_step_texts.specs.FaultText.{Links, Nodes, Bumps, all_of, links_in, nodes_in, bumps_in, parsed_links, parsed_nodes, parsed_bumps}
 use Rattle.jh_laws.specs.StepLines.{IsFaultOn, IsTextOfFault}
 use Rattle.jh_laws.proofs.OrderLemmas.{Apart, apart_behind, apart_in_order, all_in_order, none_in_order, none_each}
 
@@ -187,32 +190,36 @@ module _ (links_kept : LinksKept) (nodes_kept : NodesKept) (names : List (List �
       ∙ ap (λ kept. Ok (fault_on_nodes kind kept)) (nodes_kept nodes apart)
 
   pub fault_again : (fault : FaultValue) → IsFaultOn (length names) fault → IsTextOfFault (text_of_fault names fault) names (fault_in_order fault)
+  unfolding fault_kind_named
   fault_again (Cut links) h =
       let ls = in_order is_link_before links in (
-        Links (Some LinkFault.Cut) (map (link_text names) ls),
-        ap (option_map (Links (Some LinkFault.Cut))) (links_are names ls),
+        Links GivenLinkFault.Cut (map (link_text names) ls),
+        ap (option_map (Links GivenLinkFault.Cut)) (links_are names ls),
         links_parsed LinkFault.Cut links h.fits h.others h.is_fault,
       )
   fault_again (Slow ms links) h =
       let ls = in_order is_link_before links in
-      let right : slow_kind (pos ms) ≡ Some (LinkFault.Slow ms) = ap (option_map LinkFault.Slow) (within 1 60000 ms (omega (arith, h.is_fault.0.0)) h.is_fault.0.1) in (
-        Links (Some (LinkFault.Slow ms)) (map (link_text names) ls),
-        ap (option_map (Links (slow_kind (pos ms)))) (links_are names ls) ∙ ap (λ kind. Some (Links kind (map (link_text names) ls))) right,
-        links_parsed (LinkFault.Slow ms) links h.fits h.others h.is_fault.1,
+      let given : GivenLinkFault = GivenLinkFault.Slow (pos ms) in
+      let right : link_fault_of given ≡ Some (LinkFault.Slow ms) = ap (option_map LinkFault.Slow) (within 1 60000 ms (omega (arith, h.is_fault.0.0)) h.is_fault.0.1) in (
+        Links given (map (link_text names) ls),
+        ap (option_map (Links given)) (links_are names ls),
+        ap (λ kind. parsed_links names kind (map (link_text names) ls)) right ∙ links_parsed (LinkFault.Slow ms) links h.fits h.others h.is_fault.1,
       )
   fault_again (Loss level links) h =
       let ls = in_order is_link_before links in
-      let right : loss_kind (pos level) ≡ Some (LinkFault.Loss level) = ap (option_map LinkFault.Loss) (within 1 20 level (omega (arith, h.is_fault.0.0)) h.is_fault.0.1) in (
-        Links (Some (LinkFault.Loss level)) (map (link_text names) ls),
-        ap (option_map (Links (loss_kind (pos level)))) (links_are names ls) ∙ ap (λ kind. Some (Links kind (map (link_text names) ls))) right,
-        links_parsed (LinkFault.Loss level) links h.fits h.others h.is_fault.1,
+      let given : GivenLinkFault = GivenLinkFault.Loss (pos level) in
+      let right : link_fault_of given ≡ Some (LinkFault.Loss level) = ap (option_map LinkFault.Loss) (within 1 20 level (omega (arith, h.is_fault.0.0)) h.is_fault.0.1) in (
+        Links given (map (link_text names) ls),
+        ap (option_map (Links given)) (links_are names ls),
+        ap (λ kind. parsed_links names kind (map (link_text names) ls)) right ∙ links_parsed (LinkFault.Loss level) links h.fits h.others h.is_fault.1,
       )
   fault_again (Fix ms links) h =
       let ls = in_order is_link_before links in
-      let right : fix_kind (pos ms) ≡ Some (LinkFault.Fix ms) = ap (option_map LinkFault.Fix) (within 0 60000 ms (omega arith) h.is_fault.0) in (
-        Links (Some (LinkFault.Fix ms)) (map (link_text names) ls),
-        ap (option_map (Links (fix_kind (pos ms)))) (links_are names ls) ∙ ap (λ kind. Some (Links kind (map (link_text names) ls))) right,
-        links_parsed (LinkFault.Fix ms) links h.fits h.others h.is_fault.1,
+      let given : GivenLinkFault = GivenLinkFault.Fix (pos ms) in
+      let right : link_fault_of given ≡ Some (LinkFault.Fix ms) = ap (option_map LinkFault.Fix) (within 0 60000 ms (omega arith) h.is_fault.0) in (
+        Links given (map (link_text names) ls),
+        ap (option_map (Links given)) (links_are names ls),
+        ap (λ kind. parsed_links names kind (map (link_text names) ls)) right ∙ links_parsed (LinkFault.Fix ms) links h.fits h.others h.is_fault.1,
       )
   fault_again (Pause nodes) h =
       let ns = in_order is_node_before nodes in (

@@ -12,7 +12,8 @@ use Rattle.std.proofs.lemmas.Option.{slice_get_within, get_or_from_slice_get}
 use Rattle.jh_edn.specs.Edn.{Edn, int, keyword, list, vector, Items, no_items, item, list_of}
 use Rattle.jh_env.specs.Faults.{FaultValue, AreApart, kept_links, kept_nodes, is_self_link, is_same_link, is_same_node}
 use Rattle.jh_env.specs.Faults.{Bump}
-use Rattle.jh_env.specs.Amounts.{IsLinkAmount}
+use Rattle.jh_env.specs.Amounts.{IsLinkAmount, amount_within, link_fault_of}
+use Rattle.jh_env.specs.declared.amounts.GivenLinkFault.{GivenLinkFault}
 use Rattle.jh_env.specs.Names.{node_places}
 use Rattle.jh_tables.specs.Plain.{fault_on_links, fault_on_nodes}
 use Rattle.jh_tables.specs.declared.faults.LinkFault.{LinkFault}
@@ -20,8 +21,7 @@ use Rattle.jh_tables.specs.declared.faults.NodeFault.{NodeFault}
 use Rattle.jh_env.proofs.FaultLemmas.{kept_apart, kept_all, none_apart}
 use Rattle.jh_env.specs.TextErrors.{place_of}
 use Rattle.jh_env.specs.Naming.{link_names, node_name, bump_spelled, known_pair, ends_of, named_node, bump_of, are_bumps}
-use Rattle.jh_step_texts.specs.FaultText.{FaultSpelling, Links, Nodes, Bumps, SplitOne, Grudge, IsRingOverAll, result_or_refusal, links_in, nodes_in, bumps_in, amount_within, slow_kind, loss_kind, fix_kind, spelled_by_keyword, spelled_ring, plain_fault, measured_fault, spelling_in, parsed_links, parsed_nodes, parsed_bumps, cut_of, parsed_split, parsed_named, parsed_fault, fault_spelling}
-use Rattle.jh_step_texts.specs.SpellingInside.{IsRightSpelling}
+use Rattle.jh_step_texts.specs.FaultText.{FaultSpelling, Links, Nodes, Bumps, SplitOne, Grudge, IsRingOverAll, result_or_refusal, parsed_links, parsed_nodes, parsed_bumps, cut_of, parsed_split, parsed_named, parsed_fault, fault_spelling}
 use Rattle.jh_step_texts.specs.NamedFaults.{AreLinksAmong, links_that, crosses, crosses_halves, crosses_bridge, touches, leaves_majority, is_at, is_option_of, ring_links, seeded_order}
 use Rattle.jh_step_texts.specs.StepText.{id_of, begin_of_fault, parsed_begin, parsed_withdraw, parsed_keyword, step_of_elements, parsed_step, fault_of_begin}
 use Rattle.jh_nemesis.specs.declared.steps.Step.{Step}
@@ -248,69 +248,23 @@ split_parsed names loner =
     if_needed (place_of names loner) UnknownNode (λ place. Ok (cut_of (links_that (touches place) (length names)))) (λ place. place < length names) (IsFaultOn (length names))
     (below_place names loner) (λ place below. cut_made (length names) (links_that (touches place) (length names)) (crossing (λ a. a == place) (length names)))
 
--- ---- amounts that are spelled
+-- ---- amounts
 
-if_either : (t : Bool) (x y : Option FaultSpelling) → IfSome x IsRightSpelling → IfSome y IsRightSpelling → IfSome (if t then x else y) IsRightSpelling
-if_either true x y h k = h
-if_either false x y h k = k
-
-if_made : {A : Type 0} (o : Option A) (spelling : A → FaultSpelling) → ((x : A) → IsRightSpelling (spelling x)) → IfSome (option_map spelling o) IsRightSpelling
-if_made None spelling each = tt
-if_made (Some x) spelling each = each x
-
-ring_right : (v : Edn) → IfSome (spelled_ring v) IsRightSpelling
-ring_right (int seed) = tt
-ring_right v = tt
-
-named_right : (name : List ℕ) → IfSome (spelled_by_keyword name) IsRightSpelling
-named_right name =
-    if_either (bytes_eq name (codes "halves")) _ _ tt
-    (if_either (bytes_eq name (codes "bridge")) _ _ tt (if_either (bytes_eq name (codes "ring")) _ _ tt tt))
-
-plain_right : (name : List ℕ) (v : Edn) → IfSome (plain_fault name v) IsRightSpelling
-plain_right name v =
-    if_either (bytes_eq name (codes "cut")) _ _ (if_made (links_in v) (Links (Some LinkFault.Cut)) (λ links. tt))
-    (if_either (bytes_eq name (codes "pause")) _ _ (if_made (nodes_in v) (Nodes NodeFault.Pause) (λ nodes. tt))
-    (if_either (bytes_eq name (codes "kill")) _ _ (if_made (nodes_in v) (Nodes NodeFault.Kill) (λ nodes. tt))
-    (if_either (bytes_eq name (codes "bump")) _ _ (if_made (bumps_in v) Bumps (λ bumps. tt))
-    (if_either (bytes_eq name (codes "split-one")) _ _ (if_made (node_name v) SplitOne (λ loner. tt))
-    (if_either (bytes_eq name (codes "ring")) _ _ (ring_right v) tt)))))
-
-slow_right : (z : ℤ) → IfSome (slow_kind z) IsLinkAmount
-slow_right z = if_mapped (amount_within 1 60000 z) LinkFault.Slow (λ ms. (1 ≤ ms) × (ms ≤ 60000)) IsLinkAmount (amount_is 1 60000 z) (λ ms h. (omega (arith, h.0), h.1))
-
-loss_right : (z : ℤ) → IfSome (loss_kind z) IsLinkAmount
-loss_right z = if_mapped (amount_within 1 20 z) LinkFault.Loss (λ level. (1 ≤ level) × (level ≤ 20)) IsLinkAmount (amount_is 1 20 z) (λ level h. (omega (arith, h.0), h.1))
-
-fix_right : (z : ℤ) → IfSome (fix_kind z) IsLinkAmount
-fix_right z = if_mapped (amount_within 0 60000 z) LinkFault.Fix (λ ms. (0 ≤ ms) × (ms ≤ 60000)) IsLinkAmount (amount_is 0 60000 z) (λ ms h. h.1)
-
-measured_right : (name : List ℕ) (z : ℤ) (v : Edn) → IfSome (measured_fault name z v) IsRightSpelling
-measured_right name z v =
-    if_either (bytes_eq name (codes "slow")) _ _ (if_made (links_in v) (Links (slow_kind z)) (λ links. slow_right z))
-    (if_either (bytes_eq name (codes "loss")) _ _ (if_made (links_in v) (Links (loss_kind z)) (λ links. loss_right z))
-    (if_either (bytes_eq name (codes "fix")) _ _ (if_made (links_in v) (Links (fix_kind z)) (λ links. fix_right z)) tt))
-
-parts_right : (xs : Items) → IfSome (spelling_in (list_of xs)) IsRightSpelling
-parts_right (item (keyword name) no_items) = named_right name
-parts_right (item (keyword name) (item v no_items)) = plain_right name v
-parts_right (item (keyword name) (item (int z) (item v no_items))) = measured_right name z v
-parts_right xs = tt
-
-spelling_right : (value : Edn) → IfSome (fault_spelling value) IsRightSpelling
-spelling_right (list xs) = parts_right xs
-spelling_right (vector xs) = parts_right xs
-spelling_right value = tt
+given_right : (given : GivenLinkFault) → IfSome (link_fault_of given) IsLinkAmount
+given_right GivenLinkFault.Cut = tt
+given_right (GivenLinkFault.Slow z) = if_mapped (amount_within 1 60000 z) LinkFault.Slow (λ ms. (1 ≤ ms) × (ms ≤ 60000)) IsLinkAmount (amount_is 1 60000 z) (λ ms h. (omega (arith, h.0), h.1))
+given_right (GivenLinkFault.Loss z) = if_mapped (amount_within 1 20 z) LinkFault.Loss (λ level. (1 ≤ level) × (level ≤ 20)) IsLinkAmount (amount_is 1 20 z) (λ level h. (omega (arith, h.0), h.1))
+given_right (GivenLinkFault.Fix z) = if_mapped (amount_within 0 60000 z) LinkFault.Fix (λ ms. (0 ≤ ms) × (ms ≤ 60000)) IsLinkAmount (amount_is 0 60000 z) (λ ms h. h.1)
 
 -- ---- steps
 
-fault_parsed : (names : List (List ℕ)) (parts : FaultSpelling) → IsRightSpelling parts → IsRingOverAll (length names) (Some parts)
+fault_parsed : (names : List (List ℕ)) (parts : FaultSpelling) → IsRingOverAll (length names) (Some parts)
     → IfOk (parsed_fault names parts) (IsFaultOn (length names))
-fault_parsed names (Links kind links) right ring = links_parsed names kind links right
-fault_parsed names (Nodes kind nodes) right ring = nodes_parsed names kind nodes
-fault_parsed names (Bumps bumps) right ring = bumps_parsed names bumps
-fault_parsed names (SplitOne loner) right ring = split_parsed names loner
-fault_parsed names (Grudge named) right ring = named_parsed (length names) named ring
+fault_parsed names (Links given links) ring = links_parsed names (link_fault_of given) links (given_right given)
+fault_parsed names (Nodes kind nodes) ring = nodes_parsed names kind nodes
+fault_parsed names (Bumps bumps) ring = bumps_parsed names bumps
+fault_parsed names (SplitOne loner) ring = split_parsed names loner
+fault_parsed names (Grudge named) ring = named_parsed (length names) named ring
 
 id_below : (z : ℤ) → IfSome (id_of z) (λ id. id < 2 ^ 32)
 id_below (pos n) =
@@ -327,13 +281,13 @@ begun_is n id (Err refusal) less h = tt
 begin_parsed : (names : List (List ℕ)) (z : ℤ) (fault : Edn) → IsRingOverAll (length names) (fault_spelling fault) → IfOk (parsed_begin names z fault) (IsStepOver (length names))
 begin_parsed names z fault ring =
     elim (fault_spelling fault)
-    as (λ o. IfSome o IsRightSpelling → IsRingOverAll (length names) o
+    as (λ o. IsRingOverAll (length names) o
     → IfOk (result_or_refusal o BadStep (λ parts. result_or_refusal (id_of z) BadId (λ id. begin_of_fault id (parsed_fault names parts)))) (IsStepOver (length names))) [
-      | None ↦ λ right h. tt
-      | Some parts ↦ λ right h.
+      | None ↦ λ h. tt
+      | Some parts ↦ λ h.
           if_needed (id_of z) BadId (λ id. begin_of_fault id (parsed_fault names parts)) (λ id. id < 2 ^ 32) (IsStepOver (length names)) (id_below z)
-          (λ id less. begun_is (length names) id (parsed_fault names parts) less (fault_parsed names parts right h))
-    ] (spelling_right fault) ring
+          (λ id less. begun_is (length names) id (parsed_fault names parts) less (fault_parsed names parts h))
+    ] ring
 
 withdraw_parsed : (n : ℕ) (z : ℤ) → IfOk (parsed_withdraw z) (IsStepOver n)
 withdraw_parsed n z = if_needed (id_of z) BadId (λ id. Ok (Withdraw id)) (λ id. id < 2 ^ 32) (IsStepOver n) (id_below z) (λ id less. less)
