@@ -4,7 +4,7 @@
 
 use jh_edn::read_all;
 use jh_ops::{Op, history_of};
-use jh_timeline::{Mark, Note, StepKind};
+use jh_timeline::{Mark, Note, Place, StepKind};
 use std::alloc::Global;
 
 /// The text of a history, as Jepsen writes it.
@@ -41,12 +41,20 @@ fn index(number: Option<i128>) -> Option<usize> {
     usize::try_from(number?).ok()
 }
 
+/// A place in an order, with what a register holds behind it, if that is known.
+fn place_of(number: Option<i128>, holds: Option<i128>) -> Option<Place> {
+    Some(Place {
+        number: index(number)?,
+        holds: holds.and_then(|holds| i64::try_from(holds).ok()),
+    })
+}
+
 /// What a mark says. None: no mark is called so.
 fn note_of(name: &str, first: Option<i128>, second: Option<i128>) -> Option<Note> {
     match name {
-        "placed" => Some(Note::Placed(index(first)?)),
+        "placed" => Some(Note::Placed(place_of(first, second)?)),
         "stuck" => Some(Note::Stuck),
-        "pending" => Some(Note::Pending(index(first))),
+        "pending" => Some(Note::Pending(place_of(first, second))),
         "lost" => Some(Note::Lost),
         "recovered" => Some(Note::Recovered),
         "unexpected" => Some(Note::Unexpected),

@@ -92,13 +92,13 @@ has_unknown_outcome history call = option_map_or (is_info_at history) call.compl
 abbrev pub note_at : List Mark → ℕ → Option Note
 note_at marks number = option_map (λ mark. mark.note) (find (λ mark. mark.call == number) marks)
 
--- the place in an order that a note gives
+-- the number in an order that a note gives
 abbrev pub place_noted : Note → Option ℕ
-place_noted (Placed place) = Some place
-place_noted (Pending place) = place
+place_noted (Placed place) = Some place.number
+place_noted (Pending (Some place)) = Some place.number
 place_noted _ = None
 
--- the place in an order of the call of a number, if it has one
+-- the number in an order of the call of a number, if it has one
 abbrev pub noted_place_at : List Mark → ℕ → Option ℕ
 noted_place_at marks number = option_and_then place_noted (note_at marks number)
 

@@ -50,13 +50,13 @@ fn notes_of(alloc: Global, marks: &[Mark]) -> Result<BTreeMap<usize, Note>, Allo
     Ok(notes)
 }
 
-/// The place in an order that a note gives.
+/// The number in an order that a note gives.
 fn place_noted(note: Note) -> Option<usize>
     ensures { result ≡ rule.place_noted note }
 {
     match note {
-        Note::Placed(place) => Some(place),
-        Note::Pending(place) => place,
+        Note::Placed(place) => Some(place.number),
+        Note::Pending(Some(place)) => Some(place.number),
         _ => None,
     }
 }

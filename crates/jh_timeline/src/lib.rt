@@ -9,5 +9,5 @@ mod picture;
 
 pub use calls::calls_of;
 pub use lanes::picture_in;
-pub use marks::{Mark, Note, StepKind};
+pub use marks::{Mark, Note, Place, StepKind};
 pub use picture::{Bar, Call, Lane, Picture, Window};

@@ -15,16 +15,26 @@ pub enum StepKind {
     RealTime,
 }
 
+/// Where an operation stands in an order that was found.
+#[derive(Clone, Copy, Debug, PartialEq, Eq)]
+pub struct Place {
+    /// Its number in the order, from 0.
+    pub number: usize,
+    /// What the register holds behind it: the last value that was written or read up to there in the
+    /// order. None where there is none yet, and of what is no register.
+    pub holds: Option<i64>,
+}
+
 /// What a mark says of an operation.
 #[derive(Clone, Copy, Debug, PartialEq, Eq)]
 pub enum Note {
-    /// Its number in an order that explains the history, from 0.
-    Placed(usize),
+    /// It stands in an order that explains the history.
+    Placed(Place),
     /// With its completion the history has no order any more.
     Stuck,
-    /// It is pending where the history is stuck, with its number in the order that is found up to
+    /// It is pending where the history is stuck, with its place in the order that is found up to
     /// there, if it has one.
-    Pending(Option<usize>),
+    Pending(Option<Place>),
     /// It added an element that is lost.
     Lost,
     /// It added an element that is read, and was not acknowledged.

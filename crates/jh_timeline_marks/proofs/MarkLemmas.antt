@@ -1,13 +1,14 @@
 -- Marks call by call, the places of numbers from the last on, and what does not depend on an order.
-use Rattle.std.proofs.Common.{◌≡◌, ℕ, zero, suc, ◌+◌, ◌<◌, ◌≤◌, Bool, true, false, cond, eqb, ltb, List, [], ◌∷◌, ◌++◌, length, drop, take, get_or, map, Option, Some, None, refl, sym, ap, ◌∙◌, arith, is_eq}
+use Rattle.std.proofs.Common.{◌≡◌, ℕ, ℤ, zero, suc, ◌+◌, ◌<◌, ◌≤◌, Bool, true, false, cond, eqb, ltb, List, [], ◌∷◌, ◌++◌, length, drop, take, get_or, map, Option, Some, None, refl, sym, ap, ◌∙◌, arith, is_eq}
 use Rattle.std.specs.Prelude.{◌&&◌, ◌||◌, IsTrue, not, codes, filter, option_and_then, option_map}
-use Rattle.std.specs.List.{cons_option, enumerate_from, filter_map, position_from}
-use Rattle.std.specs.Option.{option_map_or, option_to_list}
+use Rattle.std.specs.List.{cons_option, enumerate_from, filter_map, last_or, position_from, slice_get}
+use Rattle.std.specs.Option.{option_flatten, option_map_or, option_or, option_to_list}
 use Rattle.std.specs.Ordering.{nat_cmp}
 use Rattle.std.specs.BTreeMap.{BTreeMap, get, Updates}
 use Rattle.std.proofs.lemmas.Bool.Decides.{nat_tests}
 use Rattle.std.proofs.lemmas.List.{map-append, take-map, take_more}
 use Rattle.std.proofs.lemmas.List.Elements.{filter_map-append}
+use Rattle.std.proofs.lemmas.Option.{slice_get-map}
 use Rattle.std.proofs.Math.Seq.{drop-cons}
 use Rattle.jh_edn.specs.Edn.{Edn}
 use Rattle.jh_edn.specs.Normal.{normal}
@@ -15,7 +16,7 @@ use Rattle.jh_edn.specs.Order.{in_order, is_below}
 use Rattle.jh_edn.specs.View.{view, views}
 use Rattle.jh_edn.specs.declared.value.Value.{Value}
 use Rattle.jh_ops.specs.Operation.{Operation, operation, operations, is_asked}
-use Rattle.jh_ops.specs.Pairing.{pair_of, pairs_from}
+use Rattle.jh_ops.specs.Pairing.{history_pairs, pair_of, pairs_from}
 use Rattle.jh_ops.specs.declared.operation.Kind.{Kind}
 use Rattle.jh_ops.specs.declared.operation.Op.{Op}
 use Rattle.jh_ops.specs.declared.operation.Process.{Process}
@@ -30,7 +31,7 @@ use Rattle.jh_timeline.specs.declared.marks.Mark.{Mark}
 use Rattle.jh_timeline.specs.declared.marks.Note.{Note}
 use Rattle.jh_timeline.specs.declared.picture.Call.{Call}
 use Rattle.jh_timeline.specs.Lanes.{call_end}
-use Rattle.jh_timeline_marks.specs.Marked.{acknowledged_before, acknowledges, acknowledges_lost, adds_one_of, call_completion, ends_with_one_of, found_note, has_one_of, invocation_of, invocations_of, is_completed_at, late_losses, mark_at, marks_by, note_if, place_among, shows_unexpected}
+use Rattle.jh_timeline_marks.specs.Marked.{acknowledged_before, acknowledges, acknowledges_lost, adds_one_of, call_completion, ends_with_one_of, found_note, has_one_of, held_behind, invocation_of, invocations_of, is_completed_at, late_losses, mark_at, marks_by, note_if, place_among, shows_unexpected, value_told, value_told_by}
 use Rattle.jh_timeline_marks.specs.MarkedInside.{found_note_with, invocations, is_by_client, is_invocation, is_lost_with}
 use Rattle.jh_timeline_marks.specs.declared.set.Elements.{Elements}
 
@@ -47,9 +48,9 @@ length_take xs zero h = refl
 length_take [] (suc i) h = absurd (omega arith)
 length_take (x ∷ xs) (suc i) h = ap suc (length_take xs i (omega arith))
 
-one_at_most : (mark : Option Mark) → option_to_list mark ≡ cons_option mark []
+one_at_most : {X : Type 0} (one : Option X) → option_to_list one ≡ cons_option one []
 one_at_most None = refl
-one_at_most (Some mark) = refl
+one_at_most (Some x) = refl
 
 -- the mark of one more call
 pub marks_more : (note : Call → Option Note) (calls : List Call) (i : ℕ) (d : Call) (before after : List Mark)
@@ -185,6 +186,51 @@ invocations_from place (op ∷ history) = step op.kind op.process (operation op)
 -- where clients invoke something is where the pairs are invoked
 pub invocations_are : (history : List Op) → invocations history ≡ invocations_of (operations history)
 invocations_are history = invocations_from 0 history
+
+-- ---- what a register holds
+
+last_more : (o : Option ℤ) (values : List ℤ) (value : Option ℤ) → last_or o (values ++ option_to_list value) ≡ option_or value (last_or o values)
+last_more o [] None = refl
+last_more o [] (Some value) = refl
+last_more o (x ∷ values) value = last_more (Some x) values value
+
+-- what is held along the first operations of an order
+pub record Holding (history : List Operation) (order : List ℕ) (i : ℕ) (holds : Option ℤ) (held : List (Option ℤ)) : Type 0 where
+  pub last : holds ≡ held_behind history (take i order)
+  pub all : held ≡ map (λ numbered. held_behind history (take (numbered.0 + 1) order)) (enumerate_from 0 (take i order))
+
+-- one operation more
+pub holding_more : (history : List Operation) (order : List ℕ) (i : ℕ) (holds next : Option ℤ) (held after : List (Option ℤ)) → i < length order
+    → next ≡ option_or (value_told_by history (get_or order i 0)) holds → after ≡ held ++ next ∷ []
+    → Holding history order i holds held → Holding history order (i + 1) next after
+holding_more history order i holds next held after below is grown holding =
+    let number = get_or order i 0 in
+    let told = value_told_by history in
+    let behind : ℕ × ℕ → Option ℤ = λ numbered. held_behind history (take (numbered.0 + 1) order) in
+    let more = take_more order i 0 below in
+    let at : 0 + length (take i order) ≡ i = (let long = length_take order i (omega arith) in omega (arith, long)) in
+    let whole : enumerate_from 0 (take (i + 1) order) ≡ enumerate_from 0 (take i order) ++ (i, number) ∷ [] =
+    ap (enumerate_from 0) more ∙ numbered_more 0 (take i order) number ∙ ap (λ n. enumerate_from 0 (take i order) ++ (n, number) ∷ []) at in
+    let now : next ≡ held_behind history (take (i + 1) order) =
+    is ∙ ap (option_or (told number)) holding.last ∙ sym (last_more None (filter_map told (take i order)) (told number))
+    ∙ ap (λ vs. last_or None (filter_map told (take i order) ++ vs)) (one_at_most (told number))
+    ∙ sym (ap (last_or None) (filter_map-append told (take i order) (number ∷ []))) ∙ sym (ap (held_behind history) more) in
+    record {
+      last = now;
+      all = grown ∙ ap (λ vs. vs ++ next ∷ []) holding.all ∙ ap (λ v. map behind (enumerate_from 0 (take i order)) ++ v ∷ []) now
+          ∙ sym (ap (map behind) whole ∙ map-append behind (enumerate_from 0 (take i order)) ((i, number) ∷ []));
+    }
+
+flat : {X Y : Type 0} (f : X → Option Y) (one : Option X) → option_flatten (option_map f one) ≡ option_and_then f one
+flat f None = refl
+flat f (Some x) = refl
+
+-- a value by its place among those that are told
+pub told_at : (values : List (Option ℤ)) (history : List Operation) (number : ℕ) → values ≡ map (value_told history) (history_pairs history)
+    → option_flatten (slice_get values number) ≡ value_told_by history number
+told_at values history number is =
+    ap (λ vs. option_flatten (slice_get vs number)) is ∙ ap option_flatten (slice_get-map (value_told history) (history_pairs history) number)
+    ∙ flat (value_told history) (slice_get (history_pairs history) number)
 
 -- ---- places
 

@@ -1,16 +1,17 @@
 -- What a checker found in a history, as marks at its calls (what each checker finds stands in the
 -- definitions of its own crate; which calls that marks is this project's own). Each call has at most
 -- one note.
-use Rattle.std.specs.Prelude.{ℕ, ◌==◌, ◌&&◌, ◌||◌, Bool, true, false, not, nat_lt, List, []}
+use Rattle.std.specs.Prelude.{ℕ, ◌+◌, ℤ, ◌==◌, ◌&&◌, ◌||◌, Bool, true, false, not, nat_lt, List, []}
 use Rattle.std.specs.Prelude.{length, map, filter, take, codes, if◌then◌else◌, slice_get, Option}
 use Rattle.std.specs.Prelude.{Some, None, option_map, option_and_then, is_some}
-use Rattle.std.specs.List.{enumerate_from, filter_map, position_from}
-use Rattle.std.specs.Option.{option_map_or}
+use Rattle.std.specs.List.{enumerate_from, filter_map, last_or, position_from}
+use Rattle.std.specs.Option.{option_flatten, option_map_or}
 use Rattle.jh_edn.specs.Edn.{Edn}
 use Rattle.jh_edn.specs.Normal.{normal}
 use Rattle.jh_ops.specs.Operation.{Operation, is_asked}
 use Rattle.jh_ops.specs.Pairing.{history_pairs}
 use Rattle.jh_ops.specs.declared.operation.Kind.{Kind}
+use Rattle.jh_ops.specs.declared.pairs.Pair.{Pair}
 use Rattle.jh_check.specs.CounterResults.{is_in_bounds, read_ends}
 use Rattle.jh_check.specs.Distinct.{has_same_value}
 use Rattle.jh_check.specs.SetResults.{acknowledged_values, final_read}
@@ -20,12 +21,16 @@ use Rattle.jh_checkers.specs.declared.explanation.Explanation.{Explanation}
 use Rattle.jh_checkers.specs.declared.finding.Finding.{Finding}
 use Rattle.jh_checkers.specs.declared.finding.Finding.TheVariants.{Set, Counter, Ids, Register}
 use Rattle.jh_checkers.specs.declared.finding.Finding.TheVariants.{ListAppend}
+use Rattle.jh_linear.specs.Operations.{reg_op_of}
+use Rattle.jh_linear.specs.declared.register.RegCall.{RegCall}
+use Rattle.jh_linear.specs.declared.register.RegCall.TheVariants.{Read, Write, Cas}
 use Rattle.jh_linear.specs.declared.verdict.LinVerdict.{LinVerdict}
 use Rattle.jh_linear.specs.declared.verdict.LinVerdict.TheVariants.{Valid, Invalid, Unknown}
 use Rattle.jh_linear.specs.declared.verdict.Stuck.{Stuck}
 use Rattle.jh_timeline.specs.Lanes.{call_end}
 use Rattle.jh_timeline.specs.declared.marks.Mark.{Mark}
 use Rattle.jh_timeline.specs.declared.marks.Note.{Note}
+use Rattle.jh_timeline.specs.declared.marks.Place.{Place}
 use Rattle.jh_timeline.specs.declared.marks.StepKind.{StepKind}
 use Rattle.jh_timeline.specs.declared.picture.Call.{Call}
 use Rattle.jh_txn_findings.specs.declared.finding.FoundStep.{FoundStep}
@@ -70,14 +75,52 @@ place_among numbers number = position_from (λ other. other == number) 0 numbers
 abbrev pub invocations_of : List Operation → List ℕ
 invocations_of history = map (λ pair. pair.invoke) (history_pairs history)
 
+-- the number of a call among the operations of the history, by which orders name it
+abbrev pub operation_number : List Operation → Call → Option ℕ
+operation_number history call = place_among (invocations_of history) call.first
+
 -- the place of a call in an order, if it has one
 abbrev pub place_in : List ℕ → List Operation → Call → Option ℕ
-place_in order history call =
-    option_and_then (place_among order) (place_among (invocations_of history) call.first)
+place_in order history call = option_and_then (place_among order) (operation_number history call)
 
--- its place in an order
-abbrev pub placed_note : List ℕ → List Operation → Call → Option Note
-placed_note order history call = option_map Note.Placed (place_in order history call)
+-- the value that a register has behind a call, where the call tells: what is written, or was read
+abbrev pub value_behind : RegCall → Option ℤ
+value_behind (Read seen) = seen
+value_behind (Write new) = Some new
+value_behind (Cas old new) = Some new
+
+-- the value that the operation of a pair tells
+abbrev pub value_told : List Operation → Pair → Option ℤ
+value_told history pair =
+    option_and_then (λ op. value_behind op.call) (reg_op_of history pair)
+
+-- the value that the operation of a number tells
+abbrev pub value_told_by : List Operation → ℕ → Option ℤ
+value_told_by history number =
+    option_and_then (value_told history) (slice_get (history_pairs history) number)
+
+-- what a register holds behind the operations of an order: the last value that one of them tells
+abbrev pub held_behind : List Operation → List ℕ → Option ℤ
+held_behind history order = last_or None (filter_map (value_told_by history) order)
+
+-- what it holds behind each operation of an order, one after another
+abbrev pub held_along : List Operation → List ℕ → List (Option ℤ)
+held_along history order =
+    map (λ numbered. held_behind history (take (numbered.0 + 1) order)) (enumerate_from 0 order)
+
+-- the place of this number in an order along which a register holds these values
+abbrev pub place_along : List (Option ℤ) → ℕ → Place
+place_along held number =
+    record { number = number; holds = option_flatten (slice_get held number) }
+
+-- its place in an order along which a register holds these values
+abbrev pub placed_note : List (Option ℤ) → List ℕ → List Operation → Call → Option Note
+placed_note held order history call =
+    option_map Note.Placed (option_map (place_along held) (place_in order history call))
+
+-- its place in an order of operations of a register
+abbrev pub ordered_note : List ℕ → List Operation → Call → Option Note
+ordered_note order history call = placed_note (held_along history order) order history call
 
 -- the numbers of what is pending, where that is known
 abbrev pub pending_numbers_in : Option Explanation → List ℕ
@@ -94,12 +137,13 @@ abbrev pub stuck_note : Stuck → Option Explanation → List Operation → Call
 stuck_note stuck explanation history call =
     if is_completed_at stuck.end call then Some Note.Stuck
     else if is_pending_call explanation history call
-    then Some (Note.Pending (place_in stuck.order history call))
-    else placed_note stuck.order history call
+    then Some (Note.Pending (option_map (place_along (held_along history stuck.order))
+    (place_in stuck.order history call)))
+    else ordered_note stuck.order history call
 
 -- of a yes its place in the order
 abbrev pub register_note : LinVerdict → Option Explanation → List Operation → Call → Option Note
-register_note (Valid order) explanation history call = placed_note order history call
+register_note (Valid order) explanation history call = ordered_note order history call
 register_note (Invalid stuck) explanation history call = stuck_note stuck explanation history call
 register_note (Unknown reached) explanation history call = None
 
@@ -212,11 +256,11 @@ is_at_number number found = option_map_or (λ other. other == number) found fals
 -- it is the transaction at this place
 abbrev pub has_bad_read : ℕ → List Operation → Call → Bool
 has_bad_read place history call =
-    is_at_number place (place_among (invocations_of history) call.first)
+    is_at_number place (operation_number history call)
 
 -- its first place in an order, of a snapshot order where it starts; its bad read; its step of a cycle
 abbrev pub transactions_note : TxnFinding → List Operation → Call → Option Note
-transactions_note (txns.Valid order) history call = placed_note order.items history call
+transactions_note (txns.Valid order) history call = placed_note [] order.items history call
 transactions_note (txns.BadRead place index kind operations) history call =
     note_if (has_bad_read place history call) Note.BadRead
 transactions_note (txns.Cycle steps operations) history call = cycle_note steps.items history call

@@ -17,6 +17,7 @@ use Rattle.jh_check.specs.Distinct.{Ascends}
 use Rattle.jh_check.specs.declared.counter.ReadBounds.{ReadBounds}
 use Rattle.jh_timeline.specs.Lanes.{call_end}
 use Rattle.jh_timeline.specs.declared.marks.Note.{Note}
+use Rattle.jh_timeline.specs.declared.marks.Place.{Place}
 use Rattle.jh_timeline.specs.declared.picture.Call.{Call}
 use Rattle.jh_timeline_marks.specs.Marked.{acknowledges, adds_one_of, is_completed_at, note_if}
 use Rattle.jh_timeline_marks.specs.declared.set.Elements.{Elements}
@@ -42,7 +43,7 @@ pair_with Kind.Invoke place next = record { invoke = place; outcome = next } ∷
 pair_with _ place next = []
 
 -- the note of a call where a history is stuck, with this place in the order of what is before
-abbrev pub stuck_note_with : ℕ → Bool → Option ℕ → Call → Option Note
+abbrev pub stuck_note_with : ℕ → Bool → Option Place → Call → Option Note
 stuck_note_with end pending place call =
     if is_completed_at end call then Some Note.Stuck else if pending then Some (Note.Pending place)
     else option_map Note.Placed place

@@ -1,61 +1,21 @@
 //! The marks of counters. `specs/Marked.antt` has the rule.
 
-ghost use Rattle.std.specs.Prelude.{◌≡◌, ◌++◌, IfOk, OnOk, option_and_then};
+ghost use Rattle.std.specs.Prelude.{◌≡◌, IfOk, option_and_then};
 ghost use Rattle.jh_ops.specs.Operation.{operations};
 ghost use Rattle.jh_ops.specs.Pairing.{history_pairs};
 ghost use Rattle.jh_check.specs.CounterResults as counter;
 ghost use Rattle.jh_timeline_marks.specs.Marked as rule;
 ghost use Rattle.jh_timeline_marks.specs.Marked.{marks_by};
-ghost use Rattle.jh_timeline_marks.specs.MarkedInside.{bounds_with, pair_with};
+ghost use Rattle.jh_timeline_marks.specs.MarkedInside.{bounds_with};
 
 use crate::notes::{noted, push_note};
+use crate::pairs::pairs_of;
 use crate::places::{place_of, places_of};
 use jh_check::{ReadBounds, read_ends};
-use jh_ops::{Kind, Op, Pair, Process};
+use jh_ops::Op;
 use jh_timeline::{Call, Mark, Note};
 use std::alloc::{AllocError, Global};
 use std::collections::BTreeMap;
-
-/// Puts the pair of a client's record last, if the record is an invocation, where this is the place
-/// of the client's next record.
-fn push_pair(
-    kind: Kind,
-    place: usize,
-    next: Option<usize>,
-    pairs: &mut Vec<Pair>,
-) -> Result<(), AllocError>
-    ensures { OnOk result (pairs.new.items ≡ pairs.old.items ++ pair_with kind place next) }
-{
-    match kind {
-        Kind::Invoke => pairs.push(Pair {
-            invoke: place,
-            outcome: next,
-        })?,
-        _ => (),
-    }
-    Ok(())
-}
-
-/// The pairs of clients, in the order of their invocations. `jh_ops::pair` refuses a history that is
-/// not well formed, and the marks of such a history are defined too.
-fn pairs_of(alloc: Global, history: &[Op]) -> Result<Vec<Pair>, AllocError>
-    ensures { IfOk result (λ pairs. pairs.items ≡ history_pairs (operations history.now)) }
-{
-    let mut next = BTreeMap::new(alloc);
-    let mut pairs = Vec::new(alloc);
-    let mut place = history.len();
-    while place > 0 {
-        place -= 1;
-        let op = &history[place];
-        if let Process::Client(client) = op.process {
-            let outcome = next.get(&client).copied();
-            push_pair(op.kind, place, outcome, &mut pairs)?;
-            next.insert(client, place)?;
-        }
-    }
-    pairs.reverse();
-    Ok(pairs)
-}
 
 /// Where the reads that happened end, in order.
 fn ends_of(alloc: Global, history: &[Op]) -> Result<Vec<usize>, AllocError>

@@ -2,11 +2,13 @@
 #![tactic(auto)]
 
 mod counter;
+mod held;
 mod ids;
 mod marked;
 mod notes;
 mod operations;
 mod orders;
+mod pairs;
 mod places;
 mod register;
 mod set;
@@ -14,3 +16,4 @@ mod transactions;
 mod values;
 
 pub use marked::marks_of;
+pub use orders::operation_numbers;

@@ -6,6 +6,7 @@ ghost use Rattle.jh_timeline_marks.specs.Marked as rule;
 ghost use Rattle.jh_timeline_marks.specs.Marked.{marks_by, register_note};
 ghost use Rattle.jh_timeline_marks.specs.MarkedInside as inside;
 
+use crate::held::{held_along, place_along};
 use crate::notes::{no_marks, push_note};
 use crate::operations::is_completed_at;
 use crate::orders::{numbers_of, placed, placed_marks};
@@ -13,7 +14,7 @@ use crate::places::{place_through, places_of};
 use jh_checkers::Explanation;
 use jh_linear::{LinVerdict, Stuck};
 use jh_ops::Op;
-use jh_timeline::{Call, Mark, Note};
+use jh_timeline::{Call, Mark, Note, Place};
 use std::alloc::{AllocError, Global};
 
 /// The numbers of what is pending, where that is known.
@@ -27,7 +28,7 @@ fn pending_in(explanation: &Option<Explanation>) -> &[usize]
 }
 
 /// The note of a call where a history is stuck, with this place in the order of what is before.
-fn stuck_note(end: usize, pending: bool, place: Option<usize>, call: &Call) -> Option<Note>
+fn stuck_note(end: usize, pending: bool, place: Option<Place>, call: &Call) -> Option<Note>
     ensures { result ≡ inside.stuck_note_with end pending place call.now }
 {
     if is_completed_at(end, call) {
@@ -54,14 +55,29 @@ fn invalid_marks(
     let numbers = numbers_of(alloc, history)?;
     let pending = places_of(alloc, pending_in(explanation))?;
     let places = places_of(alloc, stuck.order.as_slice())?;
+    let held = held_along(alloc, history, stuck.order.as_slice())?;
     let mut marks = Vec::new(alloc);
     for (number, call) in calls.iter().enumerate() {
         let is_pending = place_through(&numbers, &pending, call.first).is_some();
-        let place = place_through(&numbers, &places, call.first);
+        let place = place_along(&held, place_through(&numbers, &places, call.first));
         let note = stuck_note(stuck.end, is_pending, place, call);
         push_note(note, number, &mut marks)?;
     }
     Ok(marks)
+}
+
+/// A mark at each call that an order of all operations has.
+fn valid_marks(
+    alloc: Global,
+    order: &[usize],
+    history: &[Op],
+    calls: &[Call],
+) -> Result<Vec<Mark>, AllocError>
+    ensures { IfOk result (λ marks. marks.items
+        ≡ marks_by (rule.ordered_note order.now (operations history.now)) calls.now) }
+{
+    let held = held_along(alloc, history, order)?;
+    placed_marks(alloc, &held, order, history, calls)
 }
 
 /// The marks of what the judge of a register says.
@@ -76,7 +92,7 @@ pub(crate) fn register_marks(
         ≡ marks_by (register_note judged.now explanation.now (operations history.now)) calls.now) }
 {
     match judged {
-        LinVerdict::Valid(order) => placed_marks(alloc, order.as_slice(), history, calls),
+        LinVerdict::Valid(order) => valid_marks(alloc, order.as_slice(), history, calls),
         LinVerdict::Invalid(stuck) => invalid_marks(alloc, stuck, explanation, history, calls),
         LinVerdict::Unknown(_) => Ok(no_marks(alloc, calls)),
     }

@@ -106,7 +106,7 @@ pub(crate) fn transactions_marks(
         ≡ marks_by (transactions_note found.now (operations history.now)) calls.now) }
 {
     match found {
-        TxnFinding::Valid { order } => placed_marks(alloc, order, history, calls),
+        TxnFinding::Valid { order } => placed_marks(alloc, &[], order, history, calls),
         TxnFinding::BadRead { place, .. } => bad_read_marks(alloc, *place, history, calls),
         TxnFinding::Cycle { steps, .. } => cycle_marks(alloc, steps, history, calls),
         TxnFinding::Unknown => Ok(no_marks(alloc, calls)),

@@ -1,9 +1,10 @@
 -- The picture of a history, byte for byte (this project's own; SVG within HTML that is XML too).
-use Rattle.std.specs.Prelude.{ℕ, ◌-◌, ◌==◌, ◌&&◌, Bool, true, false, List, [], ◌++◌, codes}
+use Rattle.std.specs.Prelude.{ℕ, ℤ, ◌-◌, ◌==◌, ◌&&◌, Bool, true, false, List, [], ◌++◌, codes}
 use Rattle.std.specs.Prelude.{if◌then◌else◌, slice_get, vec_len, Option, Some, None}
 use Rattle.std.specs.Prelude.{option_map, option_and_then}
-use Rattle.std.specs.Fmt.{decimal}
+use Rattle.std.specs.Fmt.{decimal, signed_decimal}
 use Rattle.std.specs.List.{flat_map}
+use Rattle.std.specs.Option.{option_flatten}
 use Rattle.jh_bands.specs.declared.band.Line.{Line}
 use Rattle.jh_edn.specs.Edn.{Edn}
 use Rattle.jh_ops.specs.Operation.{Operation, operations}
@@ -11,6 +12,7 @@ use Rattle.jh_ops.specs.Pairing.{is_invoke}
 use Rattle.jh_ops.specs.declared.operation.Kind.{Kind}
 use Rattle.jh_timeline.specs.declared.marks.Mark.{Mark}
 use Rattle.jh_timeline.specs.declared.picture.Bar.{Bar}
+use Rattle.jh_timeline.specs.declared.picture.Call.{Call}
 use Rattle.jh_timeline_pages.specs.Bands.{bands_text}
 use Rattle.jh_bands.specs.Words.{answered_text, asked_text}
 use Rattle.jh_timeline_pages.specs.Records.{record_text}
@@ -200,19 +202,57 @@ abbrev pub named_text : ℕ → Mark → List ℕ
 named_text number mark =
     if is_pointer mark.note then codes "\" id=\"" ++ mark_name number mark.call else []
 
--- a mark, which says what it means, with its text at the right end of a bar; nothing where there is
--- no bar
-abbrev pub mark_text : ℕ → Frame → Mark → Option Bar → List ℕ
-mark_text number frame mark None = []
-mark_text number frame mark (Some bar) =
+-- the number of a bar's operation among those of the history, by which orders name it
+abbrev pub number_of_bar : Section → ℕ → Option ℕ
+number_of_bar section bar = option_flatten (slice_get section.numbers.items bar)
+
+-- that number behind a word, where there is one
+abbrev pub named_operation : Option ℕ → List ℕ
+named_operation None = []
+named_operation (Some number) = codes "operation " ++ (decimal number ++ codes ", ")
+
+-- the `:index` of a record; one that says none has its place in the history
+abbrev pub index_text : ℕ → Option ℤ → List ℕ
+index_text place None = decimal place
+index_text place (Some index) = signed_decimal index
+
+-- the same behind a word, of the record that a section has at a place; nothing where it has none
+abbrev pub record_index_text : List ℕ → ℕ → Option Operation → List ℕ
+record_index_text word place None = []
+record_index_text word place (Some op) = word ++ index_text place op.index
+
+-- the place of a call's completion, where that is not its first record
+abbrev pub later_completion : Call → Option ℕ
+later_completion call =
+    option_and_then (λ place. if place == call.first then None else Some place) call.completion
+
+-- behind a word the index of the last record of a call that has two
+abbrev pub end_text : Section → Option ℕ → List ℕ
+end_text section None = []
+end_text section (Some place) =
+    record_index_text (codes " to ") place (section_record section place)
+
+-- a further line, which says which operation a call is, and where its records stand
+abbrev pub whereabouts_text : Section → Option ℕ → Call → List ℕ
+whereabouts_text section number call =
+    codes "\n" ++ named_operation number
+    ++ record_index_text (codes "at index ") call.first (section_record section call.first)
+    ++ end_text section (later_completion call)
+
+-- a mark, which says what it means and where, with its text at the right end of a bar; nothing where
+-- there is no bar
+abbrev pub mark_text : ℕ → Frame → Section → Mark → Option Bar → List ℕ
+mark_text number frame section mark None = []
+mark_text number frame section mark (Some bar) =
     codes "<svg class=\"" ++ class_of mark.note ++ named_text number mark ++ bar_place frame bar
     ++ codes "<title>" ++ meaning_text mark.note
+    ++ whereabouts_text section (number_of_bar section mark.call) bar.call
     ++ codes "</title><text x=\"228\" y=\"12\">" ++ note_text mark.note ++ codes "</text></svg>\n"
 
 -- a mark at the bar that it names, in the section of a number
 abbrev pub drawn_mark : ℕ → Frame → Section → Mark → List ℕ
 drawn_mark number frame section mark =
-    mark_text number frame mark (slice_get section.picture.bars.items mark.call)
+    mark_text number frame section mark (slice_get section.picture.bars.items mark.call)
 
 -- ---- the picture
 

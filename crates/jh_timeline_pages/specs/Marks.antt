@@ -1,12 +1,13 @@
 -- What a mark says of an operation (what each says is the checkers'; how it is said is this
 -- project's own).
-use Rattle.std.specs.Prelude.{ℕ, Bool, true, false, List, [], ◌++◌, codes, find, Option, Some, None}
+use Rattle.std.specs.Prelude.{ℕ, ℤ, Bool, true, false, List, [], ◌++◌, codes, find, Option, Some, None}
 use Rattle.std.specs.Fmt.{decimal, signed_decimal}
 use Rattle.jh_timeline.specs.declared.marks.Mark.{Mark}
 use Rattle.jh_timeline.specs.declared.marks.Note.{Note}
 use Rattle.jh_timeline.specs.declared.marks.Note.TheVariants.{Placed, Stuck, Pending, Lost}
 use Rattle.jh_timeline.specs.declared.marks.Note.TheVariants.{Recovered, Unexpected, Repeated}
 use Rattle.jh_timeline.specs.declared.marks.Note.TheVariants.{Outside, Step, BadRead}
+use Rattle.jh_timeline.specs.declared.marks.Place.{Place}
 use Rattle.jh_timeline.specs.declared.marks.StepKind.{StepKind}
 use Rattle.jh_timeline.specs.declared.marks.StepKind.TheVariants.{WriteRead, WriteWrite}
 use Rattle.jh_timeline.specs.declared.marks.StepKind.TheVariants.{FirstCommitter, ReadWrite}
@@ -14,8 +15,8 @@ use Rattle.jh_timeline.specs.declared.marks.StepKind.TheVariants.{RealTime}
 
 -- A note that points at something: any but a place in an order, and that an operation is pending.
 abbrev pub is_pointer : Note → Bool
-is_pointer (Placed number) = false
-is_pointer (Pending number) = false
+is_pointer (Placed place) = false
+is_pointer (Pending place) = false
 is_pointer note = true
 
 -- the first mark that points at something
@@ -24,9 +25,9 @@ first_pointer marks = find (λ mark. is_pointer mark.note) marks
 
 -- the class of a note in the style, which is its name too
 abbrev pub class_of : Note → List ℕ
-class_of (Placed number) = codes "placed"
+class_of (Placed place) = codes "placed"
 class_of Stuck = codes "stuck"
-class_of (Pending number) = codes "pending"
+class_of (Pending place) = codes "pending"
 class_of Lost = codes "lost"
 class_of Recovered = codes "recovered"
 class_of Unexpected = codes "unexpected"
@@ -51,8 +52,8 @@ step_text place kind = decimal place ++ (codes " :" ++ step_kind_name kind)
 -- what a note says: a number in an order, that it is pending and has one, the bounds of a read, a
 -- step of a cycle, that a read is bad, or its name
 abbrev pub note_text : Note → List ℕ
-note_text (Placed number) = decimal number
-note_text (Pending (Some number)) = codes "pending " ++ decimal number
+note_text (Placed place) = decimal place.number
+note_text (Pending (Some place)) = codes "pending " ++ decimal place.number
 note_text (Outside lower upper) =
     codes "[" ++ (signed_decimal lower ++ (codes " " ++ (signed_decimal upper ++ codes "]")))
 note_text (Step place kind) = step_text place kind
@@ -69,14 +70,30 @@ plain_meaning Repeated = codes "repeated: this id was given more than once"
 plain_meaning BadRead = codes "bad read: no order explains it"
 plain_meaning note = []
 
+-- what a register holds behind an operation, where that is known
+abbrev pub held_text : Option ℤ → List ℕ
+held_text None = []
+held_text (Some value) = codes "; the register then holds " ++ signed_decimal value
+
+-- a number in an order
+abbrev pub order_number_text : ℕ → List ℕ
+order_number_text number = codes "number " ++ (decimal number ++ codes " in the order that was found")
+
+-- what a place in an order means
+abbrev pub place_meaning : Place → List ℕ
+place_meaning place = order_number_text place.number ++ held_text place.holds
+
+-- what it means that an operation is pending, with its place in the order of what is before, if it has
+-- one
+abbrev pub pending_meaning : Option Place → List ℕ
+pending_meaning None = codes "pending: it was not over where the history is stuck"
+pending_meaning (Some place) =
+    codes "pending: it was not over where the history is stuck; " ++ place_meaning place
+
 -- what a note means, in words
 abbrev pub meaning_text : Note → List ℕ
-meaning_text (Placed number) =
-    codes "number " ++ (decimal number ++ codes " in the order that was found")
-meaning_text (Pending None) = codes "pending: it was not over where the history is stuck"
-meaning_text (Pending (Some number)) =
-    codes "pending: it was not over where the history is stuck; number " ++ (decimal number
-    ++ codes " in the order that was found")
+meaning_text (Placed place) = place_meaning place
+meaning_text (Pending place) = pending_meaning place
 meaning_text (Outside lower upper) =
     codes "outside its bounds: " ++ (signed_decimal lower ++ (codes " to " ++ signed_decimal upper))
 meaning_text (Step place kind) =

@@ -18,6 +18,7 @@ mod shown;
 mod tails;
 mod times;
 mod top;
+mod whereabouts;
 
 pub use error::PageError;
 pub use marks::first_pointer;

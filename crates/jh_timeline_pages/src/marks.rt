@@ -1,11 +1,15 @@
 //! What marks say, and where they stand. `specs/Marks.antt` and `specs/Drawings.antt` have the rule.
 
-ghost use Rattle.std.specs.Prelude.{◌≡◌, IfErr, OnOk, option_map};
+ghost use Rattle.std.specs.Prelude.{◌≡◌, All, IfErr, OnOk, Some, option_map};
+ghost use Rattle.std.specs.Fmt.{signed_decimal};
 ghost use Rattle.std.specs.Io.KnownBytes.{Appends};
 ghost use Rattle.std.specs.List.{flat_map};
+ghost use Rattle.jh_ops.specs.OperationWritten.{IsWritable};
 ghost use Rattle.jh_timeline_pages.specs.Drawings.{drawn_mark, mark_name, mark_text, named_text};
 ghost use Rattle.jh_timeline_pages.specs.Marks as rule;
-ghost use Rattle.jh_timeline_pages.specs.Marks.{meaning_text, note_text, step_text};
+ghost use Rattle.jh_timeline_pages.specs.Marks.{held_text, meaning_text, note_text};
+ghost use Rattle.jh_timeline_pages.specs.Marks.{order_number_text, pending_meaning, place_meaning};
+ghost use Rattle.jh_timeline_pages.specs.Marks.{step_text};
 ghost use Rattle.jh_timeline.specs.declared.marks.Note.{Note};
 
 use crate::bars::write_bar_place;
@@ -13,7 +17,8 @@ use crate::error::PageError;
 use crate::markup::put;
 use crate::pixels::Frame;
 use crate::section::Section;
-use jh_timeline::{Bar, Mark, Note, StepKind};
+use crate::whereabouts::write_whereabouts;
+use jh_timeline::{Bar, Mark, Note, Place, StepKind};
 use std::io::Write;
 
 /// Whether a note points at something.
@@ -82,8 +87,10 @@ fn write_note<W: Write>(note: Note, writer: &mut W) -> Result<(), PageError>
     ensures error { IfErr result (λ e. e ≡ PageError.Write) }
 {
     match note {
-        Note::Placed(number) => write!(writer, "{number}").map_err(|_| PageError::Write),
-        Note::Pending(Some(number)) => {
+        Note::Placed(Place { number, .. }) => {
+            write!(writer, "{number}").map_err(|_| PageError::Write)
+        }
+        Note::Pending(Some(Place { number, .. })) => {
             write!(writer, "pending {number}").map_err(|_| PageError::Write)
         }
         Note::Outside { lower, upper } => {
@@ -95,20 +102,70 @@ fn write_note<W: Write>(note: Note, writer: &mut W) -> Result<(), PageError>
     }
 }
 
-/// Writes what it means that an operation is pending.
-fn write_pending<W: Write>(number: Option<usize>, writer: &mut W) -> Result<(), PageError>
+/// Writes a value of a register.
+fn write_value<W: Write>(value: i64, writer: &mut W) -> Result<(), PageError>
     ensures bytes { OnOk result
-        (Appends (W.contents writer.old) (W.contents writer.new)
-        (meaning_text (Note.Pending number))) }
+        (Appends (W.contents writer.old) (W.contents writer.new) (signed_decimal value)) }
     ensures error { IfErr result (λ e. e ≡ PageError.Write) }
 {
-    match number {
-        Some(number) => write!(
-            writer,
-            "pending: it was not over where the history is stuck; number {number} in the order \
-             that was found"
-        )
-        .map_err(|_| PageError::Write),
+    write!(writer, "{value}").map_err(|_| PageError::Write)
+}
+
+/// Writes that a register holds a value behind an operation.
+fn write_held_value<W: Write>(value: i64, writer: &mut W) -> Result<(), PageError>
+    ensures bytes { OnOk result
+        (Appends (W.contents writer.old) (W.contents writer.new) (held_text (Some value))) }
+    ensures error { IfErr result (λ e. e ≡ PageError.Write) }
+{
+    put(b"; the register then holds ", writer)?;
+    write_value(value, writer)
+}
+
+/// Writes what a register holds behind an operation, where that is known.
+fn write_held<W: Write>(holds: Option<i64>, writer: &mut W) -> Result<(), PageError>
+    ensures bytes { OnOk result
+        (Appends (W.contents writer.old) (W.contents writer.new) (held_text holds)) }
+    ensures error { IfErr result (λ e. e ≡ PageError.Write) }
+{
+    match holds {
+        Some(value) => write_held_value(value, writer),
+        None => Ok(()),
+    }
+}
+
+/// Writes a number in an order.
+fn write_order_number<W: Write>(number: usize, writer: &mut W) -> Result<(), PageError>
+    ensures bytes { OnOk result
+        (Appends (W.contents writer.old) (W.contents writer.new) (order_number_text number)) }
+    ensures error { IfErr result (λ e. e ≡ PageError.Write) }
+{
+    write!(writer, "number {number} in the order that was found").map_err(|_| PageError::Write)
+}
+
+/// Writes what a place in an order means.
+fn write_place_meaning<W: Write>(place: Place, writer: &mut W) -> Result<(), PageError>
+    ensures bytes { OnOk result
+        (Appends (W.contents writer.old) (W.contents writer.new) (place_meaning place)) }
+    ensures error { IfErr result (λ e. e ≡ PageError.Write) }
+{
+    write_order_number(place.number, writer)?;
+    write_held(place.holds, writer)
+}
+
+/// Writes what it means that an operation is pending.
+fn write_pending<W: Write>(place: Option<Place>, writer: &mut W) -> Result<(), PageError>
+    ensures bytes { OnOk result
+        (Appends (W.contents writer.old) (W.contents writer.new) (pending_meaning place)) }
+    ensures error { IfErr result (λ e. e ≡ PageError.Write) }
+{
+    match place {
+        Some(place) => {
+            put(
+                b"pending: it was not over where the history is stuck; ",
+                writer,
+            )?;
+            write_place_meaning(place, writer)
+        }
         None => put(
             b"pending: it was not over where the history is stuck",
             writer,
@@ -138,11 +195,8 @@ fn write_meaning<W: Write>(note: Note, writer: &mut W) -> Result<(), PageError>
     ensures error { IfErr result (λ e. e ≡ PageError.Write) }
 {
     match note {
-        Note::Placed(number) => write!(
-            writer,
-            "number {number} in the order that was found"
-        ).map_err(|_| PageError::Write),
-        Note::Pending(number) => write_pending(number, writer),
+        Note::Placed(place) => write_place_meaning(place, writer),
+        Note::Pending(place) => write_pending(place, writer),
         Note::Outside { lower, upper } => {
             write!(writer, "outside its bounds: {lower} to {upper}").map_err(|_| PageError::Write)
         }
@@ -180,17 +234,19 @@ fn write_named<W: Write>(number: usize, mark: &Mark, writer: &mut W) -> Result<(
     }
 }
 
-/// Writes a mark at a bar, with what it means.
+/// Writes a mark at a bar, with what it means and where it stands.
 fn write_mark<W: Write>(
     number: usize,
     frame: Frame,
+    section: &Section,
     mark: &Mark,
     bar: &Bar,
     writer: &mut W,
 ) -> Result<(), PageError>
+    requires { All (λ op. IsWritable op.process) section.now.history.items }
     ensures { OnOk result
         (Appends (W.contents writer.old) (W.contents writer.new)
-        (mark_text number frame mark.now (Some bar.now))) }
+        (mark_text number frame section.now mark.now (Some bar.now))) }
 {
     put(b"<svg class=\"", writer)?;
     put(class_of(mark.note).as_bytes(), writer)?;
@@ -198,6 +254,7 @@ fn write_mark<W: Write>(
     write_bar_place(frame, bar, writer)?;
     put(b"<title>", writer)?;
     write_meaning(mark.note, writer)?;
+    write_whereabouts(section, section.number_of_bar(mark.call), &bar.call, writer)?;
     put(b"</title><text x=\"228\" y=\"12\">", writer)?;
     write_note(mark.note, writer)?;
     put(b"</text></svg>\n", writer)
@@ -211,12 +268,13 @@ fn draw_mark<W: Write>(
     mark: &Mark,
     writer: &mut W,
 ) -> Result<(), PageError>
+    requires { All (λ op. IsWritable op.process) section.now.history.items }
     ensures { OnOk result
         (Appends (W.contents writer.old) (W.contents writer.new)
         (drawn_mark number frame section.now mark.now)) }
 {
     match section.bar(mark.call) {
-        Some(bar) => write_mark(number, frame, mark, &bar, writer),
+        Some(bar) => write_mark(number, frame, section, mark, &bar, writer),
         None => Ok(()),
     }
 }
@@ -228,6 +286,7 @@ pub(crate) fn draw_marks<W: Write>(
     section: &Section,
     writer: &mut W,
 ) -> Result<(), PageError>
+    requires { All (λ op. IsWritable op.process) section.now.history.items }
     ensures { OnOk result (Appends (W.contents writer.old) (W.contents writer.new)
         (flat_map (drawn_mark number frame section.now) section.now.marks.items)) }
 {

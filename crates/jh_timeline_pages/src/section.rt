@@ -22,18 +22,31 @@ pub struct Section {
     pub bands: Vec<Band>,
     /// The records of the nemesis in the window, in order.
     pub lines: Vec<Line>,
+    /// The number of each bar's operation among those of the history, from 0, by which orders name it;
+    /// none of a completion that stands alone.
+    pub numbers: Vec<Option<usize>>,
     /// The notes at its bars.
     pub marks: Vec<Mark>,
 }
 
 impl Section {
-    ghost use Rattle.jh_timeline_pages.specs.Drawings.{section_record};
+    ghost use Rattle.jh_timeline_pages.specs.Drawings.{number_of_bar, section_record};
 
     /// The bar of this number, if there is one.
     pub(crate) fn bar(&self, number: usize) -> Option<Bar>
         ensures { result ≡ slice_get self.now.picture.bars.items number }
     {
         self.picture.bars.get(number).copied()
+    }
+
+    /// The number of the operation of this bar among those of the history, if it has one.
+    pub(crate) fn number_of_bar(&self, bar: usize) -> Option<usize>
+        ensures { result ≡ number_of_bar self.now bar }
+    {
+        match self.numbers.get(bar) {
+            Some(number) => *number,
+            None => None,
+        }
     }
 
     /// The record at an index, if there is one.

@@ -12,7 +12,7 @@ use Rattle.jh_timeline.specs.Lanes.{AreBarsOf, AreKeptApart, AreLanesOf, calls_o
 use Rattle.jh_timeline.specs.declared.marks.Mark.{Mark}
 use Rattle.jh_timeline.specs.declared.picture.Call.{Call}
 use Rattle.jh_timeline.specs.declared.picture.Window.{Window}
-use Rattle.jh_timeline_marks.specs.Marked.{marks_of}
+use Rattle.jh_timeline_marks.specs.Marked.{marks_of, operation_number}
 use Rattle.jh_timeline_pages.specs.declared.section.Section.{Section}
 use Rattle.jh_timeline_sections.specs.Windows.{focus_of, window_of}
 use Rattle.jh_timeline_sections.specs.declared.window.Choice.{Choice}
@@ -61,7 +61,8 @@ lines_shown window steps history = filter (is_line_in window) (lines_in steps hi
 -- ---- sections
 
 -- The section has this heading and this history, the window, what of the history is drawn in it,
--- no two bars over each other, and a mark for what was found. Steps are those of the schedule of what
+-- no two bars over each other, the numbers by which orders name what the bars show, and a mark for
+-- what was found. Steps are those of the schedule of what
 -- recorded the history.
 pub record IsSectionOf (heading : List ℕ) (history : List Operation) (steps : List Edn)
     (found : Option Finding) (choice : Choice) (section : Section)
@@ -76,5 +77,7 @@ pub record IsSectionOf (heading : List ℕ) (history : List Operation) (steps : 
   pub lanes : AreLanesOf section.picture.bars.items section.picture.lanes.items
   pub bands : map view_band section.bands.items ≡ bands_shown section.window steps history
   pub lines : map view_line section.lines.items ≡ lines_shown section.window steps history
+  pub numbers : section.numbers.items
+      ≡ map (operation_number history) (map (λ bar. bar.call) section.picture.bars.items)
   pub marks : section.marks.items
       ≡ marks_in history found (map (λ bar. bar.call) section.picture.bars.items)

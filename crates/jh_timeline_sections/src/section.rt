@@ -14,7 +14,7 @@ use jh_checkers::Finding;
 use jh_edn::Value;
 use jh_ops::Op;
 use jh_timeline::{Bar, Call, Mark, Window, calls_of, picture_in};
-use jh_timeline_marks::marks_of;
+use jh_timeline_marks::{marks_of, operation_numbers};
 use jh_timeline_pages::Section;
 use std::alloc::{AllocError, Global};
 
@@ -83,6 +83,7 @@ pub fn section_of(
     let bands = bands_shown(alloc, window, steps, &history)?;
     let lines = lines_shown(alloc, window, steps, &history)?;
     let drawn = calls_of_bars(alloc, &picture.bars)?;
+    let numbers = operation_numbers(alloc, &history, &drawn)?;
     let marks = marks_in(alloc, &history, found, &drawn)?;
     Ok(Section {
         heading,
@@ -91,6 +92,7 @@ pub fn section_of(
         picture,
         bands,
         lines,
+        numbers,
         marks,
     })
 }

@@ -6,15 +6,18 @@ use crate::marks::rows::ask_all;
 use jh_checkers::{Checker, Judging};
 use std::test::Fail;
 
-/// Places count from 0 in the order, whatever the order of invocations. The nemesis has no number.
+/// Places count from 0 in the order, whatever the order of invocations, each with what the register then
+/// holds. A read that answers nil tells nothing of that. The nemesis has no number.
 #[test]
 fn marks_places(rt: HostRuntime) -> Result<(), Fail> {
     let rows = "
-        0 :invoke :write 5; 0 :ok :write 5 => 0 placed 0
-        0 :invoke :write 5; 1 :invoke :read; 0 :ok :write 5; 1 :ok :read 0 => 0 placed 1; 1 placed 0
+        0 :invoke :write 5; 0 :ok :write 5 => 0 placed 0 5
+        0 :invoke :write 5; 1 :invoke :read; 0 :ok :write 5; 1 :ok :read 0 => 0 placed 1 5; 1 placed 0 0
+        0 :invoke :read; 0 :ok :read; 1 :invoke :write -4; 1 :ok :write -4; 0 :invoke :read; 0 :ok :read \
+        => 0 placed 0; 1 placed 1 -4; 2 placed 2 -4
         :nemesis :info :start 4; 0 :invoke :read; 0 :ok :read 0; :nemesis :info :stop; 1 :invoke :cas [0 3]; 1 :ok :cas [0 3] \
-        => 0 placed 0; 1 placed 1
-        0 :invoke :write 5; 0 :fail :write 5; 1 :invoke :read; 1 :ok :read 0 => 1 placed 0";
+        => 0 placed 0 0; 1 placed 1 3
+        0 :invoke :write 5; 0 :fail :write 5; 1 :invoke :read; 1 :ok :read 0 => 1 placed 0 0";
     ask_all(rt.alloc(), explained(Checker::Register), rows)
 }
 
@@ -25,8 +28,8 @@ fn marks_where_it_is_stuck(rt: HostRuntime) -> Result<(), Fail> {
     let rows = "
         0 :invoke :write 5; 1 :invoke :read; 1 :ok :read 5; 0 :fail :write 5 => 1 stuck
         0 :invoke :write 1; 0 :ok :write 1; 0 :invoke :write 2; 0 :ok :write 2; 1 :invoke :read; 1 :ok :read 1 \
-        => 0 placed 0; 1 placed 1; 2 stuck
-        0 :invoke :write 5; 1 :invoke :read; 1 :ok :read 5; 1 :invoke :read; 1 :ok :read 7 => 0 pending 0; 1 placed 1; 2 stuck
+        => 0 placed 0 1; 1 placed 1 2; 2 stuck
+        0 :invoke :write 5; 1 :invoke :read; 1 :ok :read 5; 1 :invoke :read; 1 :ok :read 7 => 0 pending 0 5; 1 placed 1 5; 2 stuck
         0 :invoke :cas [7 8]; 1 :invoke :cas [8 9]; 1 :fail :cas [8 9]; 2 :invoke :read; 2 :ok :read 1; 3 :invoke :read; \
         3 :ok :read 0; 0 :fail :cas [7 8] => 2 stuck";
     ask_all(rt.alloc(), explained(Checker::Register), rows)
@@ -41,7 +44,7 @@ fn marks_what_is_known(rt: HostRuntime) -> Result<(), Fail> {
         ..explained(Checker::Register)
     };
     let rows = "
-        0 :invoke :write 5; 1 :invoke :read; 1 :ok :read 5; 1 :invoke :read; 1 :ok :read 7 => 0 placed 0; 1 placed 1; 2 stuck
+        0 :invoke :write 5; 1 :invoke :read; 1 :ok :read 5; 1 :invoke :read; 1 :ok :read 7 => 0 placed 0 5; 1 placed 1 5; 2 stuck
         0 :invoke :write 5; 1 :invoke :read; 1 :ok :read 5; 0 :fail :write 5 => 1 stuck";
     ask_all(rt.alloc(), judging, rows)?;
     let judging = Judging {

@@ -67,8 +67,8 @@ in two lines</pre>
 {:valid? true}
 # a heading
 0 2; 0 placed 0
-{:type :invoke, :process 0, :f :write, :value 5}
-{:type :ok, :process 0, :f :write, :value 5}
+{:index 40, :type :invoke, :process 0, :f :write, :value 5}
+{:index 41, :type :ok, :process 0, :f :write, :value 5}
 =>
 <h1>{:valid? true}</h1>
 <section>
@@ -79,10 +79,11 @@ in two lines</pre>
 </ol>
 <div class="picture">
 <svg xmlns="http://www.w3.org/2000/svg" width="240" height="32" viewBox="240 0 240 32">
-<svg class="ok" x="240" y="0" width="232" height="32"><rect width="100%" height="100%"/><title>{:type :invoke, :process 0, :f :write, :value 5}
-{:type :ok, :process 0, :f :write, :value 5}</title><text x="4" y="12">&#10003; write 5</text></svg>
+<svg class="ok" x="240" y="0" width="232" height="32"><rect width="100%" height="100%"/><title>{:index 40, :type :invoke, :process 0, :f :write, :value 5}
+{:index 41, :type :ok, :process 0, :f :write, :value 5}</title><text x="4" y="12">&#10003; write 5</text></svg>
 <g class="marks">
-<svg class="placed" x="240" y="0" width="232" height="32"><rect width="100%" height="100%"/><title>number 0 in the order that was found</title><text x="228" y="12">0</text></svg>
+<svg class="placed" x="240" y="0" width="232" height="32"><rect width="100%" height="100%"/><title>number 0 in the order that was found
+operation 0, at index 40 to 41</title><text x="228" y="12">0</text></svg>
 </g>
 </svg>
 </div>
@@ -135,7 +136,8 @@ in two lines</pre>
 <svg class="fail" x="240" y="0" width="232" height="32"><rect width="100%" height="100%"/><title>{:type :invoke, :process 1, :f :read, :value nil}
 {:type :fail, :process 1, :f :read, :value nil}</title><text x="4" y="12">&#10007; read</text></svg>
 <g class="marks">
-<svg class="stuck" id="found-1-0" x="240" y="0" width="232" height="32"><rect width="100%" height="100%"/><title>stuck: no order has room for this operation</title><text x="228" y="12">stuck</text></svg>
+<svg class="stuck" id="found-1-0" x="240" y="0" width="232" height="32"><rect width="100%" height="100%"/><title>stuck: no order has room for this operation
+operation 0, at index 0 to 1</title><text x="228" y="12">stuck</text></svg>
 </g>
 </svg>
 </div>
@@ -210,7 +212,8 @@ fn draws_operations(rt: HostRuntime) -> Result<(), Fail> {
 <svg class="ok" x="240" y="0" width="232" height="32"><rect width="100%" height="100%"/><title>{:type :invoke, :process 0, :f :write, :value 5}
 {:type :ok, :process 0, :f :write, :value 5}</title><text x="4" y="12">&#10003; write 5</text></svg>
 <g class="marks">
-<svg class="placed" x="240" y="0" width="232" height="32"><rect width="100%" height="100%"/><title>number 0 in the order that was found</title><text x="228" y="12">0</text></svg>
+<svg class="placed" x="240" y="0" width="232" height="32"><rect width="100%" height="100%"/><title>number 0 in the order that was found
+operation 0, at index 0 to 1</title><text x="228" y="12">0</text></svg>
 </g>
 </svg>
 </div>
@@ -441,9 +444,12 @@ fn cuts_at_a_window(rt: HostRuntime) -> Result<(), Fail> {
 {:type :ok, :process 4, :f :read, :value 3}</title><text x="4" y="12">&#10003; read 3</text></svg>
 <svg class="open" x="240" y="64" width="232" height="16"><rect width="100%" height="100%"/><title>{:type :invoke, :process 1, :f :add, :value 8}</title><text x="4" y="12">&#8230; add 8</text></svg>
 <g class="marks">
-<svg class="stuck" id="found-0-0" x="240" y="0" width="232" height="48"><rect width="100%" height="100%"/><title>stuck: no order has room for this operation</title><text x="228" y="12">stuck</text></svg>
-<svg class="pending" x="480" y="16" width="232" height="48"><rect width="100%" height="100%"/><title>pending: it was not over where the history is stuck</title><text x="228" y="12">pending</text></svg>
-<svg class="lost" id="found-0-2" x="240" y="64" width="232" height="16"><rect width="100%" height="100%"/><title>lost: it was added, and the last read does not show it</title><text x="228" y="12">lost</text></svg>
+<svg class="stuck" id="found-0-0" x="240" y="0" width="232" height="48"><rect width="100%" height="100%"/><title>stuck: no order has room for this operation
+operation 1, at index 1 to 4</title><text x="228" y="12">stuck</text></svg>
+<svg class="pending" x="480" y="16" width="232" height="48"><rect width="100%" height="100%"/><title>pending: it was not over where the history is stuck
+operation 2, at index 3 to 5</title><text x="228" y="12">pending</text></svg>
+<svg class="lost" id="found-0-2" x="240" y="64" width="232" height="16"><rect width="100%" height="100%"/><title>lost: it was added, and the last read does not show it
+operation 3, at index 6</title><text x="228" y="12">lost</text></svg>
 </g>
 </svg>
 </div>
@@ -563,7 +569,7 @@ took 1.501 ms</title><text x="4" y="12">&#10003; read 3</text></svg>
 fn marks_bars(rt: HostRuntime) -> Result<(), Fail> {
     let rows = r##"{:valid? false}
 #
-0 4; 0 placed 12; 1 stuck; 0 pending; 1 lost; 0 recovered; 1 unexpected; 0 repeated; 1 outside -3 170141183460469231731687303715884105727; 0 pending 0; 1 pending 18446744073709551615; 0 rw 3; 1 fcw 0; 0 wr 1; 1 ww 2; 0 rt 4; 1 bad-read; 2 stuck
+0 4; 0 placed 12 -5; 1 stuck; 0 pending; 1 lost; 0 recovered; 1 unexpected; 0 repeated; 1 outside -3 170141183460469231731687303715884105727; 0 pending 0; 1 pending 18446744073709551615 9223372036854775807; 0 rw 3; 1 fcw 0; 0 wr 1; 1 ww 2; 0 rt 4; 1 bad-read; 2 stuck
 {:type :invoke, :process 0, :f :read, :value nil}
 {:type :invoke, :process 1, :f :read, :value nil}
 {:type :ok, :process 0, :f :read, :value 3}
@@ -584,22 +590,38 @@ fn marks_bars(rt: HostRuntime) -> Result<(), Fail> {
 <svg class="ok" x="480" y="16" width="232" height="48"><rect width="100%" height="100%"/><title>{:type :invoke, :process 1, :f :read, :value nil}
 {:type :ok, :process 1, :f :read, :value 4}</title><text x="4" y="12">&#10003; read 4</text></svg>
 <g class="marks">
-<svg class="placed" x="240" y="0" width="232" height="48"><rect width="100%" height="100%"/><title>number 12 in the order that was found</title><text x="228" y="12">12</text></svg>
-<svg class="stuck" id="found-0-1" x="480" y="16" width="232" height="48"><rect width="100%" height="100%"/><title>stuck: no order has room for this operation</title><text x="228" y="12">stuck</text></svg>
-<svg class="pending" x="240" y="0" width="232" height="48"><rect width="100%" height="100%"/><title>pending: it was not over where the history is stuck</title><text x="228" y="12">pending</text></svg>
-<svg class="lost" id="found-0-1" x="480" y="16" width="232" height="48"><rect width="100%" height="100%"/><title>lost: it was added, and the last read does not show it</title><text x="228" y="12">lost</text></svg>
-<svg class="recovered" id="found-0-0" x="240" y="0" width="232" height="48"><rect width="100%" height="100%"/><title>recovered: the last read shows it, and it was not known to be added</title><text x="228" y="12">recovered</text></svg>
-<svg class="unexpected" id="found-0-1" x="480" y="16" width="232" height="48"><rect width="100%" height="100%"/><title>unexpected: this read shows what nobody tried to add</title><text x="228" y="12">unexpected</text></svg>
-<svg class="repeated" id="found-0-0" x="240" y="0" width="232" height="48"><rect width="100%" height="100%"/><title>repeated: this id was given more than once</title><text x="228" y="12">repeated</text></svg>
-<svg class="outside" id="found-0-1" x="480" y="16" width="232" height="48"><rect width="100%" height="100%"/><title>outside its bounds: -3 to 170141183460469231731687303715884105727</title><text x="228" y="12">[-3 170141183460469231731687303715884105727]</text></svg>
-<svg class="pending" x="240" y="0" width="232" height="48"><rect width="100%" height="100%"/><title>pending: it was not over where the history is stuck; number 0 in the order that was found</title><text x="228" y="12">pending 0</text></svg>
-<svg class="pending" x="480" y="16" width="232" height="48"><rect width="100%" height="100%"/><title>pending: it was not over where the history is stuck; number 18446744073709551615 in the order that was found</title><text x="228" y="12">pending 18446744073709551615</text></svg>
-<svg class="step" id="found-0-0" x="240" y="0" width="232" height="48"><rect width="100%" height="100%"/><title>transaction 3, with its step to the next one of the cycle</title><text x="228" y="12">3 :rw</text></svg>
-<svg class="step" id="found-0-1" x="480" y="16" width="232" height="48"><rect width="100%" height="100%"/><title>transaction 0, with its step to the next one of the cycle</title><text x="228" y="12">0 :fcw</text></svg>
-<svg class="step" id="found-0-0" x="240" y="0" width="232" height="48"><rect width="100%" height="100%"/><title>transaction 1, with its step to the next one of the cycle</title><text x="228" y="12">1 :wr</text></svg>
-<svg class="step" id="found-0-1" x="480" y="16" width="232" height="48"><rect width="100%" height="100%"/><title>transaction 2, with its step to the next one of the cycle</title><text x="228" y="12">2 :ww</text></svg>
-<svg class="step" id="found-0-0" x="240" y="0" width="232" height="48"><rect width="100%" height="100%"/><title>transaction 4, with its step to the next one of the cycle</title><text x="228" y="12">4 :rt</text></svg>
-<svg class="bad-read" id="found-0-1" x="480" y="16" width="232" height="48"><rect width="100%" height="100%"/><title>bad read: no order explains it</title><text x="228" y="12">bad read</text></svg>
+<svg class="placed" x="240" y="0" width="232" height="48"><rect width="100%" height="100%"/><title>number 12 in the order that was found; the register then holds -5
+operation 0, at index 0 to 2</title><text x="228" y="12">12</text></svg>
+<svg class="stuck" id="found-0-1" x="480" y="16" width="232" height="48"><rect width="100%" height="100%"/><title>stuck: no order has room for this operation
+operation 1, at index 1 to 3</title><text x="228" y="12">stuck</text></svg>
+<svg class="pending" x="240" y="0" width="232" height="48"><rect width="100%" height="100%"/><title>pending: it was not over where the history is stuck
+operation 0, at index 0 to 2</title><text x="228" y="12">pending</text></svg>
+<svg class="lost" id="found-0-1" x="480" y="16" width="232" height="48"><rect width="100%" height="100%"/><title>lost: it was added, and the last read does not show it
+operation 1, at index 1 to 3</title><text x="228" y="12">lost</text></svg>
+<svg class="recovered" id="found-0-0" x="240" y="0" width="232" height="48"><rect width="100%" height="100%"/><title>recovered: the last read shows it, and it was not known to be added
+operation 0, at index 0 to 2</title><text x="228" y="12">recovered</text></svg>
+<svg class="unexpected" id="found-0-1" x="480" y="16" width="232" height="48"><rect width="100%" height="100%"/><title>unexpected: this read shows what nobody tried to add
+operation 1, at index 1 to 3</title><text x="228" y="12">unexpected</text></svg>
+<svg class="repeated" id="found-0-0" x="240" y="0" width="232" height="48"><rect width="100%" height="100%"/><title>repeated: this id was given more than once
+operation 0, at index 0 to 2</title><text x="228" y="12">repeated</text></svg>
+<svg class="outside" id="found-0-1" x="480" y="16" width="232" height="48"><rect width="100%" height="100%"/><title>outside its bounds: -3 to 170141183460469231731687303715884105727
+operation 1, at index 1 to 3</title><text x="228" y="12">[-3 170141183460469231731687303715884105727]</text></svg>
+<svg class="pending" x="240" y="0" width="232" height="48"><rect width="100%" height="100%"/><title>pending: it was not over where the history is stuck; number 0 in the order that was found
+operation 0, at index 0 to 2</title><text x="228" y="12">pending 0</text></svg>
+<svg class="pending" x="480" y="16" width="232" height="48"><rect width="100%" height="100%"/><title>pending: it was not over where the history is stuck; number 18446744073709551615 in the order that was found; the register then holds 9223372036854775807
+operation 1, at index 1 to 3</title><text x="228" y="12">pending 18446744073709551615</text></svg>
+<svg class="step" id="found-0-0" x="240" y="0" width="232" height="48"><rect width="100%" height="100%"/><title>transaction 3, with its step to the next one of the cycle
+operation 0, at index 0 to 2</title><text x="228" y="12">3 :rw</text></svg>
+<svg class="step" id="found-0-1" x="480" y="16" width="232" height="48"><rect width="100%" height="100%"/><title>transaction 0, with its step to the next one of the cycle
+operation 1, at index 1 to 3</title><text x="228" y="12">0 :fcw</text></svg>
+<svg class="step" id="found-0-0" x="240" y="0" width="232" height="48"><rect width="100%" height="100%"/><title>transaction 1, with its step to the next one of the cycle
+operation 0, at index 0 to 2</title><text x="228" y="12">1 :wr</text></svg>
+<svg class="step" id="found-0-1" x="480" y="16" width="232" height="48"><rect width="100%" height="100%"/><title>transaction 2, with its step to the next one of the cycle
+operation 1, at index 1 to 3</title><text x="228" y="12">2 :ww</text></svg>
+<svg class="step" id="found-0-0" x="240" y="0" width="232" height="48"><rect width="100%" height="100%"/><title>transaction 4, with its step to the next one of the cycle
+operation 0, at index 0 to 2</title><text x="228" y="12">4 :rt</text></svg>
+<svg class="bad-read" id="found-0-1" x="480" y="16" width="232" height="48"><rect width="100%" height="100%"/><title>bad read: no order explains it
+operation 1, at index 1 to 3</title><text x="228" y="12">bad read</text></svg>
 </g>
 </svg>
 </div>
@@ -640,7 +662,8 @@ fn escapes_what_histories_say(rt: HostRuntime) -> Result<(), Fail> {
 <svg class=\"ok\" x=\"240\" y=\"0\" width=\"232\" height=\"48\"><rect width=\"100%\" height=\"100%\"/><title>{:type :invoke, :process 0, :f :write, :value &quot;&lt;a href=&#39;b&#39;&gt;&amp;amp;\\&quot;\\\\&quot;}
 {:type :ok, :process 0, :f :write, :value (&quot;]]&gt;&quot; :a&amp;b)}</title><text x=\"4\" y=\"12\">&#10003; write (&quot;]]&gt;&quot; :a&amp;b)</text></svg>
 <g class=\"marks\">
-<svg class=\"placed\" x=\"240\" y=\"0\" width=\"232\" height=\"48\"><rect width=\"100%\" height=\"100%\"/><title>number 1 in the order that was found</title><text x=\"228\" y=\"12\">1</text></svg>
+<svg class=\"placed\" x=\"240\" y=\"0\" width=\"232\" height=\"48\"><rect width=\"100%\" height=\"100%\"/><title>number 1 in the order that was found
+operation 0, at index 0 to 2</title><text x=\"228\" y=\"12\">1</text></svg>
 </g>
 </svg>
 </div>

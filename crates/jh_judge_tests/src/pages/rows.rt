@@ -14,7 +14,8 @@ use crate::spelled::mark_of;
 use jh_bands::{Band, Line, bands_of, lines_of};
 use jh_edn::read_all;
 use jh_ops::{Op, history_of};
-use jh_timeline::{Mark, Window, picture_in};
+use jh_timeline::{Bar, Call, Mark, Window, picture_in};
+use jh_timeline_marks::operation_numbers;
 use jh_timeline_pages::{PageError, Section, Top, write_page};
 use std::alloc::Global;
 use std::io::Write;
@@ -83,6 +84,16 @@ fn bands_in(alloc: Global, window: Window, history: &[Op]) -> Result<Vec<Band>, 
     Ok(bands)
 }
 
+/// The numbers of the operations of bars.
+fn numbers_in(
+    alloc: Global,
+    history: &[Op],
+    bars: &[Bar],
+) -> Result<Vec<Option<usize>>, PageError> {
+    let calls: Vec<Call> = bars.iter().map(|bar| bar.call).collect(alloc)?;
+    Ok(operation_numbers(alloc, history, &calls)?)
+}
+
 /// The history that records mean.
 fn history_in(alloc: Global, text: &str) -> Result<Vec<Op>, PageError>
     ensures { IfOk result (λ ops. All (λ op. IsWritable op.process) ops.items) }
@@ -100,13 +111,15 @@ fn section_of(alloc: Global, text: &str) -> Result<Section, PageError>
     let asked = lines.next().unwrap_or("");
     let history = history_in(alloc, lines.next().unwrap_or(""))?;
     let window = window_of(asked);
+    let picture = picture_in(alloc, window, &history, &[])?;
     Ok(Section {
         heading: Vec::from_slice(alloc, heading.as_bytes())?,
         window,
-        picture: picture_in(alloc, window, &history, &[])?,
         bands: bands_in(alloc, window, &history)?,
         lines: lines_in(alloc, window, &history)?,
+        numbers: numbers_in(alloc, &history, &picture.bars)?,
         marks: marks_of(alloc, asked)?,
+        picture,
         history,
     })
 }

@@ -1,10 +1,12 @@
-use Rattle.std.proofs.Common.{◌≡◌, ◌∙◌, ap, length, map, refl, subst, sym}
+use Rattle.std.proofs.Common.{◌≡◌, ◌∙◌, List, ap, length, map, refl, subst, sym}
 use Rattle.std.specs.Option.{option_copied}
 use Rattle.std.proofs.lemmas.List.{length-map}
 use Rattle.jh_edn.specs.View.{views}
 use Rattle.jh_ops.specs.Operation.{operation, operations}
 use Rattle.jh_timeline.specs.Lanes.{AreBarsOf, calls_of, count_left_out}
 use Rattle.jh_timeline.specs.declared.picture.Bar.{Bar}
+use Rattle.jh_timeline.specs.declared.picture.Call.{Call}
+use Rattle.jh_timeline_marks.specs.Marked.{operation_number}
 use Rattle.jh_timeline_sections.specs.Sections as rule
 use Rattle.jh_timeline_sections.specs.Windows.{focus_of, window_of}
 use Rattle.jh_timeline_sections.proofs.section.section_of.Goals as goal
@@ -22,7 +24,8 @@ returns-clause-section c =
     c.in_ok-all_marks.ensures ∙ ap (λ h. rule.marks_in (operations h) found c.deref-3.result.now) c.deref-2.ensures.value ∙ ap (rule.marks_in ops found) (c.deref-3.ensures.value ∙ calls) in
     let shown : c.deref-7.result.now ≡ rule.all_marks ops found = c.deref-7.ensures.value ∙ all in
     let total : c.len.result ≡ length ops = c.len.ensures ∙ c.args.history.ok.0 ∙ sym (length-map c.args.history.items operation) in
-    let drawn : c.deref-12.result.now ≡ map (λ (bar : Bar). bar.call) bars = c.deref-12.ensures.value ∙ c.in_ok-drawn.ensures ∙ ap (map (λ (bar : Bar). bar.call)) c.deref-10.ensures.value in
+    let drawn_as : (calls : List Call) → calls ≡ c.in_ok-drawn.drawn.items → calls ≡ map (λ (bar : Bar). bar.call) bars =
+    λ calls same. same ∙ c.in_ok-drawn.ensures ∙ ap (map (λ (bar : Bar). bar.call)) c.deref-10.ensures.value in
     record {
       titled = refl;
       records = refl;
@@ -38,5 +41,10 @@ returns-clause-section c =
       lanes = c.in_ok-picture.ensures.lanes;
       bands = c.in_ok-bands.ensures ∙ ap (λ h. rule.bands_shown window steps (operations h)) c.deref-8.ensures.value;
       lines = c.in_ok-lines.ensures ∙ ap (λ h. rule.lines_shown window steps (operations h)) c.deref-9.ensures.value;
-      marks = c.in_ok-marks.ensures ∙ ap (λ h. rule.marks_in (operations h) found c.deref-12.result.now) c.deref-11.ensures.value ∙ ap (rule.marks_in ops found) drawn;
+      numbers =
+          c.in_ok-numbers.ensures ∙ ap (λ h. map (operation_number (operations h)) c.deref-12.result.now) c.deref-11.ensures.value
+          ∙ ap (map (operation_number ops)) (drawn_as c.deref-12.result.now c.deref-12.ensures.value);
+      marks =
+          c.in_ok-marks.ensures ∙ ap (λ h. rule.marks_in (operations h) found c.deref-14.result.now) c.deref-13.ensures.value
+          ∙ ap (rule.marks_in ops found) (drawn_as c.deref-14.result.now c.deref-14.ensures.value);
     }

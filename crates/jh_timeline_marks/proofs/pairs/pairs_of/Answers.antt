@@ -1,7 +1,7 @@
 use Rattle.std.proofs.Common.{◌∙◌, ◌-◌, arith, nat_cmp}
 use Rattle.std.specs.BTreeMap.{get}
 use Rattle.jh_timeline_marks.proofs.CallLemmas.{paired_client, paired_other}
-use Rattle.jh_timeline_marks.proofs.counter.pairs_of.Goals as goal
+use Rattle.jh_timeline_marks.proofs.pairs.pairs_of.Goals as goal
 
 pub loop-place-preserved-in_ok-insert : goal.loop-place-preserved-in_ok-insert
 loop-place-preserved-in_ok-insert c =
