@@ -1,4 +1,5 @@
 pub mod Shown
+pub mod Outcomes
 pub mod Gather
 pub mod RecordsInside
 pub mod GatherInside

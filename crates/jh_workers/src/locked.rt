@@ -1,4 +1,5 @@
-//! A world behind a lock, whose journal is counted by the shares of those that call it.
+//! A world behind a lock. Each thread that calls it counts its accepted calls in a share, and all
+//! shares together count the journal.
 
 ghost use Rattle.std.specs.Prelude.{◌≡◌, ◌+◌, ◌<◌, [], length, sum_by, IfOk, IfSome, OnOk, OnErr};
 ghost use Rattle.std.specs.Prelude.{◌≤◌, MatchResult, IsSome, ⊤};
@@ -18,7 +19,7 @@ use std::sync::ledger::{Blank, Book, Ledger, Share};
 use std::sync::{Mutex, Wait};
 
 /// The parts of a world's ledger, one for each share.
-const PARTS: u64 = 32;
+pub(crate) const PARTS: u64 = 32;
 
 /// How many calls of a locked world were accepted from one thread. All shares together count the
 /// journal.
@@ -45,7 +46,7 @@ fn count_one<L: Ledger>(book: &mut Book<L>, mine: &mut WorldShare<L>)
     ensures counted { mine.new.count ≡ mine.old.count + 1 }
 {
     let WorldShare { count, part } = mine;
-    // The book bounds the share, so there is room for one more.
+    // A share is at most the book's total, so there is room for one more.
     book.audit(part);
     book.add(part, 1);
     *count += 1;
@@ -104,7 +105,7 @@ impl<L: Ledger> Counted<L> {
             left: _,
         } = self;
         let given = world.call(process, node, request, draw)?;
-        // The journal bounds the book.
+        // The book's total is the length of the journal, which is bounded.
         let _events = world.journal();
         count_one(book, mine);
         Ok(given)
@@ -132,7 +133,7 @@ impl<L: Ledger> Counted<L> {
             left: _,
         } = self;
         let given = world.step(step)?;
-        // The journal bounds the book.
+        // The book's total is the length of the journal, which is bounded.
         let _events = world.journal();
         count_one(book, mine);
         Ok(given)
@@ -153,7 +154,7 @@ impl<L: Ledger> Counted<L> {
             left: _,
         } = self;
         let given = world.tick()?;
-        // The journal bounds the book.
+        // The book's total is the length of the journal, which is bounded.
         let _events = world.journal();
         count_one(book, mine);
         Ok(given)
@@ -180,7 +181,7 @@ impl<L: Ledger> Counted<L> {
         if back != PARTS {
             return None;
         }
-        // Who has all parts of the ledger has its total.
+        // The share that has all parts of the ledger has the book's total.
         book.audit(&mut all);
         Some(world)
     }
@@ -227,8 +228,8 @@ pub struct LockedWorld<L: Ledger> {
 }
 
 impl<L: Ledger> LockedWorld<L> {
-    /// The world behind a lock. Nothing has happened in it, and the blank has 32 parts, so there
-    /// are as many shares.
+    /// Puts a world in which nothing has happened behind a lock. The blank has 32 parts, so there are
+    /// 32 shares.
     pub fn new(world: World, blank: Blank) -> Self
         requires empty { world.journal ≡ [] }
         requires name { blank.name ≡ L.name }
@@ -246,8 +247,8 @@ impl<L: Ledger> LockedWorld<L> {
         }
     }
 
-    /// The world again, once all shares that were handed out are back: their counts sum to the
-    /// length of its journal. `None` where one is missing, so never where there are 32.
+    /// Gives the world back for all shares that were handed out: their counts sum to the length of
+    /// its journal. `None` where one of them is missing, which none of 32 is.
     pub fn settle(self, shares: Vec<WorldShare<L>>) -> Option<World>
         requires { L.parts ≡ 32 }
         ensures counted { IfSome result

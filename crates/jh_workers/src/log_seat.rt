@@ -84,7 +84,7 @@ impl<B: OfLog> LogSeat<B> {
         Ok(claim)
     }
 
-    /// Publishes an operation in claimed rows, or voids them where they can't have it.
+    /// Publishes an operation in claimed rows, or voids the rows where they can't hold it.
     ///
     /// Errors: `NotRecordable`; `TooSmall` where its words are more than those of the rows.
     pub fn publish(

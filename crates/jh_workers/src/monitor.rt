@@ -100,7 +100,7 @@ struct RunState {
 }
 
 impl RunState {
-    /// Before the work begins.
+    /// The state before the work begins.
     fn new(driver: Driver, clients: u32, due: Option<u32>) -> Self
         ensures begun { (result.error ≡ None) × (result.is_open ≡ false) × (result.answered ≡ 0) }
         ensures due { result.due ≡ due }
@@ -116,7 +116,7 @@ impl RunState {
         }
     }
 
-    /// All threads are there, and the work begins.
+    /// Lets the work begin: all threads are there.
     fn open(&mut self)
         ensures opened { self.new.is_open ≡ true }
         ensures others { (self.new.error ≡ self.old.error) × (self.new.answered ≡ self.old.answered)
@@ -125,7 +125,7 @@ impl RunState {
         self.is_open = true;
     }
 
-    /// The run ends with an error. The first one stays.
+    /// Ends the run with an error, unless another one came first.
     fn stop(&mut self, error: RunError)
         ensures first { MatchOption self.old.error (self.new.error ≡ Some error)
             (λ first. self.new.error ≡ Some first) }
@@ -152,7 +152,7 @@ impl RunState {
         self.error
     }
 
-    /// The next entry of the schedule is due at so many answered calls, or there is none.
+    /// Sets at how many answered calls the next entry of the schedule is due, if there is one.
     fn set_due(&mut self, due: Option<u32>)
         ensures due { self.new.due ≡ due }
         ensures error { self.new.error ≡ self.old.error }
@@ -172,9 +172,9 @@ impl RunState {
         }
     }
 
-    /// What a client thread does next. While an entry of the schedule is due it waits, so that the
-    /// entry is taken at its count but for calls that are under way; and so it does where it asked
-    /// last and others sleep, so that they ask first. Each ask of the driver takes a random number.
+    /// What a client thread does next. It waits while an entry of the schedule is due, so that no call
+    /// begins before the entry is taken; and it waits where it was the last to ask while others sleep,
+    /// so that they ask first. Each question to the driver takes a random number.
     fn ask(&mut self, thread: u32, numbers: &mut Lcg128Xsl64) -> NextMove
         ensures stopped { IsSome self.old.error → result ≡ NextMoves.Stop }
         ensures in_time { (process : ℕ) (request : Request) → result ≡ NextMoves.Call process request
@@ -208,21 +208,21 @@ impl RunState {
         self.turns.free_held()
     }
 
-    /// A client thread goes to sleep.
+    /// Counts a client thread that goes to sleep.
     fn begin_sleep(&mut self)
         ensures error { self.new.error ≡ self.old.error }
     {
         self.turns.begin_sleep();
     }
 
-    /// A client thread was woken, or asks for the first time.
+    /// Counts a client thread as awake: it was woken, or asks for the first time.
     fn end_sleep(&mut self)
         ensures error { self.new.error ≡ self.old.error }
     {
         self.turns.end_sleep();
     }
 
-    /// One more client call was answered.
+    /// Counts one more answered client call.
     fn count_answer(&mut self)
         ensures error { self.new.error ≡ self.old.error }
         ensures counted { self.new.answered ≡ min (self.old.answered + 1) 4294967295 }
@@ -230,7 +230,7 @@ impl RunState {
         self.answered = self.answered.saturating_add(1);
     }
 
-    /// The call of a client thread was recorded.
+    /// Tells the driver how the call of a client thread ended, once it is recorded.
     fn complete(&mut self, thread: u32, ended: Ended)
         ensures error { self.new.error ≡ self.old.error }
         ensures answered { self.new.answered ≡ self.old.answered }
@@ -282,7 +282,7 @@ pub(crate) struct Monitor {
 }
 
 impl Monitor {
-    /// Before the work begins.
+    /// The monitor of a run before the work begins.
     pub(crate) fn new(driver: Driver, clients: u32, due: Option<u32>) -> Self {
         Monitor {
             state: Mutex::new(RunState::new(driver, clients, due)),
@@ -290,7 +290,7 @@ impl Monitor {
         }
     }
 
-    /// All threads are there, and the work begins.
+    /// Lets the work begin: all threads are there.
     pub(crate) fn open(&self, rt: &impl Wait) {
         self.state.lock(rt).open();
         self.changed.notify_all();
@@ -308,19 +308,19 @@ impl Monitor {
         state.into_inner().into_error()
     }
 
-    /// One more client call was answered.
+    /// Counts one more answered client call.
     pub(crate) fn count_answer(&self, rt: &impl Wait) {
         self.state.lock(rt).count_answer();
         self.changed.notify_all();
     }
 
-    /// The call of a client thread was recorded.
+    /// Tells the driver how the call of a client thread ended, once it is recorded.
     pub(crate) fn complete(&self, rt: &impl Wait, thread: u32, ended: Ended) {
         self.state.lock(rt).complete(thread, ended);
         self.changed.notify_all();
     }
 
-    /// A client thread asks from now on.
+    /// Counts a client thread as awake, before it asks for the first time.
     pub(crate) fn enter(&self, rt: &impl Wait) {
         self.state.lock(rt).end_sleep();
     }
@@ -349,7 +349,7 @@ impl Monitor {
         NextMove::Stop
     }
 
-    /// All entries of the schedule were taken, so client threads wait for none.
+    /// No entry of the schedule is left, so client threads wait for none.
     pub(crate) fn end_schedule(&self, rt: &impl Wait) {
         self.state.lock(rt).set_due(None);
         self.changed.notify_all();

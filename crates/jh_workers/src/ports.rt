@@ -1,4 +1,4 @@
-//! What threads call a world by.
+//! How threads call a world, and count the calls that it accepted.
 
 ghost use Rattle.std.specs.Prelude.{◌≡◌, ℕ, ◌+◌, ◌<◌, List, IfOk, IfSome, OnOk, OnErr};
 ghost use Rattle.jh_simnode.specs.Limits.{max_events};
@@ -21,8 +21,8 @@ pub trait Count {
         ensures { result ≡ total self.now };
 }
 
-/// A world that several threads call. Each has a share of it, which every accepted call raises by
-/// one and a refused one by nothing. All calls may wait.
+/// A world that several threads call. Each thread has a share of it: a count that an accepted call
+/// raises by one, and a refused call leaves as it is. All calls may wait.
 pub trait Port {
     /// A thread's own count.
     type Share: Count;

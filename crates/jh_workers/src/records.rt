@@ -105,7 +105,7 @@ fn push_found(history: &mut Vec<Op>, found: Option<Op>) -> Result<(), AllocError
 
 /// The history that the records below a row make: the operations of the rows that were published,
 /// in the order of the rows, each with its place under `:index`. Rows that are void or were not
-/// published so far are left out. A row that the seat saw before is read alike again.
+/// published so far are left out. A row that the seat saw before is read as it saw it.
 ///
 /// Takes time linear in the rows and in the words of their records.
 ///

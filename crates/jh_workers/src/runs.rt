@@ -46,7 +46,7 @@ fn sum_of<S: Count>(shares: &Vec<S>) -> Option<u64>
 }
 
 /// The outcome of these parts, where they agree and the plan was kept.
-fn judged<S: Count + Drop>(
+fn audited_outcome<S: Count + Drop>(
     plan: &Plan,
     history: Vec<Op>,
     journal: Vec<Event>,
@@ -78,7 +78,7 @@ fn judged<S: Count + Drop>(
     })
 }
 
-/// A seat and a share for each client and for the schedule, and a seat for the run itself.
+/// Makes so many workers, each with a seat and a share of its own, and keeps a seat for the run itself.
 fn make_workers<B: OfLog, P: Port, R: Wait>(
     rt: &R,
     alloc: Global,
@@ -111,15 +111,15 @@ where
     Ok((own, workers))
 }
 
-/// What several threads share, and what each does. The monitor is a type parameter beside the rest,
-/// so that each is shown by itself to be safe to share.
-trait Work<O, T> {
+/// What several threads share beside a monitor, and what each does with a worker of its own. The monitor
+/// is a type parameter, so that it and the rest are each shown by themselves to be safe to share.
+trait Work<M, W> {
     /// What the thread of this number does, and what it gives back.
-    fn work_at<R: Wait>(&self, rt: &R, monitor: &O, thread: u32, worker: T) -> T;
+    fn work_at<R: Wait>(&self, rt: &R, monitor: &M, thread: u32, worker: W) -> W;
 
     /// Lets the work begin, once all threads are there, or ends it with an error where one could
     /// not be had.
-    fn begin<R: Wait>(&self, rt: &R, monitor: &O, error: Option<RunError>);
+    fn begin<R: Wait>(&self, rt: &R, monitor: &M, error: Option<RunError>);
 }
 
 impl<B: OfLog, P: Port> Work<Monitor, Worker<B, P::Share>> for Shared<'_, B, P> {
@@ -141,22 +141,24 @@ impl<B: OfLog, P: Port> Work<Monitor, Worker<B, P::Share>> for Shared<'_, B, P> 
     }
 }
 
-/// Each worker on a thread of its own, until all have ended. The workers come back, or an error where
-/// one was lost.
-fn work_all<S: Work<O, T> + Sync, O: Sync, T: Send + Drop, R: Threads + Wait + Sync>(
+/// Runs each worker on a thread of its own, and gives the workers back once all threads have ended.
+/// Where a thread could not be had, no more are started, and `Work::begin` is given the error.
+///
+/// Error: `OutOfMemory` where a worker could not be given back.
+fn work_on_threads<S: Work<M, W> + Sync, M: Sync, W: Send + Drop, R: Threads + Wait + Sync>(
     rt: &R,
     alloc: Global,
     shared: &S,
-    monitor: &O,
-    workers: Vec<T>,
-) -> Result<Vec<T>, RunError> {
+    monitor: &M,
+    workers: Vec<W>,
+) -> Result<Vec<W>, RunError> {
     let mut back = Vec::new(alloc);
     let mut lost = None;
     thread::scope(
         thread::scope_env(),
         rt,
         |scope|
-            requires { IsSync R.row × IsSync S.row × IsSync O.row × IsSend T.row }
+            requires { IsSync R.row × IsSync S.row × IsSync M.row × IsSend W.row }
         {
             let mut handles = Vec::new(alloc);
             let mut error = None;
@@ -186,7 +188,8 @@ fn work_all<S: Work<O, T> + Sync, O: Sync, T: Send + Drop, R: Threads + Wait + S
     }
 }
 
-/// One seat that has seen what all had, and the shares.
+/// Joins the seats of all workers to the run's own: one seat that has seen what any of them saw, and
+/// the workers' shares.
 fn gather_workers<B: OfLog, S: Drop>(
     alloc: Global,
     slots: &Slots,
@@ -212,14 +215,13 @@ fn gather_workers<B: OfLog, S: Drop>(
 
 /// At how many answered calls the first entry of the schedule is due, if there is one.
 fn first_due(plan: &Plan) -> Option<u32> {
-    match plan.schedule().entries().first() {
-        Some(entry) => Some(entry.at),
-        None => None,
-    }
+    let entry = plan.schedule().entries().first()?;
+    Some(entry.at)
 }
 
-/// The work of all threads on a log: the seat that has then seen it, and the shares.
-fn worked<B: OfLog + Send + Sync, P: Port + Sync, R: Threads + Wait + Sync>(
+/// Makes a worker for each client and one for the schedule, and runs them on threads. Gives a seat that
+/// has seen what any of theirs saw in the log, and their shares.
+fn run_workers<B: OfLog + Send + Sync, P: Port + Sync, R: Threads + Wait + Sync>(
     rt: &R,
     alloc: Global,
     plan: &Plan,
@@ -243,7 +245,7 @@ where
         alloc,
         of: PhantomData,
     };
-    let workers = work_all::<Shared<'_, B, P>, Monitor, Worker<B, P::Share>, R>(
+    let workers = work_on_threads::<Shared<'_, B, P>, Monitor, Worker<B, P::Share>, R>(
         rt, alloc, &shared, &monitor, workers,
     );
     if let Some(error) = monitor.into_error() {
@@ -252,8 +254,8 @@ where
     gather_workers(alloc, slots, own, workers?)
 }
 
-/// The run on its log.
-fn run_at<B: OfLog + Send + Sync, P: Port + Sync, R: Threads + Wait + Sync>(
+/// Runs a plan over a port as `run` does, on a log without records.
+fn run_on_log<B: OfLog + Send + Sync, P: Port + Sync, R: Threads + Wait + Sync>(
     rt: &R,
     alloc: Global,
     plan: &Plan,
@@ -277,14 +279,14 @@ where
         (λ o. All (λ op. IsWritable op.process) (operations o.history.items)) }
 {
     let own = LogSeat::<B>::new(seat);
-    let (mut log_seat, shares) = worked::<B, P, R>(rt, alloc, plan, port, slots, own)?;
+    let (mut log_seat, shares) = run_workers::<B, P, R>(rt, alloc, plan, port, slots, own)?;
     let history = match log_seat.gather(alloc, slots, plan.rows() as usize) {
         Ok(history) => history,
         Err(GatherError::BadWords(_)) => return Err(RunError::Mismatch),
         Err(GatherError::OutOfMemory) => return Err(RunError::OutOfMemory),
     };
     let journal = port.events(rt, alloc)?;
-    judged(plan, history, journal, shares)
+    audited_outcome(plan, history, journal, shares)
 }
 
 /// Runs a plan over a port, each client and the schedule on a thread of its own. All threads have
@@ -293,11 +295,11 @@ where
 /// An outcome is given only where its history and its journal tell the same (`audit`), the shares
 /// of the threads together count the journal, and the plan was kept (`follows_plan`). The history
 /// is that of `gather`, and the journal one that the port may show. The same plan may give another
-/// history each time. The calls of the clients are not said to be a whole trace of the generator,
-/// and that threads run at once is shown by a test.
+/// history each time. It is not promised that the calls of the clients are a whole trace of the
+/// generator, nor that threads run at once, which a test shows.
 ///
-/// May wait, and promises only if it returns. A thread that has nothing to do sleeps. A port keeps
-/// the events of a run that failed.
+/// May wait, and promises only if it returns. A thread that has nothing to do sleeps. The events of a
+/// run that failed stay in the port's journal.
 ///
 /// Errors: `Mismatch` where the journal was not empty at the start; `Thread` where a seat, a share
 /// or a thread could not be had; then the first of the threads' errors: `HistoryFull` where the log
@@ -328,5 +330,5 @@ where
     let Ok((slots, seat)) = Slots::new(alloc, plan.rows()) else {
         return Err(RunError::OutOfMemory);
     };
-    run_at::<Brand, P, R>(rt, alloc, plan, port, &slots, seat)
+    run_on_log::<Brand, P, R>(rt, alloc, plan, port, &slots, seat)
 }

@@ -13,7 +13,7 @@ pub(crate) struct Turns {
 }
 
 impl Turns {
-    /// None of so many threads has asked.
+    /// The turns of so many threads, none of which has asked yet.
     pub(crate) fn new(threads: u32) -> Self {
         Turns {
             last: None,
@@ -42,12 +42,12 @@ impl Turns {
         is_free
     }
 
-    /// A thread goes to sleep.
+    /// Counts a thread that goes to sleep.
     pub(crate) fn begin_sleep(&mut self) {
         self.asleep = self.asleep.saturating_add(1);
     }
 
-    /// A thread was woken, or asks for the first time.
+    /// Counts a thread as awake: it was woken, or asks for the first time.
     pub(crate) fn end_sleep(&mut self) {
         self.asleep = self.asleep.saturating_sub(1);
     }

@@ -42,7 +42,7 @@ pub(crate) struct Shared<'a, B: OfLog, P: Port> {
     pub(crate) ghost own: { slots.now.table ≡ B.table },
 }
 
-/// What one thread has, and gives back.
+/// What one thread works with, and gives back when it has ended.
 #[derive(Drop)]
 pub(crate) struct Worker<B: OfLog, S> {
     pub(crate) log_seat: LogSeat<B>,
@@ -174,7 +174,7 @@ struct ClientCall {
     draw: u64,
 }
 
-/// A client's call between its two records.
+/// Makes a client's call, between its two records, and says how it ended.
 fn serve<B: OfLog, P: Port, R: Wait>(
     rt: &R,
     shared: &Shared<'_, B, P>,
@@ -210,7 +210,7 @@ fn serve<B: OfLog, P: Port, R: Wait>(
     Ok(reply_ending(&reply))
 }
 
-/// An entry of the schedule, its step between its two records.
+/// Applies an entry of the schedule: takes its step, between its two records.
 fn apply_entry<B: OfLog, P: Port, R: Wait>(
     rt: &R,
     shared: &Shared<'_, B, P>,
@@ -231,7 +231,7 @@ fn apply_entry<B: OfLog, P: Port, R: Wait>(
     Ok(())
 }
 
-/// A tick where one follows so many calls of a thread.
+/// Makes a tick where the plan has one after so many calls of a thread.
 fn tick_if_due<B: OfLog, P: Port, R: Wait>(
     rt: &R,
     shared: &Shared<'_, B, P>,
@@ -247,7 +247,7 @@ fn tick_if_due<B: OfLog, P: Port, R: Wait>(
     Ok(())
 }
 
-/// A client thread, until there is nothing more for any thread or the run is stopped.
+/// Works as a client thread until there is nothing more for any thread, or the run is stopped.
 fn work_as_client<B: OfLog, P: Port, R: Wait>(
     rt: &R,
     shared: &Shared<'_, B, P>,
@@ -280,8 +280,8 @@ fn work_as_client<B: OfLog, P: Port, R: Wait>(
     Ok(())
 }
 
-/// The thread of the schedule: its entries in order, each once it is due, unless the run is
-/// stopped.
+/// Works as the thread of the schedule: applies its entries in order, each once it is due, until the
+/// run is stopped.
 fn work_on_schedule<B: OfLog, P: Port, R: Wait>(
     rt: &R,
     shared: &Shared<'_, B, P>,
@@ -298,7 +298,8 @@ fn work_on_schedule<B: OfLog, P: Port, R: Wait>(
     Ok(())
 }
 
-/// The work of one thread. The one after the clients applies the schedule.
+/// What the thread of this number does until it ends. The threads below the number of clients are
+/// clients, and the one after them applies the schedule.
 pub(crate) fn work<B: OfLog, P: Port, R: Wait>(
     rt: &R,
     shared: &Shared<'_, B, P>,
