@@ -84,9 +84,9 @@ impl<'a, A: Drop, T: Task<A>> Work<Mutex<Board<A, T>>> for Tasks<'a, T> {
     }
 }
 
-/// The work of this thread and of so many others. All have ended when it returns. Gives whether a
-/// thread could not be had: the tasks that were not taken by then are left undone.
-fn work_all<K: Work<B> + Sync, B: Sync, R: Threads + Wait + Sync>(
+/// Works on this thread and on so many others, all of which have ended when this returns. Gives whether
+/// a thread could not be had: the tasks that were not taken by then are left undone.
+fn work_on_threads<K: Work<B> + Sync, B: Sync, R: Threads + Wait + Sync>(
     rt: &R,
     work: &K,
     board: &B,
@@ -172,7 +172,7 @@ pub fn answer_tasks<A: Send + Drop, T: Task<A> + Send + Sync, R: Threads + Wait 
     let others = count.min(threads as usize).saturating_sub(1);
     let tasks = Tasks { task, count };
     let lost_thread = others > 0
-        && work_all::<Tasks<'_, T>, Mutex<Board<A, T>>, R>(rt, &tasks, &board, others);
+        && work_on_threads::<Tasks<'_, T>, Mutex<Board<A, T>>, R>(rt, &tasks, &board, others);
     let mut of_each = board.into_inner().into_answers();
     if !lost_thread {
         do_rest(task, &mut of_each);
