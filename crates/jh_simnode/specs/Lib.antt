@@ -2,6 +2,7 @@ pub mod Requests
 pub mod Replicas
 pub mod Effects
 pub mod Reach
+pub mod StoreNames
 pub mod Stores
 pub mod TakingInside
 pub mod Events

@@ -47,6 +47,10 @@ plan_of_data fields =
 abbrev pub plan_with_schedule : PlanValue → List Entry → PlanValue
 plan_with_schedule p schedule = record p { schedule = schedule }
 
+-- the plan with another seed, all else being the same
+abbrev pub plan_with_seed : PlanValue → ℕ → PlanValue
+plan_with_seed p seed = record p { seed = seed }
+
 -- from 1 to 16 client threads
 abbrev pub HasClients : PlanValue → Type 0
 HasClients p = (1 ≤ p.clients) × (p.clients ≤ 16)

@@ -216,6 +216,13 @@ impl Plan {
         })
     }
 
+    /// The plan with another seed, all else being the same. Takes no memory.
+    pub fn with_seed(self, seed: u64) -> Plan
+        ensures { result ≡ rule.plan_with_seed self seed }
+    {
+        Plan { seed, ..self }
+    }
+
     /// The environment that the run starts from.
     pub fn environment(&self) -> &Env
         ensures environment { result.now ≡ self.now.env }

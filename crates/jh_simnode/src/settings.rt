@@ -1,5 +1,8 @@
-//! How the nodes of a world keep a database. A new store is a case here and of the rules in
-//! `specs/Stores.antt`.
+//! How the nodes of a world keep a database. A new store is a case here, a name in
+//! `specs/StoreNames.antt`, and a case of the rules in `specs/Stores.antt`.
+
+ghost use Rattle.std.specs.Prelude.{◌≡◌};
+ghost use Rattle.jh_simnode.specs.StoreNames.{all_stores, store_name, store_named};
 
 use jh_ops::Workload;
 
@@ -13,6 +16,36 @@ pub enum Store {
     Lww,
     /// Each node has a replica of its own, of which no other node learns.
     Local,
+}
+
+/// All stores.
+static STORES: [Store; 3] = [Store::Quorum, Store::Lww, Store::Local];
+
+/// All stores, in the order of the enum.
+fn stores() -> &'static [Store]
+    ensures { result.now ≡ all_stores }
+{
+    STORES.as_slice()
+}
+
+impl Store {
+    /// The name by which the store is chosen.
+    pub fn name(self) -> &'static str
+        ensures { result.now ≡ store_name self }
+    {
+        match self {
+            Store::Quorum => "quorum",
+            Store::Lww => "lww",
+            Store::Local => "local",
+        }
+    }
+
+    /// The store of this name: `quorum`, `lww` or `local`.
+    pub fn named(name: &str) -> Option<Store>
+        ensures { result ≡ store_named name.now }
+    {
+        stores().iter().copied().find(|store| name == store.name())
+    }
 }
 
 /// What a world keeps for good, beside its starting environment.
