@@ -12,7 +12,7 @@ use Rattle.std.specs.Bool.{MatchBool}
 use Rattle.std.proofs.lemmas.Bool.{true≢false}
 use Rattle.jh_edn.specs.View.{view}
 use Rattle.jh_edn.specs.declared.value.Value.{Value}
-use Rattle.jh_settings.specs.Inside.{IsNoElement}
+use Rattle.jh_settings.specs.Inside.{IsEntryIn, IsNoElement}
 use Rattle.jh_settings.specs.Readers.{IsElementIn}
 use Rattle.jh_settings.specs.Keys.{data_under}
 use Rattle.jh_settings.specs.Kinds.{IsElement, HoldsElement}
@@ -55,12 +55,8 @@ spelled_in value text is (Ok None) none = λ x h. none x (subst (SpellsAll (x �
 spelled_in value text is (Ok (Some element)) spelled = (text, is, spelled)
 spelled_in value text is (Err e) h = tt
 
--- what a value means that is a text of one element
-abbrev pub IsMeant : {E : Type 0} → (Edn → Option E) → Data → E → Type 0
-IsMeant parse value entry = (x : Edn) × IsElement value x × (parse x ≡ Some entry)
-
 -- the entry of an element is that of the value that spells it
-pub entry_from : {E : Type 0} (parse : Edn → Option E) (value : Data) (x : Edn) → IsElement value x → (r : Result (Option E) AllocError) → IfOk r (λ entry. entry ≡ parse x) → IfOk r (λ found. MatchOption found ((entry : E) → IsMeant parse value entry → ⊥) (IsMeant parse value))
+pub entry_from : {E : Type 0} (parse : Edn → Option E) (value : Data) (x : Edn) → IsElement value x → (r : Result (Option E) AllocError) → IfOk r (λ entry. entry ≡ parse x) → IfOk r (IsEntryIn parse value)
 entry_from parse value x is (Ok None) none = λ entry h.
     let same : x ≡ h.0 = element_once value x h.0 is h.1 in
     none_not entry (none ∙ ap parse same ∙ h.2)

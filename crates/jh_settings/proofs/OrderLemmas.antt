@@ -1,11 +1,7 @@
 -- The first bad value, one group of settings after another.
-use Rattle.std.proofs.Common.{◌≡◌, ℕ, ℤ, Bool, inl, inr, List, [], ◌∷◌, ◌++◌, Option, Some, IsSome, refl, sym, subst}
+use Rattle.std.proofs.Common.{◌≡◌, inl, inr, List, [], ◌∷◌, ◌++◌, Option, Some, IsSome, refl, sym, subst}
 use Rattle.toml.specs.Data.{Members}
 use Rattle.jh_env.specs.Overlay.{EnvValue}
-use Rattle.jh_gen.specs.Generator.{Generator}
-use Rattle.jh_ops.specs.declared.call.Workload.{Workload}
-use Rattle.jh_simnode.specs.declared.settings.Store.{Store}
-use Rattle.jh_settings.specs.declared.choices.Mode.{Mode}
 use Rattle.jh_simnode.specs.declared.schedule.Entry.{Entry}
 use Rattle.jh_settings.specs.Readers.{RefusesValue, RefusesKeyValues}
 use Rattle.jh_settings.specs.Inside.{RefusesDocumentValues, IsParsedCluster, IsParsedLoad, AreParsedLimits, cluster_keys, load_keys, limit_keys}
@@ -15,6 +11,9 @@ use Rattle.jh_settings.specs.Parsed.{IsParsedStart, IsParsedSchedule}
 use Rattle.jh_settings.specs.declared.error.SettingsError.{SettingsError}
 use Rattle.jh_settings.specs.declared.error.SettingsError.TheVariants.{NotToml, Unknown, Missing, BadValue, OutOfMemory}
 use Rattle.jh_settings.specs.declared.keys.Key.{Key}
+use Rattle.jh_settings.specs.declared.parts.Cluster.{Cluster}
+use Rattle.jh_settings.specs.declared.parts.Limits.{Limits}
+use Rattle.jh_settings.specs.declared.parts.Load.{Load}
 use Rattle.jh_settings.proofs.StartLemmas.{nodes_once}
 
 module _ (Good : Key → Type 0) where
@@ -59,15 +58,13 @@ pub is_parsed : {A : Type 0} {o : Option A} {x : A} → o ≡ Some x → IsSome 
 is_parsed e = subst IsSome (sym e) refl
 
 module _ {document : Members} where
-  pub cluster_good : {environment : EnvValue} {store : Store} {workload : Workload} {g : Generator}
-      → IsParsedCluster document environment store workload g → AreGood (IsGood document) cluster_keys
+  pub cluster_good : {cluster : Cluster} → IsParsedCluster document cluster → AreGood (IsGood document) cluster_keys
   cluster_good h = ((_, h.start), (is_parsed h.in_store, (is_parsed h.of_workload, ((_, h.source), tt))))
 
-  pub load_good : {clients ops : ℕ} {mode : Mode} {volatile : Bool} {initial : Option ℤ}
-      → IsParsedLoad document clients ops mode volatile initial → AreGood (IsGood document) load_keys
+  pub load_good : {load : Load} → IsParsedLoad document load → AreGood (IsGood document) load_keys
   load_good h = (is_parsed h.by_clients, (is_parsed h.calls, (is_parsed h.in_mode, (is_parsed h.forgets, (is_parsed h.holds, tt)))))
 
-  pub limits_good : {tick_every rows seed budget : ℕ} → AreParsedLimits document tick_every rows seed budget → AreGood (IsGood document) limit_keys
+  pub limits_good : {limits : Limits} → AreParsedLimits document limits → AreGood (IsGood document) limit_keys
   limits_good h = (is_parsed h.ticks, (is_parsed h.of_rows, (is_parsed h.from_seed, (is_parsed h.within, tt))))
 
 no_schedule : (document : Members) (env : EnvValue) → IsParsedStart document env → (((entries : List Entry) × IsParsedSchedule env.names document entries) → ⊥) → IsGood document Key.Schedule → ⊥

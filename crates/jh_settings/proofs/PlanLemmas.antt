@@ -1,5 +1,5 @@
 -- The plan of parts that are good by themselves.
-use Rattle.std.proofs.Common.{◌≡◌, ℕ, ◌≤◌, pos, ◌&&◌, nat_le, inl, inr, [], ◌∷◌, ◌++◌, All, length, Option, Some, None, refl, sym, ap, subst, ◌∙◌, arith}
+use Rattle.std.proofs.Common.{◌≡◌, ℕ, ◌≤◌, pos, ◌&&◌, nat_le, inl, inr, List, [], ◌∷◌, ◌++◌, All, length, Option, Some, None, refl, sym, ap, subst, ◌∙◌, arith}
 use Rattle.std.proofs.lemmas.Bool.{cases_Bool, and_parts, leb-true, cond-true, cond-false}
 use Rattle.std.proofs.lemmas.Option.{same_Some}
 use Rattle.std.specs.Option.{option_and_then, option_map_or}
@@ -11,15 +11,18 @@ use Rattle.jh_ops.specs.Requests.{max_calls_of}
 use Rattle.jh_simnode.specs.Plans.{PlanValue, IsFit, RefusesPlan, plan_of_data}
 use Rattle.jh_simnode.specs.declared.plan.PlanData.{PlanData}
 use Rattle.jh_simnode.specs.declared.plan.PlanError.{PlanError}
-use Rattle.jh_settings.specs.Inside.{RefusesDocumentValues, RefusesWith, IsParsedCluster, IsParsedLoad, AreParsedLimits, plan_refusal, cluster_keys, load_keys, limit_keys}
+use Rattle.jh_simnode.specs.declared.schedule.Entry.{Entry}
+use Rattle.jh_settings.specs.Inside.{RefusesDocumentValues, RefusesWith, IsParsedCluster, IsParsedLoad, AreParsedLimits, data_of_parts, plan_refusal, cluster_keys, load_keys, limit_keys}
 use Rattle.jh_settings.specs.Keys.{HasKnownKeys, run_keys, data_under}
 use Rattle.jh_settings.specs.Kinds.{whole_number_in, needed_value}
 use Rattle.jh_settings.specs.Refusals.{IsGood, AreGood}
 use Rattle.jh_settings.specs.Settings.{AreSettings}
 use Rattle.jh_settings.specs.Parsed.{IsParsedSchedule, parsed_clients, parsed_ops, parsed_rows, parsed_workload}
-use Rattle.jh_settings.specs.declared.choices.Mode.{Mode}
 use Rattle.jh_settings.specs.declared.error.SettingsError.{SettingsError}
 use Rattle.jh_settings.specs.declared.keys.Key.{Key}
+use Rattle.jh_settings.specs.declared.parts.Cluster.{Cluster}
+use Rattle.jh_settings.specs.declared.parts.Limits.{Limits}
+use Rattle.jh_settings.specs.declared.parts.Load.{Load}
 use Rattle.jh_settings.proofs.ElementLemmas.{none_not}
 use Rattle.jh_settings.proofs.OrderLemmas.{cluster_good, load_good, limits_good, good_append}
 
@@ -55,56 +58,59 @@ has_ops document workload n parsed e =
     sym (ap (option_and_then (λ w. needed_value (whole_number_in 1 (max_calls_of w)) Key.Ops document)) parsed) ∙ e in
     needed_is 1 (max_calls_of workload) (data_under Key.Ops document) n known
 
--- the parts of a plan, the mode and the budget that a document means
-pub record AreParsedParts (document : Members) (parts : PlanData) (mode : Mode) (budget : ℕ) : Type 0 where
+-- what a document means under all keys
+pub record AreParsedParts (document : Members) (cluster : Cluster) (load : Load) (limits : Limits) (schedule : List Entry) : Type 0 where
   pub known : HasKnownKeys run_keys document
-  pub cluster : IsParsedCluster document parts.environment parts.settings.store parts.settings.workload (generator_of parts.generator)
-  pub load : IsParsedLoad document parts.clients parts.ops mode parts.settings.volatile parts.settings.initial
-  pub limits : AreParsedLimits document parts.tick_every parts.rows parts.seed budget
-  pub schedule : IsParsedSchedule parts.environment.names document parts.schedule
-  pub steps : All (λ entry. FitsNodes (length parts.environment.names) entry.step) parts.schedule
+  pub of_cluster : IsParsedCluster document cluster
+  pub of_load : IsParsedLoad document load
+  pub of_limits : AreParsedLimits document limits
+  pub of_schedule : IsParsedSchedule cluster.environment.names document schedule
+  pub steps : All (λ entry. FitsNodes (length cluster.environment.names) entry.step) schedule
 
-module _ (document : Members) (parts : PlanData) (mode : Mode) (budget : ℕ) (parsed : AreParsedParts document parts mode budget) where
-  planned : IsFit (plan_of_data parts) → AreSettings document (plan_of_data parts) mode budget
+module _ (document : Members) (cluster : Cluster) (load : Load) (limits : Limits) (schedule : List Entry) (parsed : AreParsedParts document cluster load limits schedule) where
+  abbrev pub parts : PlanData
+  parts = data_of_parts cluster load limits schedule
+
+  planned : IsFit (plan_of_data parts) → AreSettings document (plan_of_data parts) load.mode limits.budget
   planned fit = record {
     known = parsed.known;
-    start = parsed.cluster.start;
-    store = parsed.cluster.in_store;
-    workload = parsed.cluster.of_workload;
-    generator = parsed.cluster.source;
-    clients = parsed.load.by_clients;
-    ops = parsed.load.calls;
-    mode = parsed.load.in_mode;
-    volatile = parsed.load.forgets;
-    initial = parsed.load.holds;
-    tick_every = parsed.limits.ticks;
-    rows = parsed.limits.of_rows;
-    seed = parsed.limits.from_seed;
-    budget = parsed.limits.within;
-    schedule = parsed.schedule;
+    start = parsed.of_cluster.start;
+    store = parsed.of_cluster.in_store;
+    workload = parsed.of_cluster.of_workload;
+    generator = parsed.of_cluster.source;
+    clients = parsed.of_load.by_clients;
+    ops = parsed.of_load.calls;
+    mode = parsed.of_load.in_mode;
+    volatile = parsed.of_load.forgets;
+    initial = parsed.of_load.holds;
+    tick_every = parsed.of_limits.ticks;
+    rows = parsed.of_limits.of_rows;
+    seed = parsed.of_limits.from_seed;
+    budget = parsed.of_limits.within;
+    schedule = parsed.of_schedule;
     fit = fit;
   }
 
   all_good : AreGood (IsGood document) run_keys
   all_good =
-      let last : AreGood (IsGood document) (Key.Schedule ∷ []) = ((parts.environment, parts.schedule, parsed.cluster.start, parsed.schedule), tt) in
-      let limits = good_append (IsGood document) limit_keys (Key.Schedule ∷ []) (limits_good parsed.limits) last in
-      let load = good_append (IsGood document) load_keys (limit_keys ++ Key.Schedule ∷ []) (load_good parsed.load) limits in
-      good_append (IsGood document) cluster_keys (load_keys ++ (limit_keys ++ Key.Schedule ∷ [])) (cluster_good parsed.cluster) load
+      let last : AreGood (IsGood document) (Key.Schedule ∷ []) = ((cluster.environment, schedule, parsed.of_cluster.start, parsed.of_schedule), tt) in
+      let behind_load = good_append (IsGood document) limit_keys (Key.Schedule ∷ []) (limits_good parsed.of_limits) last in
+      let behind_cluster = good_append (IsGood document) load_keys (limit_keys ++ Key.Schedule ∷ []) (load_good parsed.of_load) behind_load in
+      good_append (IsGood document) cluster_keys (load_keys ++ (limit_keys ++ Key.Schedule ∷ [])) (cluster_good parsed.of_cluster) behind_cluster
 
   -- a plan of good parts is refused for its generator alone
   refused : (error : PlanError) → RefusesPlan (plan_of_data parts) error → RefusesDocumentValues document (plan_refusal error)
-  refused PlanError.BadClients h = absurd (h (has_clients document parts.clients parsed.load.by_clients))
-  refused PlanError.BadOps h = absurd (h.1 (has_ops document parts.settings.workload parts.ops parsed.cluster.of_workload parsed.load.calls))
-  refused PlanError.BadRows h = absurd (h.2 (has_rows document parts.rows parsed.limits.of_rows))
+  refused PlanError.BadClients h = absurd (h (has_clients document load.clients parsed.of_load.by_clients))
+  refused PlanError.BadOps h = absurd (h.1 (has_ops document cluster.workload load.ops parsed.of_cluster.of_workload parsed.of_load.calls))
+  refused PlanError.BadRows h = absurd (h.2 (has_rows document limits.rows parsed.of_limits.of_rows))
   refused PlanError.BadGenerator h =
-      inr (refl, (parts.settings.workload, parts.clients, generator_of parts.generator, all_good, parsed.cluster.of_workload, parsed.load.by_clients, parsed.cluster.source, h.3))
+      inr (refl, (cluster.workload, load.clients, generator_of cluster.generator, all_good, parsed.of_cluster.of_workload, parsed.of_load.by_clients, parsed.of_cluster.source, h.3))
   refused PlanError.BadStep h = absurd (h.4 parsed.steps)
   refused PlanError.OutOfMemory h = tt
 
   -- so a plan of these parts is what the document means
-  pub planned_settings : (plan : PlanValue) → (plan ≡ plan_of_data parts) × IsFit plan → AreSettings document plan mode budget
-  planned_settings plan h = subst (λ p. AreSettings document p mode budget) (sym h.0) (planned (subst IsFit h.0 h.1))
+  pub planned_settings : (plan : PlanValue) → (plan ≡ plan_of_data parts) × IsFit plan → AreSettings document plan load.mode limits.budget
+  planned_settings plan h = subst (λ p. AreSettings document p load.mode limits.budget) (sym h.0) (planned (subst IsFit h.0 h.1))
 
   -- and why it is refused is why the document is
   pub planned_refusal : (e : SettingsError) → RefusesWith (plan_of_data parts) e → RefusesDocumentValues document e

@@ -14,6 +14,7 @@ use Rattle.jh_ops.specs.declared.call.Workload.{Workload}
 use Rattle.jh_gen.specs.Generator.{Generator}
 use Rattle.jh_gen.specs.GeneratorText.{parsed_generator}
 use Rattle.jh_ops.specs.Requests.{workload_named, max_calls_of}
+use Rattle.jh_simnode.specs.StoreNames.{store_named}
 use Rattle.jh_simnode.specs.declared.settings.Store.{Store}
 use Rattle.jh_simnode.specs.declared.schedule.Entry.{Entry}
 use Rattle.jh_settings.specs.declared.keys.Key.{Key}
@@ -28,15 +29,8 @@ IsParsedStart document env =
     (x : Edn) × HoldsElement Key.Start document x × IsTextOf x env.names env.start
     × StandsFor env []
 
-abbrev pub store_of : List ℕ → Option Store
-store_of choice =
-    if bytes_eq choice (codes "quorum") then Some Store.Quorum
-    else if bytes_eq choice (codes "lww") then Some Store.Lww
-    else if bytes_eq choice (codes "local") then Some Store.Local
-    else None
-
 abbrev pub parsed_store : Members → Option Store
-parsed_store document = choice_under store_of Key.Store document
+parsed_store document = choice_under store_named Key.Store document
 
 abbrev pub parsed_workload : Members → Option Workload
 parsed_workload document = choice_under workload_named Key.Workload document
@@ -116,13 +110,16 @@ entry_of_elements names (int z ∷ step ∷ []) =
     option_and_then (λ at. entry_at at (parsed_step names step)) (due_of z)
 entry_of_elements names _ = None
 
--- the entry that a value means: a vector or a list of the two
+-- the entry that an element means: a vector or a list of the two
 abbrev pub parsed_entry : List (List ℕ) → Edn → Option Entry
 parsed_entry names x = option_and_then (entry_of_elements names) (elements_of x)
 
+-- a value means an entry: it is a text of one element, and a command parses this element as the entry
+abbrev pub IsMeant : {E : Type 0} → (Edn → Option E) → Data → E → Type 0
+IsMeant parsed value entry = (x : Edn) × IsElement value x × (parsed x ≡ Some entry)
+
 abbrev pub IsParsedEntry : List (List ℕ) → Data → Entry → Type 0
-IsParsedEntry names value entry =
-    (x : Edn) × IsElement value x × (parsed_entry names x ≡ Some entry)
+IsParsedEntry names value entry = IsMeant (parsed_entry names) value entry
 
 -- each value means an entry, in order
 abbrev pub AreEach : {E : Type 0} → (Data → E → Type 0) → Items → List E → Type 0
@@ -141,15 +138,17 @@ IsScheduleOf Means None entries = entries ≡ []
 IsScheduleOf Means (Some (array values)) entries = AreFewEach Means values entries
 IsScheduleOf Means (Some _) entries = ⊥
 
+-- a document has these entries under `schedule`, as a command parses its entries
+abbrev pub IsScheduleUnder : {E : Type 0} → (Edn → Option E) → Members → List E → Type 0
+IsScheduleUnder parsed document entries =
+    IsScheduleOf (IsMeant parsed) (data_under Key.Schedule document) entries
+
 abbrev pub AreParsedEntries : List (List ℕ) → Items → List Entry → Type 0
 AreParsedEntries names values entries = AreEach (IsParsedEntry names) values entries
-
-abbrev pub AreFewParsedEntries : List (List ℕ) → Items → List Entry → Type 0
-AreFewParsedEntries names values entries = AreFewEach (IsParsedEntry names) values entries
 
 abbrev pub IsScheduleValue : List (List ℕ) → Option Data → List Entry → Type 0
 IsScheduleValue names value entries = IsScheduleOf (IsParsedEntry names) value entries
 
 abbrev pub IsParsedSchedule : List (List ℕ) → Members → List Entry → Type 0
 IsParsedSchedule names document entries =
-    IsScheduleValue names (data_under Key.Schedule document) entries
+    IsScheduleUnder (parsed_entry names) document entries

@@ -24,18 +24,6 @@ pub enum Mode {
     Serial,
 }
 
-/// The store of this name.
-fn store_of(choice: &str) -> Option<Store>
-    ensures { result ≡ rule.store_of choice.now }
-{
-    match choice {
-        "quorum" => Some(Store::Quorum),
-        "lww" => Some(Store::Lww),
-        "local" => Some(Store::Local),
-        _ => None,
-    }
-}
-
 /// The store under `store`.
 pub(crate) fn store_under(table: &Table) -> Result<Store, SettingsError>
     ensures { IsValueParsed result Key.Store (parsed_store (table_view table.now)) }
@@ -43,7 +31,7 @@ pub(crate) fn store_under(table: &Table) -> Result<Store, SettingsError>
     let Some(choice) = text_under(table, Key::Store) else {
         return Err(SettingsError::BadValue(Key::Store));
     };
-    match store_of(choice) {
+    match Store::named(choice) {
         Some(store) => Ok(store),
         None => Err(SettingsError::BadValue(Key::Store)),
     }

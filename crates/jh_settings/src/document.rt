@@ -34,12 +34,12 @@ pub fn table_of(alloc: Global, bytes: &[u8]) -> Result<Table, SettingsError>
     }
 }
 
-/// Looks at the keys of a table alone: each is one of a command's keys, and those that the command
-/// needs stand there.
+/// Refuses a table with a key that is none of a command's keys, and a table without a key that the
+/// command needs. It looks at no value.
 ///
 /// Errors, in this order: `Unknown` with the first key of the table, in byte order, that is none of
 /// `keys`; `Missing` with the first of the needed ones that does not stand there; `OutOfMemory`.
-pub fn judge_keys(
+pub fn refuse_unknown_or_missing_keys(
     alloc: Global,
     table: &Table,
     keys: &[Key],

@@ -1,7 +1,6 @@
-//! Settings whose values are texts of EDN: the start, the generator and the entries of the
-//! schedule.
+//! Settings whose values are texts of EDN: the start and the generator.
 
-ghost use Rattle.std.specs.Prelude.{◌≡◌, ◌≢◌, List, [], ◌∷◌, drop, length, All};
+ghost use Rattle.std.specs.Prelude.{◌≡◌, ◌≢◌, [], ◌∷◌, drop};
 ghost use Rattle.std.specs.Prelude.{IfOk, IfSome, MatchBool, MatchOption, MatchResult};
 ghost use Rattle.std.specs.Str.{IsCharBoundary};
 ghost use Rattle.toml.specs.View as toml;
@@ -10,30 +9,21 @@ ghost use Rattle.jh_edn.specs.Edn.{Edn};
 ghost use Rattle.jh_edn.specs.Spelling.{IsGap, Reads, SpellsAll};
 ghost use Rattle.jh_edn.specs.View.{view};
 ghost use Rattle.jh_env.specs.Overlay.{EnvValue};
-ghost use Rattle.jh_nemesis.specs.Steps.{FitsNodes};
 ghost use Rattle.jh_gen.specs.Generator.{Generator};
 ghost use Rattle.jh_gen.specs.View.{generator_of};
-ghost use Rattle.jh_simnode.specs.declared.schedule.Entry.{Entry};
-ghost use Rattle.jh_settings.specs.Inside.{IsEntryIn, IsNoElement, start_refusal};
+ghost use Rattle.jh_settings.specs.Inside.{IsNoElement, start_refusal};
 ghost use Rattle.jh_settings.specs.Kinds.{HoldsElement};
-ghost use Rattle.jh_settings.specs.Parsed as rule;
-ghost use Rattle.jh_settings.specs.Parsed.{AreFewParsedEntries, IsGeneratorUnder};
-ghost use Rattle.jh_settings.specs.Parsed.{IsParsedSchedule, IsParsedStart};
+ghost use Rattle.jh_settings.specs.Parsed.{IsGeneratorUnder, IsParsedStart};
 ghost use Rattle.jh_settings.specs.Readers.{IsElementIn, RefusesValue};
 
 use crate::error::SettingsError;
 use crate::keys::Key;
 use crate::table::value_under;
 use jh_edn::{EdnError, Value, read_one};
-use jh_env::{Env, EnvTextError, Nodes, env_of_value};
+use jh_env::{Env, EnvTextError, env_of_value};
 use jh_gen::{Gen, GenTextError, gen_of_value};
-use jh_simnode::{Entry, MAX_ENTRIES, Schedule};
-use jh_step_texts::{StepTextError, step_of_value};
 use std::alloc::{AllocError, Global};
 use toml::Table;
-
-/// The latest moment at which a step is due, in answered client calls.
-pub const MAX_DUE_AT: u32 = 10_000;
 
 /// Passes out of memory on, and no other error.
 fn unless_memory(error: EdnError) -> Result<(), AllocError>
@@ -157,108 +147,5 @@ pub fn generator_under(alloc: Global, table: &Table, key: Key) -> Result<Gen, Se
         Ok(source) => Ok(source),
         Err(GenTextError::BadGenerator) => Err(SettingsError::BadValue(key)),
         Err(GenTextError::OutOfMemory) => Err(SettingsError::OutOfMemory),
-    }
-}
-
-/// After how many answered client calls a step is due: from 0 to 10,000, and no other number.
-fn due_of(at: i64) -> Option<u32>
-    ensures { result ≡ rule.due_of at }
-{
-    match u32::try_from(at) {
-        Ok(at) if at <= MAX_DUE_AT => Some(at),
-        _ => None,
-    }
-}
-
-/// The entry that an element means.
-fn parsed_entry(alloc: Global, nodes: &Nodes, element: &Value) -> Result<Option<Entry>, AllocError>
-    ensures parsed { IfOk result (λ entry. entry ≡ rule.parsed_entry nodes.now (view element.now)) }
-    ensures fits { IfOk result
-        (λ found. IfSome found (λ entry. FitsNodes (length nodes.now) entry.step)) }
-{
-    let Some([Value::Int(at), step]) = element.elements() else {
-        return Ok(None);
-    };
-    let Some(at) = due_of(*at) else {
-        return Ok(None);
-    };
-    match step_of_value(alloc, nodes, step) {
-        Ok(step) => Ok(Some(Entry { at, step })),
-        Err(StepTextError::OutOfMemory) => Err(AllocError),
-        Err(_) => Ok(None),
-    }
-}
-
-/// The entry that a value, which is a text, means.
-fn entry_of(alloc: Global, nodes: &Nodes, value: &toml::Value) -> Result<Option<Entry>, AllocError>
-    ensures parsed { IfOk result (IsEntryIn nodes.now (toml.view value.now)) }
-    ensures fits { IfOk result
-        (λ found. IfSome found (λ entry. FitsNodes (length nodes.now) entry.step)) }
-{
-    match element_in(alloc, value)? {
-        Some(element) => parsed_entry(alloc, nodes, &element),
-        None => Ok(None),
-    }
-}
-
-/// The entries that these values mean.
-fn entries_in(
-    alloc: Global,
-    values: &[toml::Value],
-    nodes: &Nodes,
-) -> Result<Vec<Entry>, SettingsError>
-    ensures parsed { MatchResult result
-        (λ entries. AreFewParsedEntries nodes.now (toml.items_view values.now) entries.items)
-        (RefusesValue ((entries : List Entry)
-        × AreFewParsedEntries nodes.now (toml.items_view values.now) entries) Key.Schedule) }
-    ensures fit { IfOk result
-        (λ entries. All (λ entry. FitsNodes (length nodes.now) entry.step) entries.items) }
-{
-    if values.len() > MAX_ENTRIES {
-        return Err(SettingsError::BadValue(Key::Schedule));
-    }
-    let mut entries = Vec::new(alloc);
-    for value in values {
-        match entry_of(alloc, nodes, value)? {
-            Some(entry) => entries.push(entry)?,
-            None => return Err(SettingsError::BadValue(Key::Schedule)),
-        }
-    }
-    Ok(entries)
-}
-
-/// The entries under `schedule`, over the nodes of the start.
-fn entries_under(alloc: Global, table: &Table, nodes: &Nodes) -> Result<Vec<Entry>, SettingsError>
-    ensures parsed { MatchResult result
-        (λ entries. IsParsedSchedule nodes.now (table_view table.now) entries.items)
-        (RefusesValue ((entries : List Entry)
-        × IsParsedSchedule nodes.now (table_view table.now) entries) Key.Schedule) }
-    ensures fit { IfOk result
-        (λ entries. All (λ entry. FitsNodes (length nodes.now) entry.step) entries.items) }
-{
-    match value_under(table, Key::Schedule) {
-        Some(toml::Value::Array(values)) => entries_in(alloc, values.as_slice(), nodes),
-        Some(_) => Err(SettingsError::BadValue(Key::Schedule)),
-        None => Ok(Vec::new(alloc)),
-    }
-}
-
-/// The schedule under `schedule`, over the nodes of the start.
-pub(crate) fn schedule_under(
-    alloc: Global,
-    table: &Table,
-    nodes: &Nodes,
-) -> Result<Schedule, SettingsError>
-    ensures parsed { MatchResult result
-        (IsParsedSchedule nodes.now (table_view table.now))
-        (RefusesValue ((entries : List Entry)
-        × IsParsedSchedule nodes.now (table_view table.now) entries) Key.Schedule) }
-    ensures fit { IfOk result
-        (λ schedule. All (λ entry. FitsNodes (length nodes.now) entry.step) schedule) }
-{
-    let entries = entries_under(alloc, table, nodes)?;
-    match Schedule::of(entries) {
-        Ok(schedule) => Ok(schedule),
-        Err(_) => Err(SettingsError::BadValue(Key::Schedule)),
     }
 }

@@ -4,12 +4,12 @@
 ghost use Rattle.std.specs.Prelude.{◌≡◌, Some, [], MatchResult};
 ghost use Rattle.toml.specs.View.{table_view};
 ghost use Rattle.jh_env.specs.Overlay.{StandsFor};
-ghost use Rattle.jh_gen.specs.View.{generator_of};
 ghost use Rattle.jh_simnode.specs.Plans.{IsFit, plan_of_data};
+ghost use Rattle.jh_settings.specs.Inside as rule;
 ghost use Rattle.jh_settings.specs.Inside.{AreParsedLimits, IsParsedCluster, IsParsedLoad};
 ghost use Rattle.jh_settings.specs.Inside.{RefusesDocumentValues, RefusesWith};
 ghost use Rattle.jh_settings.specs.Inside.{cluster_keys, limit_keys, load_keys, plan_refusal};
-ghost use Rattle.jh_settings.specs.Keys as rule;
+ghost use Rattle.jh_settings.specs.Keys as keys;
 ghost use Rattle.jh_settings.specs.Keys.{HasKnownKeys};
 ghost use Rattle.jh_settings.specs.Parsed.{parsed_workload};
 ghost use Rattle.jh_settings.specs.Readers.{RefusesKeyValues};
@@ -17,18 +17,18 @@ ghost use Rattle.jh_settings.specs.Refusals.{IsGood};
 ghost use Rattle.jh_settings.specs.Settings.{AreSettings, AreSettingsOf, RefusesSettings};
 
 use crate::choices::{Mode, initial_under, is_register, mode_under, store_under, workload_under};
-use crate::document::{judge_keys, table_of};
-use crate::elements::{generator_under, schedule_under, start_under};
+use crate::document::{refuse_unknown_or_missing_keys, table_of};
+use crate::elements::{generator_under, start_under};
 use crate::error::SettingsError;
 use crate::keys::{Key, needed_run_keys, run_keys};
 use crate::numbers::{
     budget_under, clients_under, ops_under, rows_under, seed_under, tick_every_under,
 };
+use crate::parts::{Cluster, Limits, Load};
+use crate::schedule::schedule_under;
 use crate::table::truth_or;
-use jh_env::Env;
-use jh_gen::Gen;
 use jh_ops::Workload;
-use jh_simnode::{Plan, PlanData, PlanError, Settings, Store};
+use jh_simnode::{Plan, PlanData, PlanError, Schedule, Settings};
 use std::alloc::Global;
 use toml::Table;
 
@@ -69,28 +69,28 @@ fn made_plan(alloc: Global, parts: PlanData) -> Result<Plan, SettingsError>
 }
 
 /// What a table means under `start`, `store`, `workload` and `generator`.
-fn cluster_of(alloc: Global, table: &Table) -> Result<(Env, Store, Workload, Gen), SettingsError>
+fn cluster_of(alloc: Global, table: &Table) -> Result<Cluster, SettingsError>
     ensures { MatchResult result
-        (λ parts. IsParsedCluster (table_view table.now)
-        parts.0 parts.1 parts.2 (generator_of parts.3))
+        (IsParsedCluster (table_view table.now))
         (RefusesKeyValues (IsGood (table_view table.now)) cluster_keys) }
 {
     let environment = start_under(alloc, table)?;
     let store = store_under(table)?;
     let workload = workload_under(table)?;
     let generator = generator_under(alloc, table, Key::Generator)?;
-    Ok((environment, store, workload, generator))
+    Ok(Cluster {
+        environment,
+        store,
+        workload,
+        generator,
+    })
 }
 
 /// What a table means under `clients`, `ops`, `mode`, `volatile` and `initial`.
-fn load_of(
-    table: &Table,
-    workload: Workload,
-) -> Result<(u32, u32, Mode, bool, Option<i64>), SettingsError>
+fn load_of(table: &Table, workload: Workload) -> Result<Load, SettingsError>
     requires { parsed_workload (table_view table.now) ≡ Some workload }
     ensures { MatchResult result
-        (λ parts. IsParsedLoad (table_view table.now)
-        parts.0 parts.1 parts.2 parts.3 parts.4)
+        (IsParsedLoad (table_view table.now))
         (RefusesKeyValues (IsGood (table_view table.now)) load_keys) }
 {
     let clients = clients_under(table)?;
@@ -98,51 +98,78 @@ fn load_of(
     let mode = mode_under(table)?;
     let volatile = truth_or(table, Key::Volatile, false)?;
     let initial = initial_under(table, is_register(workload))?;
-    Ok((clients, ops, mode, volatile, initial))
+    Ok(Load {
+        clients,
+        ops,
+        mode,
+        volatile,
+        initial,
+    })
 }
 
 /// What a table means under `tick_every`, `rows`, `seed` and `budget`.
-fn limits_of(table: &Table) -> Result<(u32, u32, u64, u64), SettingsError>
+fn limits_of(table: &Table) -> Result<Limits, SettingsError>
     ensures { MatchResult result
-        (λ parts. AreParsedLimits (table_view table.now) parts.0 parts.1 parts.2 parts.3)
+        (AreParsedLimits (table_view table.now))
         (RefusesKeyValues (IsGood (table_view table.now)) limit_keys) }
 {
     let tick_every = tick_every_under(table)?;
     let rows = rows_under(table)?;
     let seed = seed_under(table)?;
     let budget = budget_under(table)?;
-    Ok((tick_every, rows, seed, budget))
+    Ok(Limits {
+        tick_every,
+        rows,
+        seed,
+        budget,
+    })
+}
+
+/// The data of a plan of these parts.
+fn data_of(cluster: Cluster, load: Load, limits: Limits, schedule: Schedule) -> PlanData
+    ensures { result ≡ rule.data_of_parts cluster load limits schedule }
+{
+    let Cluster {
+        environment,
+        store,
+        workload,
+        generator,
+    } = cluster;
+    PlanData {
+        environment,
+        settings: Settings {
+            store,
+            volatile: load.volatile,
+            workload,
+            initial: load.initial,
+        },
+        clients: load.clients,
+        ops: load.ops,
+        generator,
+        schedule,
+        tick_every: limits.tick_every,
+        rows: limits.rows,
+        seed: limits.seed,
+    }
 }
 
 /// The settings that the values of a table mean, read in the order of `run_keys`.
 fn settings_in(alloc: Global, table: &Table) -> Result<RunSettings, SettingsError>
-    requires { HasKnownKeys rule.run_keys (table_view table.now) }
+    requires { HasKnownKeys keys.run_keys (table_view table.now) }
     ensures { MatchResult result
         (λ settings. AreSettings (table_view table.now) settings.plan settings.mode settings.budget)
         (RefusesDocumentValues (table_view table.now)) }
 {
-    let (environment, store, workload, generator) = cluster_of(alloc, table)?;
-    let (clients, ops, mode, volatile, initial) = load_of(table, workload)?;
-    let (tick_every, rows, seed, budget) = limits_of(table)?;
-    let schedule = schedule_under(alloc, table, environment.nodes())?;
-    let parts = PlanData {
-        environment,
-        settings: Settings {
-            store,
-            volatile,
-            workload,
-            initial,
-        },
-        clients,
-        ops,
-        generator,
-        schedule,
-        tick_every,
-        rows,
-        seed,
-    };
-    let plan = made_plan(alloc, parts)?;
-    Ok(RunSettings { plan, mode, budget })
+    let cluster = cluster_of(alloc, table)?;
+    let load = load_of(table, cluster.workload)?;
+    let limits = limits_of(table)?;
+    let schedule = schedule_under(alloc, table, cluster.environment.nodes())?;
+    let plan = made_plan(alloc, data_of(cluster, load, limits, schedule))?;
+    Ok(RunSettings {
+        plan,
+        mode: load.mode,
+        budget: limits.budget,
+    })
 }
 
 /// The settings that bytes mean, a TOML document in UTF-8. A missing mode means `Mode::Threads`.
@@ -160,6 +187,6 @@ pub fn settings_of(alloc: Global, bytes: &[u8]) -> Result<RunSettings, SettingsE
         (RefusesSettings bytes.now) }
 {
     let table = table_of(alloc, bytes)?;
-    judge_keys(alloc, &table, run_keys(), needed_run_keys())?;
+    refuse_unknown_or_missing_keys(alloc, &table, run_keys(), needed_run_keys())?;
     settings_in(alloc, &table)
 }

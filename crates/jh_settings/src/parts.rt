@@ -1,0 +1,36 @@
+//! What settings mean, some keys after others in their order. `specs/Inside.antt` says which keys.
+
+use crate::choices::Mode;
+use jh_env::Env;
+use jh_gen::Gen;
+use jh_ops::Workload;
+use jh_simnode::Store;
+
+/// Where calls are answered, and which calls may come.
+#[derive(Drop)]
+pub(crate) struct Cluster {
+    pub environment: Env,
+    pub store: Store,
+    pub workload: Workload,
+    pub generator: Gen,
+}
+
+/// How many calls come, how they run, and what they find at first.
+#[derive(Clone, Copy, Drop)]
+pub(crate) struct Load {
+    pub clients: u32,
+    pub ops: u32,
+    pub mode: Mode,
+    pub volatile: bool,
+    pub initial: Option<i64>,
+}
+
+/// How often a client thread ticks, how large the log is, how all is chosen, and how much the
+/// judgement may take.
+#[derive(Clone, Copy, Drop)]
+pub(crate) struct Limits {
+    pub tick_every: u32,
+    pub rows: u32,
+    pub seed: u64,
+    pub budget: u64,
+}
