@@ -4,26 +4,21 @@ use Rattle.std.specs.Prelude.{Result, Ok, Err, IfOk, IfErr, IsErrAnd, IsErrOf}
 use Rattle.clap.specs.Words.{Text, subcommand_rows_of}
 use Rattle.clap.specs.declared.error.Error.{Error}
 use Rattle.clap.specs.declared.parser.matches.ArgMatches.{ArgMatches}
-use Rattle.jh_cli.specs.CheckText.{TakesInitial, TakesModel}
 use Rattle.jh_cli.specs.Outputs.{OnInput, WritesOutput}
-use Rattle.jh_cli.specs.TimelineText.{TakesInitialBy, TakesModelBy}
 use Rattle.jh_cli.specs.declared.error.CliError.{CliError}
-use Rattle.jh_cli.specs.declared.error.CliError.TheVariants.{OnlyForRegister, OnlyForListAppend, BadPalette, Write}
-use Rattle.jh_cli.specs.declared.check_command.CheckQuestion.{CheckQuestion}
-use Rattle.jh_cli.specs.declared.search_command.SearchQuestion.{SearchQuestion}
-use Rattle.jh_cli.specs.declared.timeline_command.TimelineQuestion.{TimelineQuestion}
+use Rattle.jh_cli.specs.declared.error.CliError.TheVariants.{Write}
 use Rattle.jh_drive.specs.Drive.{IsDriven}
 use Rattle.jh_drive.specs.declared.error.DriveError.{DriveError}
 use Rattle.jh_drive.specs.declared.error.DriveError.TheVariants.{Settings}
 use Rattle.jh_settings.specs.declared.error.SettingsError.{SettingsError}
 use Rattle.jh_edn.specs.Edn.{Edn}
-use Rattle.jh_arguments.specs.Answers.{ArgumentsAskForTest, ArgumentsGive, GivesSteps, HasNoSteps, IsUnscheduled, IsConductedTo, IsCommandDone, IsFailed, IsFileUnread, IsOfOptions, IsUnfinished, RefusesOptions, of_command, of_test}
-use Rattle.jh_arguments.specs.Commands.{SubcommandHasSchedule, SubcommandIsDrive, SubcommandIs, IsOutputOf, RefusesCommand}
+use Rattle.jh_arguments.specs.Answers.{ArgumentsAskForTest, ArgumentsGive, GivesSteps, HasNoSteps, IsUnscheduled, IsConductedTo, IsCommandDone, IsFailed, IsFileUnread, IsUnfinished, of_command, of_test}
+use Rattle.jh_arguments.specs.Commands.{SubcommandHasSchedule, SubcommandIsDrive, SubcommandIs, IsOfOptions, IsOutputOf, RefusesCommand, RefusesOptions}
+use Rattle.jh_arguments.proofs.OptionRefusals.{is_of_options}
 use Rattle.jh_arguments.specs.Line.{AreMatches, IsRefused}
 use Rattle.jh_arguments.specs.declared.answers.Refusal.{Refusal}
 use Rattle.jh_arguments.specs.declared.answers.Refusal.TheVariants as Refusals
 use Rattle.jh_arguments.specs.declared.commands.Command.{Command}
-use Rattle.jh_arguments.specs.declared.commands.Command.TheVariants.{Check, Search, Timeline}
 
 pub asked_by : (arguments : List Text) (matches : ArgMatches) (command : Command) (steps : List Edn) → AreMatches arguments matches → SubcommandIs (subcommand_rows_of matches) command
     → GivesSteps (subcommand_rows_of matches) steps → ArgumentsGive arguments command steps
@@ -39,40 +34,19 @@ without_steps arguments matches e (app, line, fault, rows, found) (path, has) wh
 pub asked_test_by : (arguments : List Text) (matches : ArgMatches) (path : Text) → AreMatches arguments matches → SubcommandIsDrive (subcommand_rows_of matches) path → ArgumentsAskForTest arguments path
 asked_test_by arguments matches path (app, line, fault, rows, found) asks = (app, line, fault, subst (λ o. SubcommandIsDrive o path) found asks)
 
--- what `run` says of the options of a command
+-- what `do_command` says of the options of a command
 pub record SaysOfOptions {R : Type 0} (command : Command) (r : Result ℕ CliError) (old new : R) : Type 0 where
-  pub asked : (question : CheckQuestion) → command ≡ Check question → IsErrOf r OnlyForRegister ↔ (TakesInitial question.judging.checker question.judging.initial → ⊥)
-  pub unread : (question : CheckQuestion) → command ≡ Check question → IsErrOf r OnlyForRegister → new ≡ old
-  pub asked_model : (question : CheckQuestion) → command ≡ Check question
-      → IsErrOf r OnlyForListAppend
-      ↔ (TakesInitial question.judging.checker question.judging.initial × (TakesModel question.judging.checker question.judging.model → ⊥))
-  pub unread_model : (question : CheckQuestion) → command ≡ Check question → IsErrOf r OnlyForListAppend → new ≡ old
-  pub timeline_asked : (question : TimelineQuestion) → command ≡ Timeline question → IsErrOf r OnlyForRegister ↔ (TakesInitialBy question.judging → ⊥)
-  pub timeline_unread : (question : TimelineQuestion) → command ≡ Timeline question → IsErrOf r OnlyForRegister → new ≡ old
-  pub timeline_model : (question : TimelineQuestion) → command ≡ Timeline question
-      → IsErrOf r OnlyForListAppend ↔ (TakesInitialBy question.judging × (TakesModelBy question.judging → ⊥))
-  pub timeline_unread_model : (question : TimelineQuestion) → command ≡ Timeline question → IsErrOf r OnlyForListAppend → new ≡ old
-  pub named : (question : SearchQuestion) → command ≡ Search question → IsErrOf r BadPalette ↔ (question.palette ≡ None)
-  pub unread_unnamed : (question : SearchQuestion) → command ≡ Search question → IsErrOf r BadPalette → new ≡ old
+  pub options : (error : CliError) → IsOfOptions command error → IsErrOf r error ↔ RefusesOptions command error
+  pub unread : (error : CliError) → IsOfOptions command error → IsErrOf r error → new ≡ old
 
 -- options that are refused are refused so
 refused_so : {R : Type 0} (command : Command) (r : Result ℕ CliError) (old new : R) → SaysOfOptions command r old new → (refusal : CliError) → RefusesOptions command refusal → IsErrOf r refusal
-refused_so (Check question) r old new says OnlyForRegister refuses = (says.asked question refl).1 refuses
-refused_so (Check question) r old new says OnlyForListAppend refuses = (says.asked_model question refl).1 refuses
-refused_so (Timeline question) r old new says OnlyForRegister refuses = (says.timeline_asked question refl).1 refuses
-refused_so (Timeline question) r old new says OnlyForListAppend refuses = (says.timeline_model question refl).1 refuses
-refused_so (Search question) r old new says BadPalette refuses = (says.named question refl).1 refuses
-refused_so _ r old new says _ refuses = absurd refuses
+refused_so command r old new says refusal refuses = (says.options refusal (is_of_options command refusal refuses)).1 refuses
 
 -- and one that is of the options comes of them, with nothing read
 of_options : {R : Type 0} (command : Command) (r : Result ℕ CliError) (old new : R) → SaysOfOptions command r old new → (e : CliError) → IsErrOf r e → IsOfOptions command e
     → RefusesOptions command e × (new ≡ old)
-of_options (Check question) r old new says OnlyForRegister is of = ((says.asked question refl).0 is, says.unread question refl is)
-of_options (Check question) r old new says OnlyForListAppend is of = ((says.asked_model question refl).0 is, says.unread_model question refl is)
-of_options (Timeline question) r old new says OnlyForRegister is of = ((says.timeline_asked question refl).0 is, says.timeline_unread question refl is)
-of_options (Timeline question) r old new says OnlyForListAppend is of = ((says.timeline_model question refl).0 is, says.timeline_unread_model question refl is)
-of_options (Search question) r old new says BadPalette is of = ((says.named question refl).0 is, says.unread_unnamed question refl is)
-of_options _ r old new says _ is of = absurd of
+of_options command r old new says e is of = ((says.options e of).0 is, says.unread e of is)
 
 the_same : (e refusal : CliError) → ◌≡◌ {A = Result ℕ CliError} (Err e) (Err refusal) → e ≡ refusal
 the_same e refusal both = cc

@@ -9,4 +9,5 @@ pub mod PassedCommand
 pub mod OnceLemmas
 pub mod SameWalk
 pub mod AskedLemmas
+pub mod OptionRefusals
 pub mod AnswerLemmas

@@ -1,14 +1,10 @@
 -- What the program does for its arguments (this project's own): the command that they ask for, what is
 -- written, and why it may end otherwise.
-use Rattle.std.specs.Prelude.{◌≡◌, ◌⊎◌, ℕ, List, [], Option, None, Result, Ok, Err}
+use Rattle.std.specs.Prelude.{◌≡◌, ◌⊎◌, ℕ, List, [], Option, Result, Ok, Err}
 use Rattle.clap.specs.Words.{App, Row, Text, fault_of, subcommand_of}
 use Rattle.jh_edn.specs.Edn.{Edn}
-use Rattle.jh_cli.specs.CheckText.{TakesInitial, TakesModel}
 use Rattle.jh_cli.specs.Outputs.{OnInput, WritesOutput}
-use Rattle.jh_cli.specs.TimelineText.{TakesInitialBy, TakesModelBy}
 use Rattle.jh_cli.specs.declared.error.CliError.{CliError}
-use Rattle.jh_cli.specs.declared.error.CliError.TheVariants.{OnlyForRegister, OnlyForListAppend}
-use Rattle.jh_cli.specs.declared.error.CliError.TheVariants.{BadPalette}
 use Rattle.jh_cli.specs.declared.error.CliError.TheVariants as failures
 use Rattle.jh_drive.specs.Drive.{IsDriven}
 use Rattle.jh_drive.specs.declared.error.DriveError.{DriveError}
@@ -17,12 +13,11 @@ use Rattle.jh_settings.specs.Settings.{RefusesSettings}
 use Rattle.jh_settings.specs.declared.error.SettingsError.{SettingsError}
 use Rattle.jh_settings_texts.specs.ScheduleSteps.{AreStepsIn}
 use Rattle.jh_arguments.specs.Commands.{SubcommandHasSchedule, SubcommandIs, SubcommandIsDrive}
-use Rattle.jh_arguments.specs.Commands.{IsOutputOf, RefusesCommand}
+use Rattle.jh_arguments.specs.Commands.{IsOfOptions, IsOutputOf, RefusesCommand, RefusesOptions}
 use Rattle.jh_arguments.specs.Line.{IsCommandLine}
 use Rattle.jh_arguments.specs.declared.answers.Refusal.{Refusal}
 use Rattle.jh_arguments.specs.declared.answers.Refusal.TheVariants as Refusals
 use Rattle.jh_arguments.specs.declared.commands.Command.{Command}
-use Rattle.jh_arguments.specs.declared.commands.Command.TheVariants.{Check, Search, Timeline}
 
 -- ---- what arguments ask for
 
@@ -37,30 +32,6 @@ abbrev pub ArgumentsAskForTest : List Text → Text → Type 0
 ArgumentsAskForTest arguments path =
     (app : App) × IsCommandLine app × (fault_of app arguments ≡ [])
     × SubcommandIsDrive (subcommand_of app arguments) path
-
--- ---- what a command is refused for before it reads
-
--- The command may end with this error for its options alone.
-abbrev pub IsOfOptions : Command → CliError → Type 0
-IsOfOptions (Check question) OnlyForRegister = Unit {0}
-IsOfOptions (Check question) OnlyForListAppend = Unit {0}
-IsOfOptions (Timeline question) OnlyForRegister = Unit {0}
-IsOfOptions (Timeline question) OnlyForListAppend = Unit {0}
-IsOfOptions (Search question) BadPalette = Unit {0}
-IsOfOptions command e = ⊥
-
--- Its options do not go with one another, or name no kinds of faults, and this says so.
-abbrev pub RefusesOptions : Command → CliError → Type 0
-RefusesOptions (Check question) OnlyForRegister =
-    TakesInitial question.judging.checker question.judging.initial → ⊥
-RefusesOptions (Check question) OnlyForListAppend =
-    TakesInitial question.judging.checker question.judging.initial
-    × (TakesModel question.judging.checker question.judging.model → ⊥)
-RefusesOptions (Timeline question) OnlyForRegister = TakesInitialBy question.judging → ⊥
-RefusesOptions (Timeline question) OnlyForListAppend =
-    TakesInitialBy question.judging × (TakesModelBy question.judging → ⊥)
-RefusesOptions (Search question) BadPalette = question.palette ≡ None
-RefusesOptions command e = ⊥
 
 -- ---- by which steps a page names records
 

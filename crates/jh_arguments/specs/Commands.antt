@@ -8,11 +8,11 @@ use Rattle.std.specs.Str.Parse.{without_leading_sign}
 use Rattle.clap.specs.Words.{Row, Text, first_of, one_of}
 use Rattle.jh_edn.specs.Edn.{Edn}
 use Rattle.jh_cli.specs.EnvText.{IsEnvTextOf}
-use Rattle.jh_cli.specs.CheckText.{IsCheckTextOf}
+use Rattle.jh_cli.specs.CheckText.{IsCheckTextOf, TakesInitial, TakesModel}
 use Rattle.jh_cli.specs.RunText.{IsRunTextOf}
 use Rattle.jh_cli.specs.ShrinkText.{IsShrinkTextOf}
 use Rattle.jh_cli.specs.SearchText.{IsSearchTextOf}
-use Rattle.jh_cli.specs.TimelineText.{IsTimelineTextOf}
+use Rattle.jh_cli.specs.TimelineText.{IsTimelineTextOf, TakesInitialBy, TakesModelBy}
 use Rattle.jh_cli.specs.PlotText.{IsPlotTextOf}
 use Rattle.jh_cli.specs.EnvRefusals.{RefusesEnv}
 use Rattle.jh_cli.specs.CheckRefusals.{RefusesCheck}
@@ -22,6 +22,8 @@ use Rattle.jh_cli.specs.SearchRefusals.{RefusesSearch}
 use Rattle.jh_cli.specs.TimelineRefusals.{RefusesTimeline}
 use Rattle.jh_cli.specs.PlotRefusals.{RefusesPlot}
 use Rattle.jh_cli.specs.declared.error.CliError.{CliError}
+use Rattle.jh_cli.specs.declared.error.CliError.TheVariants.{OnlyForRegister, OnlyForListAppend}
+use Rattle.jh_cli.specs.declared.error.CliError.TheVariants.{BadPalette}
 use Rattle.jh_cli.specs.declared.check_command.CheckQuestion.{CheckQuestion}
 use Rattle.jh_cli.specs.declared.search_command.SearchQuestion.{SearchQuestion}
 use Rattle.jh_cli.specs.declared.search_command.Show.{Show}
@@ -189,6 +191,28 @@ IsOutputOf (Search question) steps input status output = IsSearchTextOf question
 IsOutputOf (Timeline question) steps input status output =
     IsTimelineTextOf question steps input status output
 IsOutputOf Plot steps input status output = IsPlotTextOf input status output
+
+-- The command may end with this error for its options alone.
+abbrev pub IsOfOptions : Command → CliError → Type 0
+IsOfOptions (Check question) OnlyForRegister = Unit {0}
+IsOfOptions (Check question) OnlyForListAppend = Unit {0}
+IsOfOptions (Timeline question) OnlyForRegister = Unit {0}
+IsOfOptions (Timeline question) OnlyForListAppend = Unit {0}
+IsOfOptions (Search question) BadPalette = Unit {0}
+IsOfOptions command e = ⊥
+
+-- Its options do not go with one another, or name no kinds of faults, and this says so.
+abbrev pub RefusesOptions : Command → CliError → Type 0
+RefusesOptions (Check question) OnlyForRegister =
+    TakesInitial question.judging.checker question.judging.initial → ⊥
+RefusesOptions (Check question) OnlyForListAppend =
+    TakesInitial question.judging.checker question.judging.initial
+    × (TakesModel question.judging.checker question.judging.model → ⊥)
+RefusesOptions (Timeline question) OnlyForRegister = TakesInitialBy question.judging → ⊥
+RefusesOptions (Timeline question) OnlyForListAppend =
+    TakesInitialBy question.judging × (TakesModelBy question.judging → ⊥)
+RefusesOptions (Search question) BadPalette = question.palette ≡ None
+RefusesOptions command e = ⊥
 
 -- why it refuses an input, or does not do its work
 abbrev pub RefusesCommand : Command → List Edn → List ℕ → CliError → Type 0

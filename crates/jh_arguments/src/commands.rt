@@ -7,9 +7,8 @@ ghost use Rattle.std.specs.Prelude.{IsNone, IsErrOf, None, Some, option_and_then
 ghost use Rattle.clap.specs.Words.{Text, first_of, found_of, one_of, rows_of, subcommand_rows_of};
 ghost use Rattle.jh_edn.specs.View.{views};
 ghost use Rattle.jh_checkers.specs.declared.finding.Judging.{Judging};
-ghost use Rattle.jh_cli.specs.CheckText.{TakesInitial, TakesModel};
 ghost use Rattle.jh_cli.specs.Outputs.{OnInput, WritesOutput};
-ghost use Rattle.jh_cli.specs.TimelineText.{TakesInitialBy, TakesModelBy};
+ghost use Rattle.jh_cli.specs.declared.error.CliError.{CliError as CliErrorData};
 ghost use Rattle.jh_cli.specs.declared.error.CliError.TheVariants as CliError;
 ghost use Rattle.jh_arguments.specs.Commands.{AsksCheck, SubcommandHasSchedule, SubcommandIs};
 ghost use Rattle.jh_arguments.specs.Commands.{SubcommandIsDrive, IsGivenWithin};
@@ -17,9 +16,10 @@ ghost use Rattle.jh_arguments.specs.Commands.{AsksSearch, IsShow};
 ghost use Rattle.jh_arguments.specs.Commands.{AsksTimeline, HasNumbersInRange, IsFlag, IsIndex};
 ghost use Rattle.jh_arguments.specs.Commands.{IsInitial, IsNumberWithin};
 ghost use Rattle.jh_arguments.specs.Commands.{IsJudging, IsJudgingBy, IsNumber};
-ghost use Rattle.jh_arguments.specs.Commands.{IsOutputOf, IsThreads, RefusesCommand};
+ghost use Rattle.jh_arguments.specs.Commands.{IsOfOptions, IsOutputOf, IsThreads, RefusesCommand};
+ghost use Rattle.jh_arguments.specs.Commands.{RefusesOptions};
 ghost use Rattle.jh_arguments.specs.declared.commands.Command.{Command};
-ghost use Rattle.jh_arguments.specs.declared.commands.Command.TheVariants.{Check, Search, Timeline};
+ghost use Rattle.jh_arguments.specs.declared.commands.Command.TheVariants.{Search};
 ghost use Rattle.jh_checkers.specs.Models.{model_named as model_of_name};
 ghost use Rattle.jh_arguments.specs.Palettes as rule;
 ghost use Rattle.jh_cli.specs.declared.check_command.CheckQuestion.{CheckQuestion};
@@ -314,7 +314,8 @@ fn palette_of(options: &ArgMatches<'_>) -> Option<Palette>
 /// | 2 | it is not known whether it is valid | the budget was used up | none found, and some are unknown | |
 ///
 /// The error has the status otherwise: 3 for an input that is refused, 4 for an error of the machine or
-/// a run that was not completed. Nothing is written before any error but `Write`.
+/// a run that was not completed. Options that do not go with one another, or that name no kinds of faults, are
+/// refused before anything is read. Nothing is written before any error but `Write`.
 ///
 /// The steps are those by which `timeline` names the records of the nemesis; no other command looks at them.
 ///
@@ -332,30 +333,10 @@ pub fn do_command<T: Threads + Wait + Sync, R: Read, W: Write, O: Observer + Sea
     requires { HasNumbersInRange command }
     ensures written { IfOk result (λ status. WritesOutput (R.remaining reader.old)
         (IsOutputOf command (views steps.now)) status (W.contents writer.old) (W.contents writer.new)) }
-    ensures asked { (question : CheckQuestion) → command ≡ Check question
-        → IsErrOf result CliError.OnlyForRegister
-        ↔ (TakesInitial question.judging.checker question.judging.initial → ⊥) }
-    ensures unread { (question : CheckQuestion) → command ≡ Check question
-        → IsErrOf result CliError.OnlyForRegister → reader.new ≡ reader.old }
-    ensures asked_model { (question : CheckQuestion) → command ≡ Check question
-        → IsErrOf result CliError.OnlyForListAppend
-        ↔ (TakesInitial question.judging.checker question.judging.initial
-        × (TakesModel question.judging.checker question.judging.model → ⊥)) }
-    ensures unread_model { (question : CheckQuestion) → command ≡ Check question
-        → IsErrOf result CliError.OnlyForListAppend → reader.new ≡ reader.old }
-    ensures timeline_asked { (question : TimelineQuestion) → command ≡ Timeline question
-        → IsErrOf result CliError.OnlyForRegister ↔ (TakesInitialBy question.judging → ⊥) }
-    ensures timeline_unread { (question : TimelineQuestion) → command ≡ Timeline question
-        → IsErrOf result CliError.OnlyForRegister → reader.new ≡ reader.old }
-    ensures timeline_model { (question : TimelineQuestion) → command ≡ Timeline question
-        → IsErrOf result CliError.OnlyForListAppend
-        ↔ (TakesInitialBy question.judging × (TakesModelBy question.judging → ⊥)) }
-    ensures timeline_unread_model { (question : TimelineQuestion) → command ≡ Timeline question
-        → IsErrOf result CliError.OnlyForListAppend → reader.new ≡ reader.old }
-    ensures named { (question : SearchQuestion) → command ≡ Search question
-        → IsErrOf result CliError.BadPalette ↔ (question.palette ≡ None) }
-    ensures unread_unnamed { (question : SearchQuestion) → command ≡ Search question
-        → IsErrOf result CliError.BadPalette → reader.new ≡ reader.old }
+    ensures options { (error : CliErrorData) → IsOfOptions command error
+        → IsErrOf result error ↔ RefusesOptions command error }
+    ensures unread { (error : CliErrorData) → IsOfOptions command error → IsErrOf result error
+        → reader.new ≡ reader.old }
     ensures refused { IfErr result (λ e. OnInput (R.remaining reader.old)
         (λ input. RefusesCommand command (views steps.now) input e)) }
     ensures unwritten { IfErr result (λ e. e ≢ CliError.Write → writer.new ≡ writer.old) }

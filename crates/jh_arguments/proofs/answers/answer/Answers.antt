@@ -122,18 +122,7 @@ commanded g c =
     let asked = asked_by _ c.in-Ok.matches c.in-Some-command_of.command steps c.in-Ok.ensures.found c.in-Some-command_of.ensures.parsed gives in
     let ends = command_ends _ (g.R.Read.remaining c.args.streams.now.reader) (g.R.Read.remaining c.do_command.new.reader) (g.W.Write.contents c.args.streams.now.writer) (g.W.Write.contents c.do_command.new.writer)
     c.args.streams.now.reader c.do_command.new.reader c.args.streams.now.writer c.do_command.new.writer c.in-Some-command_of.command steps c.do_command.result asked
-    (record {
-      asked = says.asked;
-      unread = says.unread;
-      asked_model = says.asked_model;
-      unread_model = says.unread_model;
-      timeline_asked = says.timeline_asked;
-      timeline_unread = says.timeline_unread;
-      timeline_model = says.timeline_model;
-      timeline_unread_model = says.timeline_unread_model;
-      named = says.named;
-      unread_unnamed = says.unread_unnamed;
-    }) says.written says.refused says.unwritten in
+    (record { options = says.options; unread = says.unread }) says.written says.refused says.unwritten in
     subst (Ends (map g.S.AsStr.text c.args.arguments.now) (g.R.Read.remaining c.args.streams.now.reader) (g.R.Read.remaining c.do_command.new.reader) (g.W.Write.contents c.args.streams.now.writer)
     (g.W.Write.contents c.do_command.new.writer) c.args.streams.now.reader c.do_command.new.reader c.args.streams.now.writer c.do_command.new.writer) (sym c.of_command.ensures) ends
 
