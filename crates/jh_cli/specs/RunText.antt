@@ -11,9 +11,7 @@ use Rattle.jh_simnode.specs.declared.events.Event.{Event}
 use Rattle.jh_simnode.specs.Laws.{state_at}
 use Rattle.jh_simnode.specs.Plans.{PlanValue}
 use Rattle.jh_simnode.specs.Runs.{setup_of}
-use Rattle.jh_audit.specs.Audit.{IsAudited}
-use Rattle.jh_audit.specs.Plans.{FollowsPlan}
-use Rattle.jh_workers.specs.Shown.{IsJournal}
+use Rattle.jh_workers.specs.Outcomes.{IsOutcome}
 use Rattle.jh_judged_runs.specs.JudgedRuns.{IsJudgedRun, run_judging}
 use Rattle.jh_settings.specs.Settings.{AreSettingsOf}
 use Rattle.jh_settings.specs.declared.choices.Mode.{Mode}
@@ -35,14 +33,6 @@ IsSerialText p budget status output =
     (journal : List Event) × (history : List Operation) × (finding : Finding)
     × IsJudgedRun p budget journal history finding
     × IsRunOutput (state_at (setup_of p) journal) history finding status output
-
--- what a run of a plan on threads gives: a legal journal and a history that tell the same and keep
--- to the plan
-pub record IsOutcome (p : PlanValue) (journal : List Event)
-    (history : List Operation) : Type 0 where
-  pub legal : IsJournal journal
-  pub audited : IsAudited journal history
-  pub planned : FollowsPlan p journal history
 
 -- For a plan that is run on threads. The faults are those that the journal's steps lead to from the
 -- start of the plan on.

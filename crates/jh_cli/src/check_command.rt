@@ -133,7 +133,7 @@ fn judge_by<T: Threads + Wait + Sync>(
         (RefusesJudging question (operations history.now)) }
 {
     if question.independent {
-        judge_keys(rt, alloc, history, question.judging, question.threads)
+        judge_keys_on_threads(rt, alloc, history, question.judging, question.threads)
     } else {
         judge_whole(alloc, history, question.judging)
     }
@@ -148,8 +148,8 @@ fn judge_whole(alloc: Global, history: &[Op], judging: Judging) -> Result<Output
     Ok(jh_reports::judge_whole(alloc, history, judging)?)
 }
 
-/// What is written for the history of each key.
-fn judge_keys<T: Threads + Wait + Sync>(
+/// What is written for the history of each key, where several threads judge.
+fn judge_keys_on_threads<T: Threads + Wait + Sync>(
     rt: &T,
     alloc: Global,
     history: &[Op],

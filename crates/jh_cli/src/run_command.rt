@@ -3,7 +3,7 @@
 //! `specs/RunText.antt`, why an input is refused or a run not completed in
 //! `specs/RunRefusals.antt`.
 
-ghost use Rattle.std.specs.Prelude.{◌≡◌, ◌≢◌, [], IfOk, IfErr, MatchResult};
+ghost use Rattle.std.specs.Prelude.{◌≡◌, ◌≢◌, IfOk, IfErr, MatchResult};
 ghost use Rattle.jh_ops.specs.Operation.{operations};
 ghost use Rattle.jh_checkers.specs.Checkers.{checker_of};
 ghost use Rattle.jh_checkers.specs.Findings.{IsFinding};
@@ -13,8 +13,9 @@ ghost use Rattle.jh_cli.specs.Outputs.{OnInput, WritesOutput};
 ghost use Rattle.jh_cli.specs.RunInside.{recorded_history_error};
 ghost use Rattle.jh_cli.specs.RunRefusals.{RefusesRunBytes, RefusesRecorded, RefusesRun, RefusesSerial};
 ghost use Rattle.jh_cli.specs.RunRefusals.{RefusesRunIn, RefusesThreads};
-ghost use Rattle.jh_cli.specs.RunText.{IsOutcome, IsRunOutput, IsRunText, IsRunTextOf};
+ghost use Rattle.jh_cli.specs.RunText.{IsRunOutput, IsRunText, IsRunTextOf};
 ghost use Rattle.jh_cli.specs.RunText.{IsSerialText, IsThreadsText};
+ghost use Rattle.jh_workers.specs.Outcomes.{IsOutcome};
 
 use crate::error::CliError;
 use crate::output::{MAX_READS, finish};
@@ -27,17 +28,12 @@ use jh_ops::Op;
 use jh_reports::{Output, output_of_finding, write_report};
 use jh_run_laws::recorded_lines_are_text;
 use jh_settings::{Mode, RunSettings, settings_of};
-use jh_simnode::{Event, Plan, World, nemesis_after, world_of};
-use jh_workers::{LockedWorld, Outcome, RunError as ThreadsError, run};
+use jh_simnode::{Plan, nemesis_after};
+use jh_workers::{RecordedRun, RunError as ThreadsError, run_locked};
 use std::alloc::{AllocError, Global};
 use std::io::{Read, Write};
-use std::marker::Brand;
 use std::sync::Wait;
-use std::sync::ledger::{Blank, Ledger};
 use std::thread::Threads;
-
-/// The parts of the ledger of a run's world, from which each of its threads has a share.
-const WORLD_PARTS: u64 = 32;
 
 /// Reads settings in TOML as `jh_settings::settings_of` does, makes the run in their mode, and
 /// writes a line for each operation of its history, one with the ids of the active faults, one with
@@ -46,10 +42,11 @@ const WORLD_PARTS: u64 = 32;
 /// before the first byte is written.
 ///
 /// A serial run gives the same history for the same input each time
-/// (`jh_run_laws::same_settings_same_run`), and the same order of a register, as tests show. A run
-/// on threads may wait, and promises only if it returns; it may give another history each time,
-/// which comes from an outcome of `jh_workers::run`, and its two lines of faults are what the steps
-/// of the outcome's journal make of the settings' start.
+/// (`jh_run_laws::same_settings_same_run`), and the same order of a register, as tests show.
+///
+/// A run on threads is one of `jh_workers::run_locked`. It may wait, and promises only if it returns.
+/// It may give another history each time. Its two lines of faults show what the steps of its journal
+/// make of the start that the settings have.
 ///
 /// Errors: an error of reading (`Input`, `Read`); `Settings`; of a serial run `Run` where in a
 /// whole round no thread got a call; of one on threads `HistoryFull`, `Thread`, `Mismatch` or `Run`
@@ -72,7 +69,7 @@ pub fn run_run<T: Threads + Wait + Sync, R: Read, W: Write>(
     finish(output, writer)
 }
 
-/// All that is written for these bytes.
+/// Reads settings, makes their run, and gives all that is written of it.
 fn run_bytes<T: Threads + Wait + Sync>(
     rt: &T,
     alloc: Global,
@@ -89,7 +86,7 @@ fn run_bytes<T: Threads + Wait + Sync>(
     }
 }
 
-/// All that is written of a run.
+/// Makes a run in the mode of its settings, and gives all that is written of it.
 fn run_text<T: Threads + Wait + Sync>(
     rt: &T,
     alloc: Global,
@@ -106,7 +103,7 @@ fn run_text<T: Threads + Wait + Sync>(
     }
 }
 
-/// All that is written of a serial run.
+/// Runs the plan serially, and gives all that is written of the run.
 fn serial_text(alloc: Global, plan: &Plan, budget: u64) -> Result<Output, CliError>
     ensures { MatchResult result
         (λ output. IsSerialText plan.now budget output.status output.text.items)
@@ -116,7 +113,7 @@ fn serial_text(alloc: Global, plan: &Plan, budget: u64) -> Result<Output, CliErr
     Ok(output_of(alloc, run.world.nemesis(), &run.history, &run.finding)?)
 }
 
-/// All that is written of a run on threads.
+/// Runs the plan on threads, and gives all that is written of the run.
 fn threads_text<T: Threads + Wait + Sync>(
     rt: &T,
     alloc: Global,
@@ -127,69 +124,40 @@ fn threads_text<T: Threads + Wait + Sync>(
         (λ output. IsThreadsText plan.now budget output.status output.text.items)
         RefusesThreads }
 {
-    let (history, journal) = match run_threads(rt, alloc, plan) {
-        Ok(outcome) => outcome,
+    let run = match run_on_threads(rt, alloc, plan) {
+        Ok(run) => run,
         Err(error) => return Err(CliError::from(error)),
     };
-    let nemesis = match nemesis_after(alloc, plan, journal.as_slice()) {
+    let nemesis = match nemesis_after(alloc, plan, run.journal.as_slice()) {
         Ok(nemesis) => nemesis,
         Err(error) => return Err(CliError::from(error)),
     };
-    let finding = match judge_recorded(alloc, plan, &history, budget) {
+    let finding = match judge_recorded(alloc, plan, &run.history, budget) {
         Ok(finding) => finding,
         Err(error) => return Err(error),
     };
-    Ok(output_of(alloc, &nemesis, &history, &finding)?)
+    Ok(output_of(alloc, &nemesis, &run.history, &finding)?)
 }
 
-/// A run of the plan on threads, over a locked world of its own: the history and the journal.
-fn run_threads<T: Threads + Wait + Sync>(
+/// Runs the plan on threads. The lines of the history that this gives are a text of that history.
+fn run_on_threads<T: Threads + Wait + Sync>(
     rt: &T,
     alloc: Global,
     plan: &Plan,
-) -> Result<(Vec<Op>, Vec<Event>), ThreadsError>
-    ensures outcome { IfOk result (λ run. IsOutcome plan.now run.1.items (operations run.0.items)) }
-    ensures text { IfOk result
-        (λ run. IsTextOfHistory (history_lines (operations run.0.items)) (operations run.0.items)) }
-{
-    let Ok(world) = world_of(alloc, plan) else {
-        return Err(ThreadsError::OutOfMemory);
-    };
-    run_over::<Brand, T>(rt, alloc, plan, world, Blank::new(WORLD_PARTS))
-}
-
-/// The same over this world, whose shares are counted by a ledger of this name.
-fn run_over<L: Ledger + Send + Sync, T: Threads + Wait + Sync>(
-    rt: &T,
-    alloc: Global,
-    plan: &Plan,
-    world: World,
-    blank: Blank,
-) -> Result<(Vec<Op>, Vec<Event>), ThreadsError>
-    requires empty { world.journal ≡ [] }
-    requires name { blank.name ≡ L.name }
-    requires parts { blank.parts ≡ L.parts }
-    requires number { blank.parts ≡ 32 }
-    ensures outcome { IfOk result (λ run. IsOutcome plan.now run.1.items (operations run.0.items)) }
-    ensures text { IfOk result
-        (λ run. IsTextOfHistory (history_lines (operations run.0.items)) (operations run.0.items)) }
+) -> Result<RecordedRun, ThreadsError>
+    ensures outcome { IfOk result
+        (λ run. IsOutcome plan.now run.journal.items (operations run.history.items)) }
+    ensures text { IfOk result (λ run. IsTextOfHistory
+        (history_lines (operations run.history.items)) (operations run.history.items)) }
 {
     recorded_lines_are_text();
-    let port = LockedWorld::<L>::new(world, blank);
-    match run(rt, alloc, plan, &port) {
-        Ok(outcome) => {
-            let Outcome {
-                history,
-                journal,
-                shares: _,
-            } = outcome;
-            Ok((history, journal))
-        }
+    match run_locked(rt, alloc, plan) {
+        Ok(run) => Ok(run),
         Err(error) => Err(error),
     }
 }
 
-/// What it means that the checker refuses the history of a run on threads.
+/// The error of the command where the checker refuses the history of a run on threads.
 fn recorded_history_error(error: CheckError) -> CliError
     ensures { result ≡ recorded_history_error error }
 {
@@ -199,7 +167,7 @@ fn recorded_history_error(error: CheckError) -> CliError
     }
 }
 
-/// What is found in the history of a run of the plan on threads.
+/// What the checker of the plan's workload finds in the history of its run on threads.
 fn judge_recorded(
     alloc: Global,
     plan: &Plan,
@@ -216,8 +184,8 @@ fn judge_recorded(
     }
 }
 
-/// All that is written of a history, of the faults that are left and what they make, and of what is
-/// found.
+/// All that is written of a run: its history, the faults that are still active, the environment that
+/// they make, and what was found.
 fn output_of(
     alloc: Global,
     nemesis: &Nemesis,

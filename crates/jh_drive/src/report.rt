@@ -15,10 +15,9 @@ use crate::calls::{CallObserver, counts_of};
 use crate::error::DriveError;
 use jh_checkers::Judging;
 use jh_conversation::Conversation;
-use jh_independent::check_keys_serial;
 use jh_lines::Machine;
 use jh_ops::Op;
-use jh_reports::{Output, judge_whole, output_of_keys, write_active, write_environment};
+use jh_reports::{Output, judge_keys, judge_whole, write_active, write_environment};
 use std::alloc::{AllocError, Global};
 use std::io::Write;
 
@@ -49,17 +48,16 @@ fn known_of(alloc: Global, conversation: &Conversation) -> Result<Vec<u8>, Alloc
     Ok(text)
 }
 
-/// Judges a history of independent keys.
-fn judge_keys(alloc: Global, history: &[Op], judging: Judging) -> Result<Output, DriveError>
+/// Judges the history of each key.
+fn judge_by_keys(alloc: Global, history: &[Op], judging: Judging) -> Result<Output, DriveError>
     ensures { MatchResult result
         (λ output. IsKeysText judging (operations history.now) output.status output.text.items)
         (RefusesToJudge true judging (operations history.now)) }
 {
-    let found = match check_keys_serial(alloc, history, judging) {
-        Ok(found) => found,
-        Err(error) => return Err(DriveError::from(error)),
-    };
-    Ok(output_of_keys(alloc, &found)?)
+    match judge_keys(alloc, history, judging) {
+        Ok(output) => Ok(output),
+        Err(error) => Err(DriveError::from(error)),
+    }
 }
 
 /// Judges a history as one.
@@ -91,7 +89,7 @@ fn judge_history<O: CallObserver>(
     let history = conversation.history()?;
     observer.see_calls(counts_of(&history));
     match conversation.test().keys() {
-        Some(_) => judge_keys(alloc, &history, judging),
+        Some(_) => judge_by_keys(alloc, &history, judging),
         None => judge_one(alloc, &history, judging),
     }
 }

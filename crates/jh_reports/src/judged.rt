@@ -1,11 +1,12 @@
 //! What is written of what a checker finds. `specs/Judged.antt` has the rule.
 
-ghost use Rattle.std.specs.Prelude.{◌≡◌, IfOk, MatchResult};
+ghost use Rattle.std.specs.Prelude.{◌≡◌, IfOk, IsErrOf, MatchResult};
 ghost use Rattle.jh_checkers.specs.Findings.{finding_verdict};
 ghost use Rattle.jh_checkers.specs.Lines.{finding_line};
 ghost use Rattle.jh_independent.specs.Lines.{keys_line, verdict_of_all};
+ghost use Rattle.jh_independent.specs.Refusals.{RefusesKeys, keys_question};
 ghost use Rattle.jh_ops.specs.Operation.{operations};
-ghost use Rattle.jh_reports.specs.Judged.{IsWholeText, RefusesLine};
+ghost use Rattle.jh_reports.specs.Judged.{IsKeysText, IsWholeText, RefusesLine};
 ghost use Rattle.jh_reports.specs.Lines.{line};
 ghost use Rattle.jh_reports.specs.Reports.{verdict_status};
 
@@ -13,7 +14,7 @@ use crate::lines::{finding_text, keys_text};
 use crate::statuses::status_of;
 use jh_check::CheckError;
 use jh_checkers::{Finding, Judging, check_history};
-use jh_independent::{KeyFinding, verdict_of_all};
+use jh_independent::{KeyFinding, KeysError, check_keys_serial, verdict_of_all};
 use jh_ops::Op;
 use std::alloc::{AllocError, Global};
 
@@ -50,6 +51,20 @@ pub fn judge_whole(alloc: Global, history: &[Op], judging: Judging) -> Result<Ou
 {
     let finding = check_history(alloc, history, judging)?;
     Ok(output_of_finding(alloc, &finding)?)
+}
+
+/// Judges the history of each key, one key after another: the line of what is found of all keys, with
+/// the exit status of the verdict on them.
+///
+/// Errors: those of `jh_independent::check_keys_serial`, `OutOfMemory` also where the line had no room.
+pub fn judge_keys(alloc: Global, history: &[Op], judging: Judging) -> Result<Output, KeysError>
+    ensures judged { MatchResult result
+        (λ output. IsKeysText judging (operations history.now) output.status output.text.items)
+        (RefusesKeys (keys_question judging (operations history.now))) }
+    ensures alone { IsErrOf result KeysError.Thread → ⊥ }
+{
+    let found = check_keys_serial(alloc, history, judging)?;
+    Ok(output_of_keys(alloc, &found)?)
 }
 
 /// The line of what is found of all keys, with the exit status of the verdict on them.

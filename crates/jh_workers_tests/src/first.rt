@@ -1,14 +1,9 @@
 //! First calls of `jh_workers`, as its README shows them.
 
-ghost use Rattle.std.specs.Prelude.{◌≡◌, []};
-
 use crate::runs::plan_of;
-use jh_simnode::{Plan, World, world_of};
-use jh_workers::{LockedWorld, run};
+use jh_workers::run_locked;
 use std::alloc::Global;
-use std::marker::Brand;
 use std::sync::Wait;
-use std::sync::ledger::{Blank, Ledger};
 use std::thread::Threads;
 
 /// Settings of a run of two clients.
@@ -20,29 +15,11 @@ const SETTINGS: &str = r#"
     clients = 2
     ops = 4"#;
 
-/// How many records the history of a run on threads has, over a new world whose ledger has this name.
-fn records_over<L: Ledger + Send + Sync, R: Threads + Wait + Sync>(
-    rt: &R,
-    alloc: Global,
-    plan: &Plan,
-    world: World,
-    blank: Blank,
-) -> Option<usize>
-    requires empty { world.journal ≡ [] }
-    requires name { blank.name ≡ L.name }
-    requires parts { blank.parts ≡ L.parts }
-    requires number { blank.parts ≡ 32 }
-{
-    let port = LockedWorld::<L>::new(world, blank);
-    let outcome = run(rt, alloc, plan, &port).ok()?;
-    Some(outcome.history.len())
-}
-
 /// How many records the history of a run on threads has.
 fn records_of<R: Threads + Wait + Sync>(rt: &R, alloc: Global) -> Option<usize> {
     let plan = plan_of(alloc, SETTINGS)?;
-    let world = world_of(alloc, &plan).ok()?;
-    records_over::<Brand, R>(rt, alloc, &plan, world, Blank::new(32))
+    let run = run_locked(rt, alloc, &plan).ok()?;
+    Some(run.history.len())
 }
 
 #[test]
