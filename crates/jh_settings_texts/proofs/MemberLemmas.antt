@@ -7,6 +7,7 @@ use Rattle.jh_env.specs.TextWritten.{text_of}
 use Rattle.jh_ops.specs.declared.call.Workload.{Workload}
 use Rattle.jh_ops.specs.Requests.{workload_name, workload_named, max_calls_of}
 use Rattle.jh_gen_texts.specs.GeneratorWritten.{text_of_generator}
+use Rattle.jh_simnode.specs.StoreNames.{store_name, store_named}
 use Rattle.jh_simnode.specs.declared.settings.Store.{Store}
 use Rattle.jh_simnode.specs.declared.schedule.Entry.{Entry}
 use Rattle.jh_simnode.specs.Plans.{PlanValue}
@@ -14,8 +15,8 @@ use Rattle.jh_settings.specs.declared.keys.Key.{Key}
 use Rattle.jh_settings.specs.declared.choices.Mode.{Mode}
 use Rattle.jh_settings.specs.Keys.{HasKnownKeys, data_under, is_key_name, run_keys}
 use Rattle.jh_settings.specs.Kinds.{choice_in, needed_value, whole_number_in}
-use Rattle.jh_settings.specs.Parsed.{store_of, mode_of, is_register, initial_of, parsed_store, parsed_workload, parsed_clients, parsed_ops, parsed_mode, parsed_volatile, parsed_initial, parsed_tick_every, parsed_rows, parsed_seed, parsed_budget}
-use Rattle.jh_settings_texts.specs.DocumentWritten.{document_of, keyed_members, members_before_initial, initial_member, members_behind_initial, store_name, printed_text, whole_number, schedule_texts, spread_texts, schedule_document}
+use Rattle.jh_settings.specs.Parsed.{mode_of, is_register, initial_of, parsed_store, parsed_workload, parsed_clients, parsed_ops, parsed_mode, parsed_volatile, parsed_initial, parsed_tick_every, parsed_rows, parsed_seed, parsed_budget}
+use Rattle.jh_settings_texts.specs.DocumentWritten.{document_of, keyed_members, members_before_initial, initial_member, members_behind_initial, printed_text, whole_number, schedule_texts, spread_texts, schedule_document}
 use Rattle.jh_settings_texts.specs.declared.schedule.Spread.{Spread}
 
 -- the document, with this held at first
@@ -90,7 +91,7 @@ module _ (p : PlanValue) (budget : ℕ) where
 
 -- ---- what the values mean
 
-store_back : (s : Store) → store_of (store_name s) ≡ Some s
+store_back : (s : Store) → store_named (store_name s) ≡ Some s
 store_back Store.Quorum = refl
 store_back Store.Lww = refl
 store_back Store.Local = refl
@@ -116,7 +117,7 @@ module _ (p : PlanValue) (budget : ℕ) where
   initial_back w (Some z) h = ap (initial_of (is_register w)) (some_initial p budget z) ∙ ap (λ v. initial_of (is_register v) (Some (integer z))) h
 
   pub store_parsed : parsed_store (document_of p budget) ≡ Some p.settings.store
-  store_parsed = ap (λ d. option_and_then store_of (option_and_then as_str d)) (store_with p budget p.settings.initial) ∙ store_back p.settings.store
+  store_parsed = ap (λ d. option_and_then store_named (option_and_then as_str d)) (store_with p budget p.settings.initial) ∙ store_back p.settings.store
 
   pub workload_parsed : parsed_workload (document_of p budget) ≡ Some p.settings.workload
   workload_parsed = ap (λ d. option_and_then workload_named (option_and_then as_str d)) (workload_with p budget p.settings.initial) ∙ workload_back p.settings.workload

@@ -11,18 +11,12 @@ use Rattle.jh_env.specs.TextWritten.{text_of}
 use Rattle.jh_step_texts.specs.StepWritten.{text_of_step}
 use Rattle.jh_ops.specs.Requests.{workload_name}
 use Rattle.jh_gen_texts.specs.GeneratorWritten.{text_of_generator}
-use Rattle.jh_simnode.specs.declared.settings.Store.{Store}
+use Rattle.jh_simnode.specs.StoreNames.{store_name}
 use Rattle.jh_simnode.specs.declared.schedule.Entry.{Entry}
 use Rattle.jh_simnode.specs.Plans.{PlanValue}
 use Rattle.jh_settings.specs.declared.keys.Key.{Key}
 use Rattle.jh_settings.specs.Keys.{key_name}
 use Rattle.jh_settings_texts.specs.declared.schedule.Spread.{Spread}
-
--- the name by which a store is chosen
-abbrev pub store_name : Store → List ℕ
-store_name Store.Quorum = codes "quorum"
-store_name Store.Lww = codes "lww"
-store_name Store.Local = codes "local"
 
 -- the text that is printed of a value of EDN
 abbrev pub printed_text : Edn → Data

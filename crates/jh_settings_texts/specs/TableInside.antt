@@ -13,10 +13,11 @@ use Rattle.jh_ops.specs.Requests.{workload_name}
 use Rattle.jh_gen.specs.GeneratorText.{parsed_generator}
 use Rattle.jh_gen_texts.specs.GeneratorWritten.{text_of_generator}
 use Rattle.jh_simnode.specs.Plans.{PlanValue, IsKeptPlan}
+use Rattle.jh_simnode.specs.StoreNames.{store_name}
 use Rattle.jh_settings.specs.declared.keys.Key.{Key}
 use Rattle.jh_settings.specs.Keys.{key_name}
 use Rattle.jh_laws.specs.StepLines.{IsStepOver}
-use Rattle.jh_settings_texts.specs.DocumentWritten.{store_name, printed_text, whole_number}
+use Rattle.jh_settings_texts.specs.DocumentWritten.{printed_text, whole_number}
 use Rattle.jh_settings_texts.specs.DocumentWritten.{schedule_texts}
 use Rattle.jh_settings_texts.specs.SettingsWritten.{LeadsToOthers}
 use Rattle.jh_settings_texts.specs.StartInside.{IsStarting}

@@ -14,7 +14,6 @@ ghost use Rattle.jh_gen.specs.GeneratorText.{parsed_generator};
 ghost use Rattle.jh_gen_texts.specs.GeneratorWritten.{text_of_generator};
 ghost use Rattle.jh_simnode.specs.Plans.{IsKeptPlan};
 ghost use Rattle.jh_laws.specs.StepLines.{IsStepOver};
-ghost use Rattle.jh_settings_texts.specs.DocumentWritten as document;
 ghost use Rattle.jh_settings_texts.specs.DocumentWritten.{document_of, schedule_document};
 ghost use Rattle.jh_settings_texts.specs.DocumentWritten.{spread_texts, whole_number};
 ghost use Rattle.jh_settings_texts.specs.SettingsWritten.{CanBeWritten, LeadsToOthers};
@@ -26,20 +25,9 @@ use crate::schedule::Spread;
 use jh_env::Nodes;
 use jh_ops::Workload;
 use jh_settings::Key;
-use jh_simnode::{Entry, Plan, Store};
+use jh_simnode::{Entry, Plan};
 use std::alloc::{AllocError, Global};
 use toml::{Table, Value};
-
-/// The name of a store, as settings have it.
-fn store_name(store: Store) -> &'static str
-    ensures { result.now ≡ document.store_name store }
-{
-    match store {
-        Store::Quorum => "quorum",
-        Store::Lww => "lww",
-        Store::Local => "local",
-    }
-}
 
 /// The name of a workload, as settings have it.
 fn workload_name(workload: Workload) -> &'static str
@@ -97,7 +85,7 @@ fn put_cluster(alloc: Global, table: &mut Table, plan: &Plan) -> Result<(), Allo
     put(alloc, table, Key::Start, Value::from(start))?;
     let generator = generator_text(alloc, plan.generator())?;
     put(alloc, table, Key::Generator, Value::from(generator))?;
-    put_text(alloc, table, Key::Store, store_name(plan.store()))?;
+    put_text(alloc, table, Key::Store, plan.store().name())?;
     put_text(alloc, table, Key::Workload, workload_name(plan.workload()))
 }
 
