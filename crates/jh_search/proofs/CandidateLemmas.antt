@@ -15,7 +15,7 @@ use Rattle.jh_step_texts.proofs.FaultOrderLemmas.{in_order_fits, in_order_stays}
 use Rattle.jh_step_texts.proofs.LinkLemmas.{all_from, kept, range_more}
 use Rattle.jh_simnode.specs.declared.schedule.Entry.{Entry}
 use Rattle.jh_simnode.specs.Limits.{max_entries}
-use Rattle.jh_simnode.specs.Plans.{PlanValue, IsFit, RefusesPlan}
+use Rattle.jh_simnode.specs.Plans.{PlanValue, RefusesSchedule}
 use Rattle.jh_simnode.specs.declared.plan.PlanError.TheVariants as PlanError
 use Rattle.jh_env.specs.Faults.{FaultValue, is_self_link}
 use Rattle.jh_env.specs.Faults.{Cut, Slow, Loss, Fix, Pause, Kill, Bump}
@@ -69,24 +69,14 @@ one_entry_more p entries entry are fits said =
       | false ↦ λ full. are
     ] refl
 
--- a plan that can be run is refused only as out of memory
-pub plan_refused : (p : PlanValue) (e : PlanError.the_data) → IsFit p → RefusesPlan p e → e ≡ PlanError.OutOfMemory
-plan_refused p PlanError.BadClients fit refused = absurd (refused fit.clients)
-plan_refused p PlanError.BadOps fit refused = absurd (refused.1 fit.ops)
-plan_refused p PlanError.BadRows fit refused = absurd (refused.2 fit.rows)
-plan_refused p PlanError.BadGenerator fit refused = absurd (refused.3 fit.generator)
-plan_refused p PlanError.BadStep fit refused = absurd (refused.4 fit.steps)
-plan_refused p PlanError.OutOfMemory fit refused = refl
-
--- the plan with other entries and another seed can be run as well
-pub fit_replanned : (p : PlanValue) (entries : List Entry) (seed : ℕ) → IsFit p → AreEntriesFor p entries → IsFit (candidate_plan p entries seed)
-fit_replanned p entries seed fit are = record {
-  clients = fit.clients;
-  ops = fit.ops;
-  rows = fit.rows;
-  generator = fit.generator;
-  steps = are.fit;
-}
+-- such entries are refused only as out of memory
+pub entries_refused : (p : PlanValue) (entries : List Entry) (e : PlanError.the_data) → AreEntriesFor p entries → RefusesSchedule p entries e → e ≡ PlanError.OutOfMemory
+entries_refused p entries PlanError.BadClients are refused = absurd refused
+entries_refused p entries PlanError.BadOps are refused = absurd refused
+entries_refused p entries PlanError.BadRows are refused = absurd refused
+entries_refused p entries PlanError.BadGenerator are refused = absurd refused
+entries_refused p entries PlanError.BadStep are refused = absurd (refused are.fit)
+entries_refused p entries PlanError.OutOfMemory are refused = refl
 
 -- in order, a step fits where it did
 step_fits : (count : ℕ) (step : Step) → FitsNodes count step → FitsNodes count (step_in_order step)

@@ -15,7 +15,7 @@ use crate::kinds::{FaultKind, kinds_of};
 use crate::options::Options;
 use crate::random_faults::fault_drawn;
 use jh_nemesis::Step;
-use jh_simnode::{Entry, Plan, PlanData, PlanError, Schedule, Settings};
+use jh_simnode::{Entry, Plan, PlanError, Schedule};
 use rand_pcg::Lcg128Xsl64;
 use std::alloc::{AllocError, Global};
 
@@ -208,24 +208,8 @@ fn candidate_plan(
     let Ok(schedule) = Schedule::of(entries) else {
         unreachable!()
     };
-    let fields = PlanData {
-        environment: plan.environment().copy(alloc)?,
-        settings: Settings {
-            store: plan.store(),
-            volatile: plan.volatile(),
-            workload: plan.workload(),
-            initial: plan.initial(),
-        },
-        clients: plan.clients(),
-        ops: plan.ops(),
-        generator: plan.generator().copy(alloc)?,
-        schedule,
-        tick_every: plan.tick_every(),
-        rows: plan.rows(),
-        seed,
-    };
-    let made = Plan::new(alloc, fields);
-    made_plan(made)
+    let made = made_plan(plan.with_schedule(alloc, schedule))?;
+    Ok(made.with_seed(seed))
 }
 
 /// The seed of the candidate of this number, which settings may have.
