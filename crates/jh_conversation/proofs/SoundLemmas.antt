@@ -44,7 +44,7 @@ use Rattle.jh_conversation.specs.Turn.{due_in_phase, group_of, has_come_to, if_d
 use Rattle.jh_conversation.specs.Turn.{may_call, told}
 use Rattle.jh_test_parts.specs.declared.calls.ValuedCall.{ValuedCall}
 use Rattle.jh_conversation.specs.declared.callers.Caller.{Caller}
-use Rattle.jh_test_parts.specs.declared.parts.Entry.{Entry}
+use Rattle.jh_test_parts.specs.declared.parts.TestEntry.{TestEntry}
 use Rattle.jh_test_parts.specs.declared.parts.KeyShares.{KeyShares}
 use Rattle.jh_conversation.specs.declared.phase.Phase.{Phase}
 use Rattle.jh_conversation.specs.declared.phase.Phase.TheVariants.{Main, Heal, Rest, Final, Over}
@@ -357,10 +357,10 @@ abbrev IsSmallDue : TestValue → Option Due → Type 0
 IsSmallDue t None = Unit {0}
 IsSmallDue t (Some due) = (due.entry ≤ 1024) × FitsNodes (length t.start.names) due.step
 
-entry_is : (x y : Entry) → Some x ≡ Some y → x ≡ y
+entry_is : (x y : TestEntry) → Some x ≡ Some y → x ≡ y
 entry_is x y e = cc
 
-all_at : (P : Entry → Type 0) (xs : List Entry) (i : ℕ) (x : Entry) → All P xs → slice_get xs i ≡ Some x → P x
+all_at : (P : TestEntry → Type 0) (xs : List TestEntry) (i : ℕ) (x : TestEntry) → All P xs → slice_get xs i ≡ Some x → P x
 all_at P xs i x all e =
     let within = slice_get_within xs i x e in
     subst P (entry_is (get_or xs i x) x (sym (slice_get-get_or xs i x within) ∙ e)) (all i x within)
@@ -369,7 +369,7 @@ all_at P xs i x all e =
 pub small_due : (t : TestValue) → IsFitTest t → (m : Machine) (due : Due) → due_in_phase m.phase t m ≡ Some due → (due.entry ≤ 1024) × FitsNodes (length t.start.names) due.step
 small_due t fit m due e = subst (IsSmallDue t) e (go m.phase)
   where
-    of_entry : (entry : Option Entry) → slice_get t.schedule m.taken ≡ entry → IsSmallDue t (if_due m entry)
+    of_entry : (entry : Option TestEntry) → slice_get t.schedule m.taken ≡ entry → IsSmallDue t (if_due m entry)
     of_entry None e = tt
     of_entry (Some entry) e =
         let there = slice_get_within t.schedule m.taken entry e in

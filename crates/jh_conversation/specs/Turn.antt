@@ -30,7 +30,7 @@ use Rattle.jh_test_parts.specs.Transactions.{TransactionSource, next_transaction
 use Rattle.jh_test_parts.specs.declared.calls.ValuedCall.{ValuedCall}
 use Rattle.jh_conversation.specs.declared.callers.OpenStep.{OpenStep}
 use Rattle.jh_conversation.specs.declared.turns.Due.{Due}
-use Rattle.jh_test_parts.specs.declared.parts.Entry.{Entry}
+use Rattle.jh_test_parts.specs.declared.parts.TestEntry.{TestEntry}
 use Rattle.jh_test_parts.specs.declared.parts.KeyShares.{KeyShares}
 use Rattle.jh_conversation.specs.declared.phase.Phase.{Phase}
 use Rattle.jh_conversation.specs.declared.phase.Phase.TheVariants.{Main, Heal, Rest, Final, Over}
@@ -80,7 +80,7 @@ abbrev pub has_come_to : When → Machine → Bool
 has_come_to (Calls n) m = nat_le n m.answered
 has_come_to (Milliseconds n) m = nat_le (n * millisecond) m.clock
 
-abbrev pub if_due : Machine → Option Entry → Option Due
+abbrev pub if_due : Machine → Option TestEntry → Option Due
 if_due m None = None
 if_due m (Some entry) =
     if has_come_to entry.at m then Some (record { entry = m.taken; step = entry.step }) else None

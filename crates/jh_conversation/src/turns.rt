@@ -19,7 +19,7 @@ use jh_gen::{Driver, GenAnswer, GenError, Thread};
 use jh_nemesis::{Nemesis, Step};
 use jh_ops::{Call, Request};
 use jh_test_parts::{
-    CellsTold, Datum, Entry, KeyShares, NamedCells, Recorded, Test, ValuedCall, When,
+    CellsTold, Datum, KeyShares, NamedCells, Recorded, Test, TestEntry, ValuedCall, When,
 };
 use rand_core::utils::NextWord;
 use std::alloc::{AllocError, Global};
@@ -139,7 +139,7 @@ impl Machine {
     }
 
     /// The step of the next entry, if it is due.
-    fn if_due(&self, alloc: Global, entry: &Entry) -> Result<Option<Due>, AllocError>
+    fn if_due(&self, alloc: Global, entry: &TestEntry) -> Result<Option<Due>, AllocError>
         ensures { IfOk result (λ due. due ≡ rule.if_due self.now (Some entry.now)) }
     {
         if !self.has_come_to(entry.at) {

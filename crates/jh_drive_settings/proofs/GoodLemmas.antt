@@ -13,7 +13,7 @@ use Rattle.jh_settings.specs.Readers.{RefusesValue, RefusesKeyValues}
 use Rattle.jh_settings.specs.Refusals.{AreGood}
 use Rattle.jh_settings.proofs.OrderLemmas.{refused_front, refused_behind, good_append, is_parsed}
 use Rattle.jh_settings.proofs.StartLemmas.{nodes_once}
-use Rattle.jh_test_parts.specs.declared.parts.Entry.{Entry}
+use Rattle.jh_test_parts.specs.declared.parts.TestEntry.{TestEntry}
 use Rattle.jh_drive_settings.specs.declared.parts.Asked.{Asked}
 use Rattle.jh_drive_settings.specs.declared.parts.Details.{Details}
 use Rattle.jh_drive_settings.specs.declared.parts.Pace.{Pace}
@@ -70,11 +70,11 @@ module _ (document : Members) where
   last_bad (BadValue key) h = inl (h.0, λ good. h.1 (subst (IsGoodForTest document) (sym h.0) good))
   last_bad OutOfMemory h = tt
 
-  no_schedule : (env : EnvValue) → IsParsedStart document env → (((entries : List Entry) × IsParsedTestSchedule env.names document entries) → ⊥) → IsGoodForTest document Key.Schedule → ⊥
+  no_schedule : (env : EnvValue) → IsParsedStart document env → (((entries : List TestEntry) × IsParsedTestSchedule env.names document entries) → ⊥) → IsGoodForTest document Key.Schedule → ⊥
   no_schedule env start none good =
       none (good.1, subst (λ names. IsParsedTestSchedule names document good.1) (nodes_once document good.0 env good.2 start) good.3)
 
-  entries_bad : (env : EnvValue) (e : SettingsError) → IsParsedStart document env → RefusesValue ((entries : List Entry) × IsParsedTestSchedule env.names document entries) Key.Schedule e → Refuses (Key.Schedule ∷ []) e
+  entries_bad : (env : EnvValue) (e : SettingsError) → IsParsedStart document env → RefusesValue ((entries : List TestEntry) × IsParsedTestSchedule env.names document entries) Key.Schedule e → Refuses (Key.Schedule ∷ []) e
   entries_bad env NotToml start h = absurd h
   entries_bad env (Unknown name) start h = absurd h
   entries_bad env (Missing key) start h = absurd h
@@ -106,7 +106,7 @@ module _ (document : Members) where
   details_refused e asked a pace p g f h = after_last e asked a pace p g f (refused_front (IsGoodForTest document) detail_keys (Key.Schedule ∷ []) e h)
 
   pub schedule_refused : (e : SettingsError) (asked : Asked) → IsParsedAsked document asked → (pace : Pace) → IsParsedPace document pace → (g : Option Generator) → IsParsedFinal document g → (details : Details) → AreParsedDetails document details
-      → RefusesValue ((entries : List Entry) × IsParsedTestSchedule asked.environment.names document entries) Key.Schedule e → Refuses drive_keys e
+      → RefusesValue ((entries : List TestEntry) × IsParsedTestSchedule asked.environment.names document entries) Key.Schedule e → Refuses drive_keys e
   schedule_refused e asked a pace p g f details d h =
       after_last e asked a pace p g f (refused_behind (IsGoodForTest document) detail_keys (Key.Schedule ∷ []) e (details_good details d) (entries_bad asked.environment e a.start h))
 

@@ -8,17 +8,17 @@ use Rattle.jh_settings.specs.declared.error.SettingsError.{SettingsError}
 use Rattle.jh_settings.specs.declared.error.SettingsError.TheVariants.{NotToml, Unknown, Missing, BadValue, OutOfMemory}
 use Rattle.jh_settings.specs.declared.keys.Key.{Key}
 use Rattle.jh_settings.specs.Keys.{HasKnownKeys, data_under, drive_keys}
-use Rattle.jh_settings.specs.Parsed.{IsScheduleOf}
+use Rattle.jh_settings.specs.Parsed.{IsMeant, IsScheduleOf}
 use Rattle.jh_settings.proofs.ElementLemmas.{none_not}
 use Rattle.jh_settings.proofs.PlanLemmas.{has_clients, needed_is}
-use Rattle.jh_test_parts.specs.declared.parts.Entry.{Entry}
+use Rattle.jh_test_parts.specs.declared.parts.TestEntry.{TestEntry}
 use Rattle.jh_test_parts.specs.declared.parts.KeyShares.{KeyShares}
 use Rattle.jh_checkers.specs.declared.checker.Checker.{Checker}
 use Rattle.jh_test_parts.specs.declared.test.TestError.{TestError}
 use Rattle.jh_test_parts.specs.Test.{TestValue, IsFitTest, RefusesTest, HasSchedule, HasTransactions}
 use Rattle.jh_drive_settings.specs.declared.parts.Parts.{Parts}
 use Rattle.jh_drive_settings.specs.Inside.{AreParsedParts, RefusesShares, RefusesAllowed, RefusesDriveValues, lone_key, test_of_parts, test_refusal}
-use Rattle.jh_drive_settings.specs.Parsed.{IsParsedTestEntry, parsed_checker, parsed_test_ops, parsed_threads_per_key, parsed_ops_per_key, transaction_number}
+use Rattle.jh_drive_settings.specs.Parsed.{parsed_checker, parsed_test_entry, parsed_test_ops, parsed_threads_per_key, parsed_ops_per_key, transaction_number}
 use Rattle.jh_drive_settings.specs.Settings.{AreDriveSettings, IsFinalAllowed, IsLoneShare, IsParsedTest}
 use Rattle.jh_drive_settings.proofs.GoodLemmas.{all_good}
 use Rattle.jh_drive_settings.proofs.ShareLemmas.{number_between, share_missing, share_there}
@@ -32,7 +32,7 @@ lone_share document checker is (Some n) None h k key e =
     subst (IsLoneShare document) (same_Some Key.OpsPerKey key e) (share_missing 1000000 Key.OpsPerKey document checker is k, share_there 16 Key.ThreadsPerKey document checker is n h)
 lone_share document checker is (Some n) (Some m) h k key e = absurd (none_not key e)
 
-few_entries : (Means : Data → Entry → Type 0) (o : Option Data) (entries : List Entry) → IsScheduleOf Means o entries → length entries ≤ 1024
+few_entries : (Means : Data → TestEntry → Type 0) (o : Option Data) (entries : List TestEntry) → IsScheduleOf Means o entries → length entries ≤ 1024
 few_entries Means None entries h = omega (arith, ap length h)
 few_entries Means (Some (array values)) entries h = h.1
 few_entries Means (Some value) entries h = absurd h
@@ -72,7 +72,7 @@ module _ (document : Members) (parts : Parts) (parsed : AreParsedParts document 
     }
 
     has_schedule : HasSchedule (test_of_parts parts shares)
-    has_schedule = (few_entries (IsParsedTestEntry parts.asked.environment.names) (data_under Key.Schedule document) parts.schedule.items parsed.entries, parsed.steps)
+    has_schedule = (few_entries (IsMeant (parsed_test_entry parts.asked.environment.names)) (data_under Key.Schedule document) parts.schedule.items parsed.entries, parsed.steps)
 
     has_transactions : HasTransactions (test_of_parts parts shares)
     has_transactions =

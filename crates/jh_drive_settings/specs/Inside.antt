@@ -1,7 +1,6 @@
 -- What the parts of the code say to each other (this project's own).
 use Rattle.std.specs.Prelude.{◌≡◌, ◌⊎◌, ℕ, List, [], ◌∷◌, All, length, Option, Some, None, option_map}
-use Rattle.std.specs.Prelude.{MatchOption}
-use Rattle.toml.specs.Data.{Data, Members}
+use Rattle.toml.specs.Data.{Members}
 use Rattle.jh_env.specs.Overlay.{StandsFor}
 use Rattle.jh_gen.specs.View.{generator_of}
 use Rattle.jh_nemesis.specs.Steps.{FitsNodes}
@@ -13,7 +12,6 @@ use Rattle.jh_settings.specs.Keys.{drive_keys}
 use Rattle.jh_settings.specs.Parsed.{IsParsedStart, IsParsedGenerator, parsed_clients, parsed_seed}
 use Rattle.jh_settings.specs.Parsed.{parsed_budget}
 use Rattle.jh_settings.specs.Refusals.{AreGood}
-use Rattle.jh_test_parts.specs.declared.parts.Entry.{Entry}
 use Rattle.jh_test_parts.specs.declared.parts.KeyShares.{KeyShares}
 use Rattle.jh_test_parts.specs.declared.parts.TransactionShape.{TransactionShape}
 use Rattle.jh_test_parts.specs.declared.test.TestError.{TestError}
@@ -26,15 +24,9 @@ use Rattle.jh_drive_settings.specs.Parsed.{parsed_checker, parsed_test_ops, pars
 use Rattle.jh_drive_settings.specs.Parsed.{parsed_rate, parsed_threads_per_key, parsed_ops_per_key}
 use Rattle.jh_drive_settings.specs.Parsed.{parsed_recovery, IsParsedFinal, parsed_test_initial}
 use Rattle.jh_drive_settings.specs.Parsed.{parsed_keys, parsed_max_txn, parsed_appends_per_key}
-use Rattle.jh_drive_settings.specs.Parsed.{parsed_model, IsParsedTestEntry, IsParsedTestSchedule}
+use Rattle.jh_drive_settings.specs.Parsed.{parsed_model, IsParsedTestSchedule}
 use Rattle.jh_drive_settings.specs.Refusals.{IsGoodForTest}
 use Rattle.jh_drive_settings.specs.Settings.{IsBadDriveValue, IsFinalAllowed, IsLoneShare}
-
--- what is found is the entry that a value means
-abbrev pub IsTestEntryIn : List (List ℕ) → Data → Option Entry → Type 0
-IsTestEntryIn names value found =
-    MatchOption found ((entry : Entry) → IsParsedTestEntry names value entry → ⊥)
-    (IsParsedTestEntry names value)
 
 -- the keys of a test's parts, some behind others, and what a document means under them
 abbrev pub asked_keys : List Key

@@ -5,7 +5,7 @@ use Rattle.std.specs.Prelude.{◌≡◌, ℕ, ℤ, pos, Bool, true, false, not, 
 use Rattle.std.specs.Prelude.{nat_le, if◌then◌else◌, Option, Some, None, option_map, option_and_then}
 use Rattle.std.specs.Prelude.{Result, Ok, Err}
 use Rattle.std.specs.Str.{bytes_eq}
-use Rattle.toml.specs.Data.{Data, Members}
+use Rattle.toml.specs.Data.{Members}
 use Rattle.jh_edn.specs.Edn.{Edn, int, keyword, elements_of}
 use Rattle.jh_step_texts.specs.StepText.{parsed_step}
 use Rattle.jh_nemesis.specs.declared.steps.Step.{Step}
@@ -16,9 +16,9 @@ use Rattle.jh_txn.specs.declared.model.ConsistencyModel.{ConsistencyModel}
 use Rattle.jh_settings.specs.declared.keys.Key.{Key}
 use Rattle.jh_settings.specs.Keys.{data_under, is_missing}
 use Rattle.jh_settings.specs.Kinds.{needed_value, value_or_default, choice_in, choice_under}
-use Rattle.jh_settings.specs.Kinds.{whole_number_in, IsElement}
-use Rattle.jh_settings.specs.Parsed.{IsGeneratorUnder, IsScheduleOf, initial_of}
-use Rattle.jh_test_parts.specs.declared.parts.Entry.{Entry}
+use Rattle.jh_settings.specs.Kinds.{whole_number_in}
+use Rattle.jh_settings.specs.Parsed.{IsGeneratorUnder, IsScheduleUnder, initial_of}
+use Rattle.jh_test_parts.specs.declared.parts.TestEntry.{TestEntry}
 use Rattle.jh_checkers.specs.declared.checker.Checker.{Checker}
 use Rattle.jh_test_parts.specs.declared.parts.When.{When}
 
@@ -125,24 +125,20 @@ parsed_when (int z) = calls_due z
 parsed_when x = option_and_then when_of_elements (elements_of x)
 
 -- an entry, where its step is parsed
-abbrev pub test_entry_at : {E : Type 0} → When → Result Step E → Option Entry
+abbrev pub test_entry_at : {E : Type 0} → When → Result Step E → Option TestEntry
 test_entry_at when (Ok step) = Some (record { at = when; step = step })
 test_entry_at when (Err refusal) = None
 
 -- AT and STEP, over nodes with these names
-abbrev pub test_entry_of_elements : List (List ℕ) → List Edn → Option Entry
+abbrev pub test_entry_of_elements : List (List ℕ) → List Edn → Option TestEntry
 test_entry_of_elements names (at ∷ step ∷ []) =
     option_and_then (λ when. test_entry_at when (parsed_step names step)) (parsed_when at)
 test_entry_of_elements names _ = None
 
--- the entry that a value means: a vector or a list of the two
-abbrev pub parsed_test_entry : List (List ℕ) → Edn → Option Entry
+-- the entry that an element means: a vector or a list of the two
+abbrev pub parsed_test_entry : List (List ℕ) → Edn → Option TestEntry
 parsed_test_entry names x = option_and_then (test_entry_of_elements names) (elements_of x)
 
-abbrev pub IsParsedTestEntry : List (List ℕ) → Data → Entry → Type 0
-IsParsedTestEntry names value entry =
-    (x : Edn) × IsElement value x × (parsed_test_entry names x ≡ Some entry)
-
-abbrev pub IsParsedTestSchedule : List (List ℕ) → Members → List Entry → Type 0
+abbrev pub IsParsedTestSchedule : List (List ℕ) → Members → List TestEntry → Type 0
 IsParsedTestSchedule names document entries =
-    IsScheduleOf (IsParsedTestEntry names) (data_under Key.Schedule document) entries
+    IsScheduleUnder (parsed_test_entry names) document entries

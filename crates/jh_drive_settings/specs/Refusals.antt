@@ -6,7 +6,7 @@ use Rattle.jh_gen.specs.Generator.{Generator}
 use Rattle.jh_settings.specs.declared.keys.Key.{Key}
 use Rattle.jh_settings.specs.Parsed.{IsParsedStart, IsParsedGenerator, parsed_clients, parsed_seed}
 use Rattle.jh_settings.specs.Parsed.{parsed_budget}
-use Rattle.jh_test_parts.specs.declared.parts.Entry.{Entry}
+use Rattle.jh_test_parts.specs.declared.parts.TestEntry.{TestEntry}
 use Rattle.jh_drive_settings.specs.Parsed.{parsed_checker, parsed_test_ops, parsed_time_limit}
 use Rattle.jh_drive_settings.specs.Parsed.{parsed_rate, parsed_threads_per_key, parsed_ops_per_key}
 use Rattle.jh_drive_settings.specs.Parsed.{parsed_recovery, IsParsedFinal, parsed_test_initial}
@@ -36,6 +36,6 @@ IsGoodForTest document Key.Model = IsSome (parsed_model document)
 IsGoodForTest document Key.Seed = IsSome (parsed_seed document)
 IsGoodForTest document Key.Budget = IsSome (parsed_budget document)
 IsGoodForTest document Key.Schedule =
-    (env : EnvValue) × (entries : List Entry) × IsParsedStart document env
+    (env : EnvValue) × (entries : List TestEntry) × IsParsedStart document env
     × IsParsedTestSchedule env.names document entries
 IsGoodForTest document _ = ⊥

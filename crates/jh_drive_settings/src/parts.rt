@@ -3,7 +3,7 @@
 use jh_checkers::Checker;
 use jh_env::Env;
 use jh_gen::Gen;
-use jh_test_parts::{Entry, TransactionShape};
+use jh_test_parts::{TestEntry, TransactionShape};
 use jh_txn::ConsistencyModel;
 
 /// What is asked of the database.
@@ -43,5 +43,5 @@ pub(crate) struct Parts {
     pub pace: Pace,
     pub last: Option<Gen>,
     pub details: Details,
-    pub schedule: Vec<Entry>,
+    pub schedule: Vec<TestEntry>,
 }

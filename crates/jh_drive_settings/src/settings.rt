@@ -22,12 +22,12 @@ use crate::numbers::{
     rate_under, recovery_under, share_under, test_ops_under, time_limit_under, transaction_number,
 };
 use crate::parts::{Asked, Details, Pace, Parts};
-use crate::schedule::entries_under;
+use crate::schedule::TestFormat;
 use jh_checkers::Checker;
 use jh_gen::Gen;
 use jh_settings::{
-    Key, SettingsError, budget_under, clients_under, drive_keys, generator_under, judge_keys,
-    needed_drive_keys, seed_under, start_under, table_of,
+    Key, SettingsError, budget_under, clients_under, drive_keys, entries_under, generator_under,
+    needed_drive_keys, refuse_unknown_or_missing_keys, seed_under, start_under, table_of,
 };
 use jh_test_parts::{KeyShares, Test, TestData, TestError, TransactionShape};
 use jh_txn::ConsistencyModel;
@@ -137,7 +137,7 @@ fn parts_of(alloc: Global, table: &Table) -> Result<Parts, SettingsError>
     let pace = pace_of(table, asked.checker)?;
     let last = final_under(alloc, table)?;
     let details = details_of(table, asked.checker)?;
-    let schedule = entries_under(alloc, table, asked.environment.nodes())?;
+    let schedule = entries_under::<TestFormat>(alloc, table, asked.environment.nodes())?;
     Ok(Parts {
         asked,
         pace,
@@ -284,6 +284,6 @@ pub fn drive_settings_of(alloc: Global, bytes: &[u8]) -> Result<DriveSettings, S
         (RefusesDriveSettings bytes.now) }
 {
     let table = table_of(alloc, bytes)?;
-    judge_keys(alloc, &table, drive_keys(), needed_drive_keys())?;
+    refuse_unknown_or_missing_keys(alloc, &table, drive_keys(), needed_drive_keys())?;
     settings_in(alloc, &table)
 }

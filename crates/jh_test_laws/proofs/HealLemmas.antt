@@ -18,7 +18,7 @@ use Rattle.jh_nemesis.specs.declared.steps.Step.{Step}
 use Rattle.jh_nemesis.specs.declared.steps.Step.TheVariants.{Begin, Withdraw, WithdrawAll, Undo, Redo}
 use Rattle.jh_nemesis.specs.declared.steps.StepAnswer.TheVariants.{Ok, NothingActive, TooManySteps}
 use Rattle.jh_test_parts.specs.Test.{IsFitTest, TestValue}
-use Rattle.jh_test_parts.specs.declared.parts.Entry.{Entry}
+use Rattle.jh_test_parts.specs.declared.parts.TestEntry.{TestEntry}
 use Rattle.jh_test_laws.specs.Healing.{HealsAreAccepted, HealsOnce, heals_in}
 
 -- what holds in a phase: in *main* only entries of the schedule were taken, and in *heal* all is withdrawn at last
@@ -60,7 +60,7 @@ none_active : (s : State) → is_empty s.active ≡ false → length s.past < ma
 none_active s some few = ap (λ answer. is_empty (if is_ok answer then moved_state s WithdrawAll else s).active) (accepted s some few)
 
 -- the step that is due in *main* is that of the next entry
-next_entry : (m : Machine) (entry : Option Entry) (due : Due) → if_due m entry ≡ Some due → (entry ≡ None → ⊥) × (due.entry ≡ m.taken)
+next_entry : (m : Machine) (entry : Option TestEntry) (due : Due) → if_due m entry ≡ Some due → (entry ≡ None → ⊥) × (due.entry ≡ m.taken)
 next_entry m None due e = absurd cc
 next_entry m (Some entry) due e = ((λ none. cc), by (has_come_to entry.at m) refl)
   where
@@ -74,7 +74,7 @@ module _ (t : TestValue) (fit : IsFitTest t) where
   inside : (taken : ℕ) → (slice_get t.schedule taken ≡ None → ⊥) → taken < length t.schedule
   inside taken some = go (slice_get t.schedule taken) refl
     where
-      go : (o : Option Entry) → slice_get t.schedule taken ≡ o → taken < length t.schedule
+      go : (o : Option TestEntry) → slice_get t.schedule taken ≡ o → taken < length t.schedule
       go None e = absurd (some e)
       go (Some entry) e = slice_get_within t.schedule taken entry e
 

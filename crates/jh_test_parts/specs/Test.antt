@@ -9,7 +9,7 @@ use Rattle.jh_gen.specs.Suits.{suits, suits_transactions}
 use Rattle.jh_gen.specs.View.{generator_of}
 use Rattle.jh_nemesis.specs.Steps.{FitsNodes}
 use Rattle.jh_ops.specs.declared.call.Workload.TheVariants as workload
-use Rattle.jh_test_parts.specs.declared.parts.Entry.{Entry}
+use Rattle.jh_test_parts.specs.declared.parts.TestEntry.{TestEntry}
 use Rattle.jh_test_parts.specs.declared.parts.KeyShares.{KeyShares}
 use Rattle.jh_checkers.specs.declared.checker.Checker.{Checker}
 use Rattle.jh_checkers.specs.declared.checker.Checker.TheVariants.{Register, Counter, Set, Ids}
@@ -41,7 +41,7 @@ pub record TestValue : Type 0 where
   -- milliseconds between the end of all faults and the final calls
   pub recovery : ℕ
   pub seed : ℕ
-  pub schedule : List Entry
+  pub schedule : List TestEntry
 
 -- the test that is made of this data
 abbrev pub test_of_data : TestData → TestValue

@@ -11,9 +11,9 @@ pub enum When {
     Milliseconds(u32),
 }
 
-/// A step of the nemesis, and when it is due.
+/// An entry of the schedule of a test: a step of the nemesis, and when it is due.
 #[derive(Debug, Drop)]
-pub struct Entry {
+pub struct TestEntry {
     pub at: When,
     pub step: Step,
 }

@@ -9,7 +9,7 @@ ghost use Rattle.jh_gen.specs.View.{generator_of};
 ghost use Rattle.jh_test_parts.specs.Test as rule;
 ghost use Rattle.jh_test_parts.specs.Test.{IsFitTest, IsGoodShape, RefusesTest};
 
-use crate::parts::{Entry, KeyShares, TransactionShape};
+use crate::parts::{KeyShares, TestEntry, TransactionShape};
 use jh_checkers::Checker;
 use jh_env::{Env, Node, Nodes};
 use jh_gen::{Gen, Inner, MAX_CALLS, MAX_CLIENTS};
@@ -19,8 +19,8 @@ use std::alloc::{AllocError, Global};
 use std::marker::Model;
 use thiserror::Error;
 
-/// The most entries of a schedule.
-pub const MAX_ENTRIES: usize = 1_024;
+/// The most entries of the schedule of a test.
+pub const MAX_TEST_ENTRIES: usize = 1_024;
 
 /// What a test is made of.
 #[derive(Drop)]
@@ -47,7 +47,7 @@ pub struct TestData {
     /// The seed of the random numbers.
     pub seed: u64,
     /// The steps of the nemesis: at most 1,024.
-    pub schedule: Vec<Entry>,
+    pub schedule: Vec<TestEntry>,
 }
 
 /// Why a test is refused.
@@ -106,7 +106,7 @@ pub struct Test {
     transactions: TransactionShape,
     recovery: u32,
     seed: u64,
-    schedule: Vec<Entry>,
+    schedule: Vec<TestEntry>,
 }
 
 impl Model for Test {
@@ -140,7 +140,7 @@ fn fits(step: &Step, environment: &Env) -> bool
 }
 
 /// Whether each node that a fault of the schedule names is in the environment.
-fn all_fit(schedule: &[Entry], environment: &Env) -> bool
+fn all_fit(schedule: &[TestEntry], environment: &Env) -> bool
     ensures { IsTrue result
         ↔ All (λ entry. FitsNodes (length environment.now.names) entry.step) schedule.now }
 {
@@ -217,7 +217,7 @@ fn judge(fields: &TestData) -> Result<(), TestError>
     if !last_suits(fields.checker, fields.clients, &fields.last) {
         return Err(TestError::BadFinal);
     }
-    if fields.schedule.len() > MAX_ENTRIES || !all_fit(&fields.schedule, &fields.environment) {
+    if fields.schedule.len() > MAX_TEST_ENTRIES || !all_fit(&fields.schedule, &fields.environment) {
         return Err(TestError::BadSchedule);
     }
     if !are_made_so(fields.transactions) {
@@ -377,7 +377,7 @@ impl Test {
     }
 
     /// The steps of the nemesis, at most 1,024.
-    pub fn schedule(&self) -> &[Entry]
+    pub fn schedule(&self) -> &[TestEntry]
         ensures schedule { result.now ≡ self.now.schedule }
     {
         &self.schedule
