@@ -1,7 +1,8 @@
 -- The values of a whole text as a function, which gives the first error where there is one (this
 -- project's own; by a law these are the values that the text spells).
-use Rattle.std.specs.Prelude.{◌≡◌, ℕ, zero, suc, ◌+◌, List, [], ◌∷◌, length, Result, Ok, Err}
+use Rattle.std.specs.Prelude.{◌≡◌, ℕ, zero, suc, ◌+◌, ◌-◌, List, [], ◌∷◌, length, Result, Ok, Err}
 use Rattle.jh_edn.specs.declared.error.EdnError.{EdnError}
+use Rattle.jh_edn.specs.declared.place.FirstError.{FirstError}
 use Rattle.jh_edn.specs.declared.syntax_error.SyntaxError.{SyntaxError}
 use Rattle.jh_edn.specs.Edn.{Edn}
 use Rattle.jh_edn.specs.Reading.{◌>>=◌, gap, read, error_at, line_at}
@@ -31,3 +32,14 @@ pub record IsFirstErrorIn (text : List ℕ) (e : EdnError) : Type 0 where
   pub found : SyntaxError
   pub is_first : values_in text ≡ Err found
   pub is : e ≡ error_at found.kind (line_at text found.left)
+
+-- this error is the text's first, and stands at this place, in bytes from the start
+pub record IsFirstErrorAndPlace (text : List ℕ) (first : FirstError) : Type 0 where
+  pub found : SyntaxError
+  pub is_first : values_in text ≡ Err found
+  pub error : first.error ≡ error_at found.kind (line_at text found.left)
+  pub place : first.place ≡ length text - found.left
+
+-- each value of the text can be read
+abbrev pub HasNoError : List ℕ → Type 0
+HasNoError text = (values : List Edn) × (values_in text ≡ Ok values)

@@ -19,6 +19,7 @@ mod normal;
 mod order;
 mod pairs;
 mod parts;
+mod place;
 mod reader;
 mod scan;
 mod sequence;
@@ -37,6 +38,7 @@ pub use laws::{
 };
 pub use line::values_in_line;
 pub use parts::{Element, write_part};
+pub use place::{FirstError, first_error};
 pub use reader::read_one;
 pub use sequence::{Sink, read_sequence};
 pub use text::Text;

@@ -15,7 +15,7 @@ use crate::value::Value;
 use std::alloc::Global;
 
 /// The values of a text, or where its first error stands.
-fn line_values(alloc: Global, text: &str) -> Result<Vec<Value>, ReadError>
+pub(crate) fn line_values(alloc: Global, text: &str) -> Result<Vec<Value>, ReadError>
     ensures { Gives (λ v. views v.items) result (values_in text.now) }
 {
     let mut values = Vec::new(alloc);
