@@ -8,6 +8,7 @@ use Rattle.jh_edn.specs.Refused.{IsReaderError}
 use Rattle.jh_edn.specs.declared.error.EdnError.TheVariants.{Utf8}
 use Rattle.jh_histories.specs.Histories.{IsHistoryOf, RefusesHistoryOf}
 use Rattle.jh_histories.specs.declared.error.ReadHistoryError.{ReadHistoryError}
+use Rattle.jh_histories.specs.declared.rest.RecordedPart.{RecordedPart}
 use Rattle.jh_histories.specs.declared.error.ReadHistoryError.TheVariants.{Text, History}
 use Rattle.jh_ops.specs.Operation.{Operation}
 use Rattle.jh_ops.specs.declared.history.HistoryError.TheVariants.{OutOfMemory}
@@ -43,6 +44,12 @@ abbrev pub IsBehindEnd : (text rest : List ℕ) → Type 0
 IsBehindEnd text rest =
     (HasNoLine conversation_end text × (rest ≡ text))
     ⊎ ((at : ℕ) × IsFirstLine conversation_end text at × (rest ≡ drop (at + length conversation_end) text))
+
+-- This part of a text, from its start to its end, stands before the first line that begins with
+-- `:active`, and behind the line `:end` where one stands there.
+pub record IsRecordedPart (text : List ℕ) (part : RecordedPart) : Type 0 where
+  pub line : IsFirstLine active text part.end
+  pub behind : IsBehindEnd (take part.end text) (drop part.start (take part.end text))
 
 -- The text as a whole is no history.
 abbrev pub IsNoHistory : List ℕ → Type 0

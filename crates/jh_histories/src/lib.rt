@@ -11,4 +11,6 @@ mod rest;
 
 pub use error::ReadHistoryError;
 pub use reading::{history_in, read_history};
-pub use rest::{HistoryAndRest, history_and_rest, read_history_and_rest};
+pub use rest::{
+    HistoryAndRest, RecordedPart, history_and_rest, read_history_and_rest, recorded_part,
+};

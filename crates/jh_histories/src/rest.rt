@@ -1,13 +1,13 @@
 //! Which part of a text is a history. `specs/HistoryAndRest.antt` has the rule.
 
-ghost use Rattle.std.specs.Prelude.{◌↔◌, All, IfErr, IfOk, IfSome, IsTrue, MatchOption};
+ghost use Rattle.std.specs.Prelude.{◌↔◌, All, IfErr, IfOk, IfSome, IsTrue, MatchOption, drop, take};
 ghost use Rattle.std.specs.Str.{IsCharBoundary};
 ghost use Rattle.jh_histories.specs.Histories.{RefusesHistoryOf};
 ghost use Rattle.jh_ops.specs.Operation.{operations};
 ghost use Rattle.jh_ops.specs.OperationWritten.{IsWritable};
 ghost use Rattle.jh_histories.specs.HistoryAndRest.{AreHistoryAndRest, HasNoLine, IsFirstLine};
 ghost use Rattle.jh_histories.specs.HistoryAndRest.{active, IsBehindEnd, IsOfBytes};
-ghost use Rattle.jh_histories.specs.HistoryAndRest.{RefusesHistoryAndRest, IsNoHistory};
+ghost use Rattle.jh_histories.specs.HistoryAndRest.{RefusesHistoryAndRest, IsNoHistory, IsRecordedPart};
 
 use crate::error::ReadHistoryError;
 use crate::reading::history_in;
@@ -38,17 +38,41 @@ fn first_line(text: &str) -> Option<usize>
     }
 }
 
-/// What stands behind the first line `:end`, and all of the text where it has none.
-fn behind_end(text: &str) -> &str
-    ensures { IsBehindEnd text.now result.now }
+/// Where the lines of a conversation end: behind the first line `:end`, and at the start of a text that
+/// has none.
+fn conversation_end(text: &str) -> usize
+    ensures place { IsBehindEnd text.now (drop result text.now) }
+    ensures boundary { IsCharBoundary text.now result }
 {
     if text.starts_with(":end\n") {
-        return &text[5..];
+        return 5;
     }
     match text.find("\n:end\n") {
-        Some(before) => &text[before + 6..],
-        None => text,
+        Some(before) => before + 6,
+        None => 0,
     }
+}
+
+/// Where the history stands in what `jeprun run` or `jeprun drive` printed, in bytes.
+#[derive(Clone, Copy, Debug, PartialEq, Eq)]
+pub struct RecordedPart {
+    /// Behind the first line `:end` that stands before the history's end, or the start of the text.
+    pub start: usize,
+    /// Where the first line begins that begins with `:active`.
+    pub end: usize,
+}
+
+/// The part of a text that is read as its history where the whole text is none. None where no line begins
+/// with `:active`: then no part of it is.
+pub fn recorded_part(text: &str) -> Option<RecordedPart>
+    ensures part { MatchOption result (HasNoLine active text.now) (IsRecordedPart text.now) }
+    ensures end { IfSome result (λ part. IsCharBoundary text.now part.end) }
+    ensures start { IfSome result
+        (λ part. IsCharBoundary (take part.end text.now) part.start) }
+{
+    let end = first_line(text)?;
+    let start = conversation_end(&text[..end]);
+    Some(RecordedPart { start, end })
 }
 
 /// Whether an error does not come from what a text holds.
@@ -77,10 +101,10 @@ fn history_before(
         All (λ op. IsWritable op.process) parts.history.items) }
     ensures refused { IfErr result (RefusesHistoryAndRest text.now) }
 {
-    let Some(end) = first_line(text) else {
+    let Some(RecordedPart { start, end }) = recorded_part(text) else {
         return Err(whole);
     };
-    let history = history_in(alloc, behind_end(&text[..end]))?;
+    let history = history_in(alloc, &text[..end][start..])?;
     let below = Vec::from_slice(alloc, &text.as_bytes()[end..])?;
     Ok(HistoryAndRest { history, below })
 }
