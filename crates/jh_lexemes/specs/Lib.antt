@@ -1,0 +1,4 @@
+pub mod Lexemes
+pub mod Opened
+pub mod Positions
+pub mod Laws
