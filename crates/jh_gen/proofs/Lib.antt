@@ -5,4 +5,5 @@ pub mod RowLemmas
 pub mod BuildLemmas
 pub mod DriverLemmas
 pub mod TextLemmas
+pub mod BadLemmas
 pub mod AskedLemmas

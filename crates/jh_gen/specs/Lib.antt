@@ -5,6 +5,7 @@ pub mod View
 pub mod FallsInside
 pub mod GeneratorText
 pub mod ShapeInside
+pub mod BadPart
 pub mod Tally
 pub mod Scope
 pub mod Offers

@@ -1,7 +1,8 @@
 -- What a contract sees of a generator's form as a program reads it (this project's own).
-use Rattle.std.specs.Prelude.{◌≡◌, ℕ, List, Option, Some, None, option_map}
+use Rattle.std.specs.Prelude.{◌≡◌, ℕ, List, [], ◌∷◌, Option, Some, None, option_map}
 use Rattle.jh_edn.specs.Edn.{Edn, items_of, size_of, size_list}
 use Rattle.jh_edn.specs.View.{view, views}
+use Rattle.jh_gen.specs.BadPart.{reserve_holds}
 use Rattle.jh_gen.specs.Generator.{Generator, nothing, once, rising, forever, seq, limit, mix}
 use Rattle.jh_gen.specs.Generator.{phases, reserve, each_thread, clients, nemesis_only, Generators}
 use Rattle.jh_gen.specs.Generator.{no_generators, generator, ShareList, no_shares, share}
@@ -47,6 +48,18 @@ parsed_shape (GeneratorShape.NemesisOnly inner) =
 abbrev pub generator_of_shape : Option GeneratorShape → Option Generator
 generator_of_shape None = None
 generator_of_shape (Some shape) = parsed_shape shape
+
+-- the values that a form holds as generators
+abbrev pub shape_holds : Option GeneratorShape → List Edn
+shape_holds (Some (GeneratorShape.Seq parts)) = views parts.now
+shape_holds (Some (GeneratorShape.Limit number inner)) = view inner.now ∷ []
+shape_holds (Some (GeneratorShape.Mix parts)) = views parts.now
+shape_holds (Some (GeneratorShape.Phases parts)) = views parts.now
+shape_holds (Some (GeneratorShape.Reserve parts)) = reserve_holds (views parts.now)
+shape_holds (Some (GeneratorShape.EachThread inner)) = view inner.now ∷ []
+shape_holds (Some (GeneratorShape.Clients inner)) = view inner.now ∷ []
+shape_holds (Some (GeneratorShape.NemesisOnly inner)) = view inner.now ∷ []
+shape_holds _ = []
 
 -- how large its inner values are, by which a reading ends
 abbrev pub shape_size : GeneratorShape → ℕ

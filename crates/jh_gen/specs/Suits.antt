@@ -5,7 +5,7 @@ use Rattle.std.specs.Prelude.{ℕ, pos, int_lt, Bool, true, false, not, ◌&&◌
 use Rattle.jh_ops.specs.declared.call.Call.{Call}
 use Rattle.jh_ops.specs.declared.call.Call.TheVariants.{Client, Step}
 use Rattle.jh_ops.specs.declared.call.Request.{Request}
-use Rattle.jh_ops.specs.declared.call.Request.TheVariants.{Add, Txn}
+use Rattle.jh_ops.specs.declared.call.Request.TheVariants.{Add, Read, Txn}
 use Rattle.jh_ops.specs.declared.call.Workload.{Workload}
 use Rattle.jh_ops.specs.declared.call.Workload.TheVariants.{Counter}
 use Rattle.jh_ops.specs.Requests.{is_request_of}
@@ -67,3 +67,12 @@ suits w threads g = fits threads g && has_only (is_call_for w) g
 -- the same, and all calls are transactions
 abbrev pub suits_transactions : ℕ → Generator → Bool
 suits_transactions threads g = fits threads g && has_only is_transaction g
+
+-- anything but a client's read
+abbrev pub is_no_read : Call → Bool
+is_no_read (Client Read) = false
+is_no_read _ = true
+
+-- No call is a read, and no part is the nemesis's: of a generator that suits a run, nobody ever reads.
+abbrev pub never_reads : Generator → Bool
+never_reads g = has_only is_no_read g

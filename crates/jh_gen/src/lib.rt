@@ -2,6 +2,7 @@
 #![tactic(auto)]
 
 mod answers;
+mod bad_parts;
 mod build;
 mod copy;
 mod driver;
@@ -13,6 +14,7 @@ mod suits;
 mod text;
 
 pub use answers::{DriverError, Ended, GenAnswer, GenError, Thread};
+pub use bad_parts::{FormStep, bad_part};
 pub use driver::{Driver, MAX_CALLS, MAX_CLIENTS};
 pub use generator::{Gen, Gens, Inner, Shares};
 pub use laws::{asked_answers, end_keeps_generator, limits};

@@ -17,6 +17,8 @@ enum Wanted {
     Of(Workload),
     /// Transactions.
     Transactions,
+    /// Anything but reads.
+    NoRead,
 }
 
 /// Whether a call is a client's request of the workload, and of the counter no negative add.
@@ -40,6 +42,16 @@ fn is_transaction(call: Call) -> bool
     }
 }
 
+/// Whether a call is anything but a client's read.
+fn is_no_read(call: Call) -> bool
+    ensures { result ≡ rule.is_no_read call }
+{
+    match call {
+        Call::Client(Request::Read) => false,
+        _ => true,
+    }
+}
+
 impl Wanted {
     /// Whether a call is one of these.
     fn has(self, call: Call) -> bool
@@ -48,6 +60,7 @@ impl Wanted {
         match self {
             Wanted::Of(workload) => is_call_for(workload, call),
             Wanted::Transactions => is_transaction(call),
+            Wanted::NoRead => is_no_read(call),
         }
     }
 }
@@ -70,6 +83,14 @@ impl Gen {
         ensures { result ≡ rule.suits_transactions clients (generator_of self.now) }
     {
         fits(self, clients) && self.has_only(Wanted::Transactions)
+    }
+
+    /// Whether no call of the generator is a read, and no part is the nemesis's. Of a generator that
+    /// suits a run: whether nobody ever asks for a read.
+    pub fn never_reads(&self) -> bool
+        ensures { result ≡ rule.never_reads (generator_of self.now) }
+    {
+        self.has_only(Wanted::NoRead)
     }
 
     /// Whether each call of the generator is wanted, and no part is the nemesis's.

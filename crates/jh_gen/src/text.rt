@@ -1,15 +1,16 @@
 //! Generators as EDN values. `specs/GeneratorText.antt` has the rule, name by name.
 
-ghost use Rattle.std.specs.Prelude.{◌≡◌, ◌<◌, ◌≤◌, Some, IfSome, MatchResult, option_map, is_some};
+ghost use Rattle.std.specs.Prelude.{◌≡◌, ◌<◌, ◌≤◌, [], Some, IfSome, MatchResult, option_map, is_some};
 ghost use Rattle.jh_edn.specs.Edn.{size_of, size_list};
 ghost use Rattle.jh_edn.specs.View.{view, views};
 ghost use Rattle.jh_gen.specs.Generator.{reserve, row_of};
+ghost use Rattle.jh_gen.specs.BadPart.{held_values, holds_in, holds_named, limit_holds, only_value};
 ghost use Rattle.jh_gen.specs.GeneratorText as rule;
 ghost use Rattle.jh_gen.specs.GeneratorText.{RefusesGenerator, parsed_call, parsed_generator};
 ghost use Rattle.jh_gen.specs.GeneratorText.{generator_named, generator_of_operands};
 ghost use Rattle.jh_gen.specs.ShapeInside.{EndsReading, parsed_members, operand_of, operands_in};
 ghost use Rattle.jh_gen.specs.ShapeInside.{parsed_reserve};
-ghost use Rattle.jh_gen.specs.ShapeInside.{shape_size, generator_of_shape};
+ghost use Rattle.jh_gen.specs.ShapeInside.{shape_holds, shape_size, generator_of_shape};
 ghost use Rattle.jh_gen.specs.View.{generator_of};
 ghost use Rattle.jh_gen.specs.declared.text.GenTextError.TheVariants.{OutOfMemory};
 
@@ -120,6 +121,7 @@ fn call_of(value: &Value) -> Option<Call>
 fn only(parts: &[Value]) -> Option<&Value>
     ensures part { option_map (λ value. operand_of (view value.now)) result
         ≡ rule.only_operand (operands_in (views parts.now)) }
+    ensures value { option_map (λ value. view value.now) result ≡ only_value (views parts.now) }
     ensures smaller { IfSome result
         (λ value. size_of (view value.now) < size_list (views parts.now)) }
 {
@@ -147,7 +149,7 @@ fn one_integer(parts: &[Value]) -> Option<i64>
 }
 
 /// The number from 0 to 4,294,967,295 that a value means, if it means one.
-fn number_in(value: &Value) -> Option<u32>
+pub(crate) fn number_in(value: &Value) -> Option<u32>
     ensures { result ≡ rule.number_in (operand_of (view value.now)) }
 {
     match value {
@@ -160,6 +162,7 @@ fn number_in(value: &Value) -> Option<u32>
 fn shape_of_none(parts: &[Value]) -> Option<GeneratorShape<'_>>
     ensures parsed { generator_of_shape result
         ≡ rule.generator_of_none (operands_in (views parts.now)) }
+    ensures held { shape_holds result ≡ [] }
     ensures smaller { IfSome result (λ shape. shape_size shape ≤ size_list (views parts.now)) }
 {
     match parts {
@@ -172,6 +175,7 @@ fn shape_of_none(parts: &[Value]) -> Option<GeneratorShape<'_>>
 fn limited(parts: &[Value]) -> Option<GeneratorShape<'_>>
     ensures parsed { generator_of_shape result
         ≡ rule.limit_operands (operands_in (views parts.now)) }
+    ensures held { shape_holds result ≡ limit_holds (views parts.now) }
     ensures smaller { IfSome result (λ shape. shape_size shape ≤ size_list (views parts.now)) }
 {
     match parts {
@@ -184,6 +188,7 @@ fn limited(parts: &[Value]) -> Option<GeneratorShape<'_>>
 fn shape_by<'a>(name: &str, parts: &'a [Value]) -> Option<GeneratorShape<'a>>
     ensures parsed { generator_of_shape result
         ≡ generator_named name.now (operands_in (views parts.now)) }
+    ensures held { shape_holds result ≡ holds_named name.now (views parts.now) }
     ensures smaller { IfSome result (λ shape. shape_size shape ≤ size_list (views parts.now)) }
 {
     match name {
@@ -205,7 +210,7 @@ fn shape_by<'a>(name: &str, parts: &'a [Value]) -> Option<GeneratorShape<'a>>
 }
 
 /// The name of a keyword, if the value is one.
-fn keyword_name(value: &Value) -> Option<&str>
+pub(crate) fn keyword_name(value: &Value) -> Option<&str>
     ensures { option_map (λ name. name.now) result ≡ rule.keyword_name (view value.now) }
 {
     match value {
@@ -218,6 +223,7 @@ fn keyword_name(value: &Value) -> Option<&str>
 fn shape_in(parts: &[Value]) -> Option<GeneratorShape<'_>>
     ensures parsed { generator_of_shape result
         ≡ generator_of_operands (operands_in (views parts.now)) }
+    ensures held { shape_holds result ≡ holds_in (views parts.now) }
     ensures smaller { IfSome result (λ shape. shape_size shape ≤ size_list (views parts.now)) }
 {
     match parts {
@@ -227,8 +233,9 @@ fn shape_in(parts: &[Value]) -> Option<GeneratorShape<'_>>
 }
 
 /// The form of a value, if it has one.
-fn shape_of(value: &Value) -> Option<GeneratorShape<'_>>
+pub(crate) fn shape_of(value: &Value) -> Option<GeneratorShape<'_>>
     ensures parsed { generator_of_shape result ≡ parsed_generator (view value.now) }
+    ensures held { shape_holds result ≡ held_values (view value.now) }
     ensures smaller { IfSome result (λ shape. shape_size shape < size_of (view value.now)) }
 {
     shape_in(value.elements()?)
@@ -236,7 +243,7 @@ fn shape_of(value: &Value) -> Option<GeneratorShape<'_>>
 
 /// Whether a value means a generator.
 #[cycle(judge)]
-fn is_generator(value: &Value) -> bool
+pub(crate) fn is_generator(value: &Value) -> bool
     ensures { result ≡ is_some (parsed_generator (view value.now)) }
 {
     let Some(shape) = shape_of(value) else {
