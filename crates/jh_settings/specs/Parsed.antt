@@ -11,9 +11,11 @@ use Rattle.jh_env.specs.TextCells.{IsTextOf}
 use Rattle.jh_step_texts.specs.StepText.{parsed_step}
 use Rattle.jh_nemesis.specs.declared.steps.Step.{Step}
 use Rattle.jh_ops.specs.declared.call.Workload.{Workload}
+use Rattle.jh_gen.specs.DriverState.{max_clients}
 use Rattle.jh_gen.specs.Generator.{Generator}
 use Rattle.jh_gen.specs.GeneratorText.{parsed_generator}
 use Rattle.jh_ops.specs.Requests.{workload_named, max_calls_of}
+use Rattle.jh_simnode.specs.Limits.{max_entries, max_rows}
 use Rattle.jh_simnode.specs.StoreNames.{store_named}
 use Rattle.jh_simnode.specs.declared.settings.Store.{Store}
 use Rattle.jh_simnode.specs.declared.schedule.Entry.{Entry}
@@ -44,7 +46,7 @@ abbrev pub IsParsedGenerator : Members → Generator → Type 0
 IsParsedGenerator document g = IsGeneratorUnder Key.Generator document g
 
 abbrev pub parsed_clients : Members → Option ℕ
-parsed_clients document = needed_value (whole_number_in 1 16) Key.Clients document
+parsed_clients document = needed_value (whole_number_in 1 max_clients) Key.Clients document
 
 -- how many calls: a set may have fewer than the others
 abbrev pub parsed_ops : Members → Option ℕ
@@ -86,7 +88,7 @@ abbrev pub parsed_tick_every : Members → Option ℕ
 parsed_tick_every document = value_or_default 0 (whole_number_in 0 10000) Key.TickEvery document
 
 abbrev pub parsed_rows : Members → Option ℕ
-parsed_rows document = value_or_default 4096 (whole_number_in 1 65536) Key.Rows document
+parsed_rows document = value_or_default 4096 (whole_number_in 1 max_rows) Key.Rows document
 
 abbrev pub parsed_seed : Members → Option ℕ
 parsed_seed document = value_or_default 0 (whole_number_in 0 9223372036854775807) Key.Seed document
@@ -128,9 +130,9 @@ AreEach Means (item value values) (entry ∷ entries) =
     Means value entry × AreEach Means values entries
 AreEach Means _ _ = ⊥
 
--- and there are at most 1,024
+-- and there are no more than a schedule has, at most
 abbrev pub AreFewEach : {E : Type 0} → (Data → E → Type 0) → Items → List E → Type 0
-AreFewEach Means values entries = AreEach Means values entries × (length entries ≤ 1024)
+AreFewEach Means values entries = AreEach Means values entries × (length entries ≤ max_entries)
 
 -- none by default
 abbrev pub IsScheduleOf : {E : Type 0} → (Data → E → Type 0) → Option Data → List E → Type 0

@@ -4,6 +4,7 @@ ghost use Rattle.std.specs.Prelude.{◌≡◌, IfOk, string_bytes};
 ghost use Rattle.jh_settings.specs.declared.error.SettingsError.TheVariants.{OutOfMemory};
 
 use crate::keys::Key;
+use jh_one_line::OnOneLine;
 use std::alloc::{AllocError, AllocFailed, Global};
 use std::fmt::{self, Display, Formatter, Write};
 use std::marker::Model;
@@ -49,47 +50,6 @@ impl KeyText {
     }
 }
 
-/// A character of a key, as it is shown.
-#[derive(Clone, Copy)]
-struct Shown(char);
-
-impl Display for Shown {
-    ghost use Rattle.std.specs.Prelude.{Some};
-    ghost use Rattle.jh_settings.specs.Shown.{shown_character};
-
-    ghost output = { λ shown_key. Some (shown_character shown_key.0) };
-
-    fn fmt<W: Write>(&self, f: &mut Formatter<W>) -> fmt::Result {
-        let Shown(character) = *self;
-        if character.is_control() {
-            let number = character as u32;
-            write!(f, "\\u{{{number:x}}}")
-        } else {
-            write!(f, "{character}")
-        }
-    }
-}
-
-/// A text on one line, as it is shown.
-#[derive(Clone, Copy)]
-struct OnOneLine<'a>(&'a String);
-
-impl Display for OnOneLine<'_> {
-    ghost use Rattle.std.specs.Prelude.{Some};
-    ghost use Rattle.std.specs.String.{string_bytes};
-    ghost use Rattle.jh_settings.specs.Shown.{one_line_text};
-
-    ghost output = { λ line. Some (one_line_text (string_bytes line.0.now)) };
-
-    fn fmt<W: Write>(&self, f: &mut Formatter<W>) -> fmt::Result {
-        let OnOneLine(text) = *self;
-        for character in text.chars() {
-            write!(f, "{}", Shown(character))?;
-        }
-        Ok(())
-    }
-}
-
 impl Display for KeyText {
     ghost use Rattle.std.specs.Prelude.{Some};
     ghost use Rattle.jh_settings.specs.Shown.{shown_key};
@@ -101,7 +61,7 @@ impl Display for KeyText {
         if bytes > MAX_SHOWN {
             write!(f, "a key of {bytes} bytes")
         } else {
-            write!(f, "{}", OnOneLine(&self.text))
+            write!(f, "{}", OnOneLine(self.as_str()))
         }
     }
 }

@@ -1,7 +1,7 @@
 use Rattle.std.specs.List.{flat_map}
 use Rattle.std.specs.Fmt.{HasWritten, IsPlainFormatter}
-use Rattle.jh_settings.specs.Shown.{shown_character}
-use Rattle.jh_settings.proofs.error.OnOneLineDisplay.fmt.Given as goal
+use Rattle.jh_one_line.specs.OneLine.{shown_character}
+use Rattle.jh_one_line.proofs.line.OnOneLineDisplay.fmt.Given as goal
 
 abbrev pub invariant-loop-character : goal.invariant-loop-character
 invariant-loop-character g l =
