@@ -17,7 +17,7 @@ use Rattle.jh_nemesis.specs.declared.steps.StepAnswer.{StepAnswer}
 use Rattle.jh_simnode.specs.declared.replicas.Got.{Got}
 use Rattle.jh_simnode.specs.declared.replicas.Reply.{Reply}
 use Rattle.jh_simnode.specs.declared.replicas.Reply.TheVariants as reply
-use Rattle.jh_simnode.specs.Histories.{got_content, replied_content, completion_kind, placed_completion, placed_entry_completion}
+use Rattle.jh_simnode.specs.Histories.{got_content, replied_content, completion_kind, indexed_completion, indexed_entry_completion}
 use Rattle.jh_ops.specs.Requests.{request_name, asked_content}
 use Rattle.jh_nemesis.specs.Steps.{code_of}
 use Rattle.jh_audit.specs.Forms.{Says}
@@ -85,41 +85,41 @@ replied_decides r reply.Info v = asked_decides r v
 -- ---- completions
 
 -- a completion is another one where kind and value are that one's
-pub reply_same : (op : Operation) (place number process : ℕ) (r : Request) (y z : Reply) → op ≡ placed_completion place number process r y
-    → (op.kind ≡ completion_kind z) × (op.value ≡ content_value (replied_content r z)) → op ≡ placed_completion place number process r z
+pub reply_same : (op : Operation) (place number process : ℕ) (r : Request) (y z : Reply) → op ≡ indexed_completion place number process r y
+    → (op.kind ≡ completion_kind z) × (op.value ≡ content_value (replied_content r z)) → op ≡ indexed_completion place number process r z
 reply_same op place number process r y z says same =
     let kind = sym (ap (λ o. o.kind) says) ∙ same.0 in
     let value = sym (ap (λ o. o.value) says) ∙ same.1 in
     says ∙ ap (λ k. made place (Process.Client process) k (keyword (request_name r)) (content_value (replied_content r y)) (Some number)) kind
     ∙ ap (λ v. made place (Process.Client process) (completion_kind z) (keyword (request_name r)) v (Some number)) value
 
-pub reply_parts : (op : Operation) (place number process : ℕ) (r : Request) (z : Reply) → op ≡ placed_completion place number process r z
+pub reply_parts : (op : Operation) (place number process : ℕ) (r : Request) (z : Reply) → op ≡ indexed_completion place number process r z
     → (op.kind ≡ completion_kind z) × (op.value ≡ content_value (replied_content r z))
 reply_parts op place number process r z is = (ap (λ o. o.kind) is, ap (λ o. o.value) is)
 
 -- the second of a pair of integers
-pub second_in : (op : Operation) (place number entry : ℕ) (a : StepAnswer) → op ≡ placed_entry_completion place number entry a
+pub second_in : (op : Operation) (place number entry : ℕ) (a : StepAnswer) → op ≡ indexed_entry_completion place number entry a
     → pair_in op.value ≡ Some (pos entry, pos (code_of a))
 second_in op place number entry a is = ap (λ o. pair_in o.value) is
 
-pub answer_same : (op : Operation) (place number entry : ℕ) (a b : StepAnswer) → op ≡ placed_entry_completion place number entry a
-    → pos (code_of a) ≡ pos (code_of b) → op ≡ placed_entry_completion place number entry b
+pub answer_same : (op : Operation) (place number entry : ℕ) (a b : StepAnswer) → op ≡ indexed_entry_completion place number entry a
+    → pos (code_of a) ≡ pos (code_of b) → op ≡ indexed_entry_completion place number entry b
 answer_same op place number entry a b is same =
     is ∙ ap (λ c. made place Process.Nemesis Kind.Info (keyword (codes "step")) (vector (items_of (int (pos entry) ∷ int c ∷ []))) (Some number)) same
 
 -- an operation is the completion of a call where kind and value are those of its reply
 pub completes_call : (op : Operation) (place number process completer : ℕ) (r given : Request) (y : Reply) → Says place op (Completes completer given number)
     → process ≡ completer → r ≡ given → (op.kind ≡ completion_kind y) × (op.value ≡ content_value (replied_content given y))
-    → (process ≡ completer) × (r ≡ given) × (op ≡ placed_completion place number process r y)
+    → (process ≡ completer) × (r ≡ given) × (op ≡ indexed_completion place number process r y)
 completes_call op place number process completer r given y says same_process same_request same = (
   same_process,
   same_request,
   reply_same op place number completer given says.0 y says.2 same
-      ∙ ap (λ p. placed_completion place number p given y) (sym same_process) ∙ ap (λ q. placed_completion place number process q y) (sym same_request),
+      ∙ ap (λ p. indexed_completion place number p given y) (sym same_process) ∙ ap (λ q. indexed_completion place number process q y) (sym same_request),
 )
 
 pub call_completed : (op : Operation) (place number process completer : ℕ) (r given : Request) (y : Reply)
-    → (process ≡ completer) × (r ≡ given) × (op ≡ placed_completion place number process r y)
+    → (process ≡ completer) × (r ≡ given) × (op ≡ indexed_completion place number process r y)
     → (op.kind ≡ completion_kind y) × (op.value ≡ content_value (replied_content given y))
 call_completed op place number process completer r given y is =
     let parts = reply_parts op place number process r y is.2 in

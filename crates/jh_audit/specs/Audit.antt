@@ -9,7 +9,7 @@ use Rattle.jh_ops.specs.Operation.{Operation}
 use Rattle.jh_ops.specs.declared.operation.Kind.{Kind}
 use Rattle.jh_ops.specs.declared.operation.Process.{Process}
 use Rattle.jh_simnode.specs.declared.events.Event.{Event}
-use Rattle.jh_simnode.specs.Histories.{placed_completion, placed_entry_completion}
+use Rattle.jh_simnode.specs.Histories.{indexed_completion, indexed_entry_completion}
 use Rattle.jh_audit.specs.declared.forms.Form.{Form}
 use Rattle.jh_audit.specs.declared.forms.Form.TheVariants.{Asks, Completes, Begins, Ends}
 use Rattle.jh_audit.specs.declared.checks.AuditFault.{AuditFault}
@@ -45,9 +45,9 @@ abbrev pub IsCompletionBy : Event → ℕ → Operation → Form → Type 0
 IsCompletionBy (Event.Call process node request draw reply) place op
     (Completes completer given number) =
     (process ≡ completer) × (request ≡ given)
-    × (op ≡ placed_completion place number process request reply)
+    × (op ≡ indexed_completion place number process request reply)
 IsCompletionBy (Event.Step step answer) place op (Ends entry number) =
-    op ≡ placed_entry_completion place number entry answer
+    op ≡ indexed_entry_completion place number entry answer
 IsCompletionBy _ place op _ = ⊥
 
 -- a completion is that of its event

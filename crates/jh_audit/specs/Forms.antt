@@ -12,8 +12,8 @@ use Rattle.jh_nemesis.specs.declared.steps.StepAnswer.{StepAnswer}
 use Rattle.jh_simnode.specs.declared.replicas.Got.{Got}
 use Rattle.jh_simnode.specs.declared.replicas.Reply.{Reply}
 use Rattle.jh_simnode.specs.declared.replicas.Reply.TheVariants as reply
-use Rattle.jh_simnode.specs.Histories.{placed_invocation, placed_completion}
-use Rattle.jh_simnode.specs.Histories.{placed_entry_invocation, placed_entry_completion}
+use Rattle.jh_simnode.specs.Histories.{indexed_invocation, indexed_completion}
+use Rattle.jh_simnode.specs.Histories.{indexed_entry_invocation, indexed_entry_completion}
 use Rattle.jh_audit.specs.declared.forms.Form.{Form}
 use Rattle.jh_audit.specs.declared.forms.Form.TheVariants.{Asks, Completes, Begins, Ends}
 
@@ -46,13 +46,13 @@ MayReply request reply.Info = ⊤
 
 -- the operation says this at its place in a history
 abbrev pub Says : ℕ → Operation → Form → Type 0
-Says place op (Asks process request) = op ≡ placed_invocation place process request
+Says place op (Asks process request) = op ≡ indexed_invocation place process request
 Says place op (Completes process request number) =
     (reply : Reply) × MayReply request reply
-    × (op ≡ placed_completion place number process request reply)
-Says place op (Begins entry) = op ≡ placed_entry_invocation place entry
+    × (op ≡ indexed_completion place number process request reply)
+Says place op (Begins entry) = op ≡ indexed_entry_invocation place entry
 Says place op (Ends entry number) =
-    (answer : StepAnswer) × (op ≡ placed_entry_completion place number entry answer)
+    (answer : StepAnswer) × (op ≡ indexed_entry_completion place number entry answer)
 
 -- the operation at a place of a history says this
 abbrev pub SaysAt : List Operation → ℕ → Form → Type 0

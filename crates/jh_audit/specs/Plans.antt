@@ -9,7 +9,7 @@ use Rattle.jh_ops.specs.Pairing.{is_invoke}
 use Rattle.jh_simnode.specs.Counts.{answered_count, applied_count, calls_by}
 use Rattle.jh_simnode.specs.declared.events.Event.{Event}
 use Rattle.jh_simnode.specs.declared.schedule.Entry.{Entry}
-use Rattle.jh_simnode.specs.Histories.{placed_entry_completion}
+use Rattle.jh_simnode.specs.Histories.{indexed_entry_completion}
 use Rattle.jh_simnode.specs.Plans.{PlanValue}
 
 -- the value is a vector
@@ -33,7 +33,7 @@ steps_below history place = count_by is_answered_step (take place history)
 abbrev pub EndsEntry : List Entry → List Event → ℕ → Operation → ℕ → Type 0
 EndsEntry schedule journal place op entry =
     (number : ℕ) × (due : Entry) × (answer : StepAnswer)
-    × (op ≡ placed_entry_completion place number entry answer)
+    × (op ≡ indexed_entry_completion place number entry answer)
     × (slice_get schedule entry ≡ Some due)
     × (slice_get journal number ≡ Some (Event.Step due.step answer))
 

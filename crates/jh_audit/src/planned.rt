@@ -4,7 +4,7 @@ ghost use Rattle.std.specs.Prelude.{◌≡◌, ◌+◌, ◌<◌, ◌≤◌, ◌�
 ghost use Rattle.jh_ops.specs.Operation.{operation, operations};
 ghost use Rattle.std.specs.List.{count_by};
 ghost use Rattle.jh_nemesis.specs.declared.steps.StepAnswer.{StepAnswer};
-ghost use Rattle.jh_simnode.specs.Histories.{placed_entry_completion};
+ghost use Rattle.jh_simnode.specs.Histories.{indexed_entry_completion};
 ghost use Rattle.jh_simnode.specs.declared.events.Event.TheVariants as Event;
 ghost use Rattle.jh_audit.specs.Forms.{Says};
 ghost use Rattle.jh_audit.specs.Plans as rule;
@@ -39,7 +39,7 @@ fn is_answered_step(op: &Op) -> bool
 fn ends_by(event: &Event, due: &Step, place: usize, op: &Op, entry: u64, number: u64) -> bool
     requires { Says place (operation op.now) (Ends entry number) }
     ensures { IsTrue result ↔ ((answer : StepAnswer) × (event.now ≡ Event.Step due.now answer)
-        × (operation op.now ≡ placed_entry_completion place number entry answer)) }
+        × (operation op.now ≡ indexed_entry_completion place number entry answer)) }
 {
     match event {
         Event::Step { step, answer } => {

@@ -5,7 +5,7 @@ ghost use Rattle.std.specs.Prelude.{◌≡◌, ◌↔◌, IsTrue};
 ghost use Rattle.jh_edn.specs.View.{view, views};
 ghost use Rattle.jh_ops.specs.Operation.{operation};
 ghost use Rattle.jh_ops.specs.Words.{content_value};
-ghost use Rattle.jh_simnode.specs.Histories.{placed_entry_completion, completion_kind};
+ghost use Rattle.jh_simnode.specs.Histories.{indexed_entry_completion, completion_kind};
 ghost use Rattle.jh_nemesis.specs.Steps.{code_of};
 ghost use Rattle.jh_simnode.specs.Histories.{replied_content};
 ghost use Rattle.jh_audit.specs.Audit.{IsCompletionBy};
@@ -103,7 +103,7 @@ fn has_reply(op: &Op, request: Request, reply: &Reply) -> bool
 pub(crate) fn has_answer(op: &Op, place: usize, entry: u64, number: u64, answer: StepAnswer) -> bool
     requires { Says place (operation op.now) (Ends entry number) }
     ensures { IsTrue result
-        ↔ (operation op.now ≡ placed_entry_completion place number entry answer) }
+        ↔ (operation op.now ≡ indexed_entry_completion place number entry answer) }
 {
     match pair_in(&op.value) {
         Some((_, code)) => code == answer.code(),

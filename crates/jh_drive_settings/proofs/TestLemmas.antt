@@ -15,7 +15,7 @@ use Rattle.jh_test_parts.specs.declared.parts.TestEntry.{TestEntry}
 use Rattle.jh_test_parts.specs.declared.parts.KeyShares.{KeyShares}
 use Rattle.jh_checkers.specs.declared.checker.Checker.{Checker}
 use Rattle.jh_test_parts.specs.declared.test.TestError.{TestError}
-use Rattle.jh_test_parts.specs.Test.{TestValue, IsFitTest, RefusesTest, HasSchedule, HasTransactions}
+use Rattle.jh_test_parts.specs.Test.{TestValue, IsFitTest, RefusesTest, HasSchedule, FitsTransactions}
 use Rattle.jh_drive_settings.specs.declared.parts.Parts.{Parts}
 use Rattle.jh_drive_settings.specs.Inside.{AreParsedParts, RefusesShares, RefusesAllowed, RefusesDriveValues, lone_key, test_of_parts, test_refusal}
 use Rattle.jh_drive_settings.specs.Parsed.{parsed_checker, parsed_test_entry, parsed_test_ops, parsed_threads_per_key, parsed_ops_per_key, transaction_number}
@@ -74,7 +74,7 @@ module _ (document : Members) (parts : Parts) (parsed : AreParsedParts document 
     has_schedule : HasSchedule (test_of_parts parts shares)
     has_schedule = (few_entries (IsMeant (parsed_test_entry parts.asked.environment.names)) (data_under Key.Schedule document) parts.schedule.items parsed.entries, parsed.steps)
 
-    has_transactions : HasTransactions (test_of_parts parts shares)
+    has_transactions : FitsTransactions (test_of_parts parts shares)
     has_transactions =
         let shape = parts.details.transactions in
         let between : (default most : ℕ) (key : Key) (n : ℕ) → 1 ≤ default → default ≤ most → transaction_number default most key document ≡ Some n → (1 ≤ n) × (n ≤ most) =

@@ -12,7 +12,7 @@ use Rattle.jh_settings.specs.Keys.{is_missing, drive_keys, needed_drive_keys}
 use Rattle.jh_settings.specs.Parsed.{IsParsedStart, IsParsedGenerator, parsed_clients, parsed_seed}
 use Rattle.jh_settings.specs.Parsed.{parsed_budget}
 use Rattle.jh_settings.specs.Refusals.{AreGood, IsFirstBadKey, RefusesSpelled}
-use Rattle.jh_test_parts.specs.Test.{TestValue, IsFitTest, HasKeys, HasTestGenerator, HasFinal}
+use Rattle.jh_test_parts.specs.Test.{TestValue, IsFitTest, FitsKeys, HasTestGenerator, FitsFinal}
 use Rattle.jh_drive_settings.specs.Parsed.{parsed_checker, parsed_test_ops, parsed_time_limit}
 use Rattle.jh_drive_settings.specs.Parsed.{parsed_rate, parsed_threads_per_key, parsed_ops_per_key}
 use Rattle.jh_drive_settings.specs.Parsed.{parsed_recovery, IsParsedFinal, parsed_test_initial}
@@ -73,10 +73,10 @@ IsLoneShare document _ = ⊥
 
 -- the key under which a test is wrong first, whose values are good by themselves
 abbrev pub IsWrongUnder : TestValue → Key → Type 0
-IsWrongUnder test Key.ThreadsPerKey = HasKeys test → ⊥
-IsWrongUnder test Key.Generator = HasKeys test × (HasTestGenerator test → ⊥)
+IsWrongUnder test Key.ThreadsPerKey = FitsKeys test → ⊥
+IsWrongUnder test Key.Generator = FitsKeys test × (HasTestGenerator test → ⊥)
 IsWrongUnder test Key.Final =
-    HasKeys test × HasTestGenerator test × (HasFinal test × IsFinalAllowed test → ⊥)
+    FitsKeys test × HasTestGenerator test × (FitsFinal test × IsFinalAllowed test → ⊥)
 IsWrongUnder test _ = ⊥
 
 -- the first value that is bad by itself, and then what is wrong with the test

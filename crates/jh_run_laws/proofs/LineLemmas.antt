@@ -9,14 +9,14 @@ use Rattle.jh_ops.specs.declared.call.Request.{Request}
 use Rattle.jh_simnode.specs.declared.replicas.Reply.{Reply}
 use Rattle.jh_simnode.specs.declared.replicas.Reply.TheVariants as replied
 use Rattle.jh_simnode.specs.declared.events.Event.{Event}
-use Rattle.jh_simnode.specs.Histories.{placed_completion, journal_history, operations_from}
+use Rattle.jh_simnode.specs.Histories.{indexed_completion, journal_history, operations_from}
 use Rattle.jh_run_laws.proofs.PairLemmas.{Each}
 
 -- what is written of the operation means it
 abbrev IsParsedAgain : Operation → Type 0
 IsParsedAgain op = parsed_op (value_written op) ≡ Ok op
 
-completion_parsed : (place number process : ℕ) (request : Request) (reply : Reply) → IsParsedAgain (placed_completion place number process request reply)
+completion_parsed : (place number process : ℕ) (request : Request) (reply : Reply) → IsParsedAgain (indexed_completion place number process request reply)
 completion_parsed place number process request (replied.Ok got) = refl
 completion_parsed place number process request replied.Fail = refl
 completion_parsed place number process request replied.Info = refl

@@ -12,7 +12,7 @@ use Rattle.jh_simnode.specs.declared.events.Event.{Event}
 use Rattle.jh_ops.specs.declared.call.Call.TheVariants.{Client}
 use Rattle.jh_ops.specs.declared.call.Workload.{Workload}
 use Rattle.jh_gen.specs.Suits.{is_call_for}
-use Rattle.jh_simnode.specs.Histories.{placed_entry_completion, placed_entry_invocation, placed_completion, journal_history, placed_invocation, completion_kind, operations_from}
+use Rattle.jh_simnode.specs.Histories.{indexed_entry_completion, indexed_entry_invocation, indexed_completion, journal_history, indexed_invocation, completion_kind, operations_from}
 use Rattle.jh_run_laws.specs.OwnHistory.{CallsFit, RepliesFit, ReplyFits}
 
 -- the pair at a place and the next
@@ -74,15 +74,15 @@ Each P (x ∷ xs) = P x × Each P xs
 abbrev pub FromCall : Workload → (List Operation → Pair → Type 0) → Type 0
 FromCall w P =
     (history : List Operation) (place number process : ℕ) (request : Request) (reply : Reply)
-    → slice_get history place ≡ Some (placed_invocation place process request) → slice_get history (place + 1) ≡ Some (placed_completion (place + 1) number process request reply)
+    → slice_get history place ≡ Some (indexed_invocation place process request) → slice_get history (place + 1) ≡ Some (indexed_completion (place + 1) number process request reply)
     → is_call_for w (Client request) ≡ true → ReplyFits w request reply → P history (pair_at place)
 
 each_from : (w : Workload) (P : List Operation → Pair → Type 0) → FromCall w P → (c : ℕ) (done es : List Event) → CallsFit w c done es → RepliesFit w es
     → (history before : List Operation) (place number entry : ℕ) → place ≡ length before → history ≡ before ++ operations_from place number entry es → Each (P history) (own_pairs place es)
 each_from w P from c done [] a b history before place number entry at is = tt
 each_from w P from c done (Event.Call process node request draw reply ∷ es) a b history before place number entry at is =
-    let x = placed_invocation place process request in
-    let y = placed_completion (place + 1) number process request reply in
+    let x = indexed_invocation place process request in
+    let y = indexed_completion (place + 1) number process request reply in
     let rest = operations_from (place + 2) (number + 1) entry es in
     let here : slice_get history place ≡ Some x =
     subst (λ (h : List Operation). slice_get h place ≡ Some x) (sym is)
@@ -96,8 +96,8 @@ each_from w P from c done (Event.Call process node request draw reply ∷ es) a 
       each_from w P from c (done ++ Event.Call process node request draw reply ∷ []) es a.1 b.1 history (before ++ x ∷ y ∷ []) (place + 2) (number + 1) entry longer parted,
     )
 each_from w P from c done (Event.Step step answer ∷ es) a b history before place number entry at is =
-    let x = placed_entry_invocation place entry in
-    let y = placed_entry_completion (place + 1) number entry answer in
+    let x = indexed_entry_invocation place entry in
+    let y = indexed_entry_completion (place + 1) number entry answer in
     let rest = operations_from (place + 2) (number + 1) (entry + 1) es in
     let longer : place + 2 ≡ length (before ++ x ∷ y ∷ []) = omega (arith, at, length-append before (x ∷ y ∷ [])) in
     let parted : history ≡ (before ++ x ∷ y ∷ []) ++ rest = is ∙ sym (append_assoc before (x ∷ y ∷ []) rest) in

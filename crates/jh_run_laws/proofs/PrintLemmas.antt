@@ -22,7 +22,7 @@ use Rattle.jh_ops.specs.declared.operation.Process.{Process}
 use Rattle.jh_laws.specs.HistoryLines.{CanPrint}
 use Rattle.jh_laws.proofs.KeyLemmas.{keywords_differ}
 use Rattle.jh_simnode.specs.declared.events.Event.{Event}
-use Rattle.jh_simnode.specs.Histories.{AreIntegers, CanBeText, HasIntegers, HasSmallEvent, completion_kind, replied_content, unplaced_operation, placed_operation}
+use Rattle.jh_simnode.specs.Histories.{AreIntegers, CanBeText, HasIntegers, HasSmallEvent, completion_kind, replied_content, unindexed_operation, indexed_operation}
 use Rattle.jh_simnode.specs.Histories.{journal_history, operations_from}
 use Rattle.jh_run_laws.specs.OwnHistory.{OwnHistoryIsPrintable}
 
@@ -62,14 +62,14 @@ abbrev five_names : List (List ℕ)
 five_names = codes "index" ∷ codes "type" ∷ codes "process" ∷ codes "f" ∷ codes "value" ∷ []
 
 keys_apart : (place : ℕ) (kind : Kind) (process : Process) (name : List ℕ) (content : Content) (event : Option ℕ)
-    → KeysDiffer (members_of (pairs_written (placed_operation place (unplaced_operation kind process name content event))))
+    → KeysDiffer (members_of (pairs_written (indexed_operation place (unindexed_operation kind process name content event))))
 keys_apart place kind process name content None = keywords_differ five_names refl
 keys_apart place kind process name content (Some number) = keywords_differ (five_names ++ codes "event" ∷ []) refl
 
 -- at its place it can be printed, if its numbers are small
 pub can_print : (place : ℕ) (kind : Kind) (process : Process) (name : List ℕ) (content : Content) (event : Option ℕ) → place < 2 ^ 63
     → IsWritable process → is_name name ≡ true → AreIntegers content → HasSmallEvent event
-    → CanPrint (placed_operation place (unplaced_operation kind process name content event))
+    → CanPrint (indexed_operation place (unindexed_operation kind process name content event))
 can_print place kind process name content event small writable named fits few = record {
   process = writable;
   f = named;

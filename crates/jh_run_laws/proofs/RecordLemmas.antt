@@ -17,8 +17,8 @@ use Rattle.jh_ops.specs.Words.{Content, Record, AreWordsOf, CanBeKept, function_
 use Rattle.jh_ops.specs.declared.operation.Kind.{Kind}
 use Rattle.jh_ops.specs.declared.operation.Process.{Process}
 use Rattle.jh_laws.specs.HistoryLines.{CanPrint}
-use Rattle.jh_simnode.specs.Histories.{AreIntegers, placed_operation, unplaced_operation}
-use Rattle.jh_run_laws.specs.RecordedHistory.{IsPlacedRecord, RecordedHistoryIsPrintable}
+use Rattle.jh_simnode.specs.Histories.{AreIntegers, indexed_operation, unindexed_operation}
+use Rattle.jh_run_laws.specs.RecordedHistory.{IsIndexedRecord, RecordedHistoryIsPrintable}
 use Rattle.jh_ops.proofs.RecordLemmas.{function_again}
 use Rattle.jh_run_laws.proofs.PrintLemmas.{can_print, step_is}
 
@@ -84,14 +84,14 @@ words_fit words r are =
     subst (All (FitsSigned w64)) are.2.1
     (All-map (FitsSigned w64) (cast_signed w64) are.0 (All-weaker (λ word. word < 2 ^ 64) (λ word. FitsSigned w64 (cast_signed w64 word)) word_fits are.0 are.2.0))
 
-record_prints : (place : ℕ) (r : Record) (words : List ℕ) → place < 2 ^ 63 → CanBeKept r → AreWordsOf words r → CanPrint (placed_operation place (operation_of r))
+record_prints : (place : ℕ) (r : Record) (words : List ℕ) → place < 2 ^ 63 → CanBeKept r → AreWordsOf words r → CanPrint (indexed_operation place (operation_of r))
 record_prints place r words small kept are =
     can_print place r.kind r.process (function_name r.function) r.content r.event small kept.process (function_is r) (words_fit words r are) kept.event
 
-placed_prints : (op : Operation) → IsPlacedRecord op → CanPrint op
+placed_prints : (op : Operation) → IsIndexedRecord op → CanPrint op
 placed_prints op h =
     let r : Record = h.is.0 in
-    subst CanPrint (ap (placed_operation h.place) h.is.2 ∙ sym h.placed) (record_prints h.place r h.words h.small h.is.1 h.is.3)
+    subst CanPrint (ap (indexed_operation h.place) h.is.2 ∙ sym h.indexed) (record_prints h.place r h.words h.small h.is.1 h.is.3)
 
 -- ---- what its line means
 
@@ -99,7 +99,7 @@ abbrev IsParsedAgain : Operation → Type 0
 IsParsedAgain op = parsed_op (value_written op) ≡ Ok op
 
 parsed_parts : (place : ℕ) (kind : Kind) (process : Process) (name : List ℕ) (content : Content) (event : Option ℕ)
-    → IsParsedAgain (placed_operation place (unplaced_operation kind process name content event))
+    → IsParsedAgain (indexed_operation place (unindexed_operation kind process name content event))
 parsed_parts place Kind.Invoke (Process.Client number) name content None = refl
 parsed_parts place Kind.Invoke (Process.Client number) name content (Some e) = refl
 parsed_parts place Kind.Invoke Process.Nemesis name content None = refl
@@ -117,15 +117,15 @@ parsed_parts place Kind.Info (Process.Client number) name content (Some e) = ref
 parsed_parts place Kind.Info Process.Nemesis name content None = refl
 parsed_parts place Kind.Info Process.Nemesis name content (Some e) = refl
 
-record_parsed : (place : ℕ) (r : Record) → IsParsedAgain (placed_operation place (operation_of r))
+record_parsed : (place : ℕ) (r : Record) → IsParsedAgain (indexed_operation place (operation_of r))
 record_parsed place r = parsed_parts place r.kind r.process (function_name r.function) r.content r.event
 
-placed_parsed : (op : Operation) → IsPlacedRecord op → IsParsedAgain op
+placed_parsed : (op : Operation) → IsIndexedRecord op → IsParsedAgain op
 placed_parsed op h =
     let r : Record = h.is.0 in
-    subst IsParsedAgain (ap (placed_operation h.place) h.is.2 ∙ sym h.placed) (record_parsed h.place r)
+    subst IsParsedAgain (ap (indexed_operation h.place) h.is.2 ∙ sym h.indexed) (record_parsed h.place r)
 
-each_parsed : (history : List Operation) → AllByRecursion IsPlacedRecord history → map parsed_op (map value_written history) ≡ map Ok history
+each_parsed : (history : List Operation) → AllByRecursion IsIndexedRecord history → map parsed_op (map value_written history) ≡ map Ok history
 each_parsed [] all = refl
 each_parsed (op ∷ ops) all =
     let here = placed_parsed op all.0 in
@@ -138,7 +138,7 @@ one_by_one (op ∷ []) = refl
 one_by_one (op ∷ other ∷ ops) = refl
 
 pub records_print : RecordedHistoryIsPrintable
-records_print history all = All-weaker IsPlacedRecord CanPrint placed_prints history all
+records_print history all = All-weaker IsIndexedRecord CanPrint placed_prints history all
 
-pub records_parsed : (history : List Operation) → All IsPlacedRecord history → AreParsed (map value_written history) history
-records_parsed history all = ap (map parsed_op) (one_by_one history) ∙ each_parsed history (recursion_from_All IsPlacedRecord history all)
+pub records_parsed : (history : List Operation) → All IsIndexedRecord history → AreParsed (map value_written history) history
+records_parsed history all = ap (map parsed_op) (one_by_one history) ∙ each_parsed history (recursion_from_All IsIndexedRecord history all)

@@ -13,7 +13,7 @@ use Rattle.jh_simnode.specs.declared.replicas.Got.{Got}
 use Rattle.jh_simnode.specs.declared.replicas.Reply.{Reply}
 use Rattle.jh_simnode.specs.declared.replicas.Reply.TheVariants as replied
 use Rattle.jh_simnode.specs.declared.events.Event.{Event}
-use Rattle.jh_simnode.specs.Histories.{placed_completion, journal_history, operations_from}
+use Rattle.jh_simnode.specs.Histories.{indexed_completion, journal_history, operations_from}
 use Rattle.jh_run_laws.specs.OwnHistory.{RepliesFit, ReplyFits}
 use Rattle.jh_run_laws.proofs.PairLemmas.{Each}
 
@@ -21,7 +21,7 @@ use Rattle.jh_run_laws.proofs.PairLemmas.{Each}
 abbrev Shows : Operation → Type 0
 Shows op = is_asked Kind.Ok (codes "read") op ≡ true → elements_shown op.value ≡ None → ⊥
 
-completion_shows : (place number process : ℕ) (request : Request) (reply : Reply) → ReplyFits Set request reply → Shows (placed_completion place number process request reply)
+completion_shows : (place number process : ℕ) (request : Request) (reply : Reply) → ReplyFits Set request reply → Shows (indexed_completion place number process request reply)
 completion_shows place number process Read (replied.Ok (Got.Many xs)) fits asked none = absurd cc
 completion_shows place number process Read (replied.Ok (Got.One x)) fits asked none = absurd fits
 completion_shows place number process Read (replied.Ok Got.Nothing) fits asked none = absurd fits

@@ -4,24 +4,24 @@ use Rattle.std.specs.Prelude.{◌≡◌, ℕ, ◌<◌, ◌^◌, All, List}
 use Rattle.jh_ops.specs.Operation.{Operation}
 use Rattle.jh_ops.specs.Words.{IsRecordedAs}
 use Rattle.jh_laws.specs.HistoryLines.{CanPrint, IsTextOfHistory, history_lines}
-use Rattle.jh_simnode.specs.Histories.{placed_operation}
+use Rattle.jh_simnode.specs.Histories.{indexed_operation}
 
 -- the operation was recorded as words, and stands at a place of a history
-pub record IsPlacedRecord (op : Operation) : Type 0 where
+pub record IsIndexedRecord (op : Operation) : Type 0 where
   pub place : ℕ
   pub small : place < 2 ^ 63
   pub recorded : Operation
   pub words : List ℕ
   pub is : IsRecordedAs recorded words
-  pub placed : op ≡ placed_operation place recorded
+  pub indexed : op ≡ indexed_operation place recorded
 
 -- each of them can be printed
 abbrev pub RecordedHistoryIsPrintable : Type 0
 RecordedHistoryIsPrintable =
-    (history : List Operation) → All IsPlacedRecord history → All CanPrint history
+    (history : List Operation) → All IsIndexedRecord history → All CanPrint history
 
 -- the lines that are printed of such a history are a text of it
 abbrev pub RecordedLinesAreText : Type 0
 RecordedLinesAreText =
-    (history : List Operation) → All IsPlacedRecord history
+    (history : List Operation) → All IsIndexedRecord history
     → IsTextOfHistory (history_lines history) history

@@ -12,7 +12,8 @@ use Rattle.jh_simnode.specs.Plans.{PlanValue}
 use Rattle.jh_search.specs.declared.options.Options.{Options}
 use Rattle.jh_check.specs.declared.verdict.Verdict.{Verdict}
 use Rattle.jh_check.specs.declared.verdict.Verdict.TheVariants.{False, True, Unknown}
-use Rattle.jh_search.specs.Search.{ArePlanVerdicts, ComesOf, IsSearched, is_undecided}
+use Rattle.jh_check.specs.Verdicts.{is_unknown}
+use Rattle.jh_search.specs.Search.{ArePlanVerdicts, ComesOf, IsSearched}
 use Rattle.jh_search.specs.SearchInside.{GoesOn, HasTried, ends_search}
 
 -- the verdicts on the candidates, with that on the next
@@ -34,7 +35,7 @@ passed_more p options tried unknown (verdicts, are, long) comes = (
   record {
     come = verdicts_more p options options.from verdicts True are.come (subst (λ n. ComesOf p options (options.from + n) True) (sym long) comes);
     none_fails = All-push (λ verdict. verdict ≢ False) verdicts True are.none_fails (λ same. absurd cc);
-    counted = are.counted ∙ sym (count_no is_undecided verdicts True refl);
+    counted = are.counted ∙ sym (count_no is_unknown verdicts True refl);
   },
   length_push verdicts True ∙ (omega (arith, long)),
 )
@@ -46,7 +47,7 @@ unknown_more p options tried unknown (verdicts, are, long) comes = (
   record {
     come = verdicts_more p options options.from verdicts Unknown are.come (subst (λ n. ComesOf p options (options.from + n) Unknown) (sym long) comes);
     none_fails = All-push (λ verdict. verdict ≢ False) verdicts Unknown are.none_fails (λ same. absurd cc);
-    counted = (let counted = are.counted in let one = count_yes is_undecided verdicts Unknown refl in omega (arith, counted, one));
+    counted = (let counted = are.counted in let one = count_yes is_unknown verdicts Unknown refl in omega (arith, counted, one));
   },
   length_push verdicts Unknown ∙ (omega (arith, long)),
 )
@@ -55,7 +56,7 @@ unknown_more p options tried unknown (verdicts, are, long) comes = (
 pub unknown_few : (p : PlanValue) (options : Options) (tried unknown : ℕ) → HasTried p options tried unknown → unknown ≤ tried
 unknown_few p options tried unknown (verdicts, are, long) =
     let counted = are.counted in
-    let few = count_by-le-length is_undecided verdicts in
+    let few = count_by-le-length is_unknown verdicts in
     omega (arith, counted, few, long)
 
 -- before the first

@@ -1,9 +1,10 @@
 -- What comes of the candidates of a search, and what a search finds (this project's own).
-use Rattle.std.specs.Prelude.{◌≡◌, ◌≢◌, ◌⊎◌, ℕ, ◌+◌, ◌<◌, Bool, true, false, List, length}
+use Rattle.std.specs.Prelude.{◌≡◌, ◌≢◌, ◌⊎◌, ℕ, ◌+◌, ◌<◌, List, length}
 use Rattle.std.specs.Prelude.{slice_index_or, Option, Some, None}
 use Rattle.std.specs.List.{All, count_by}
+use Rattle.jh_check.specs.Verdicts.{is_unknown}
 use Rattle.jh_check.specs.declared.verdict.Verdict.{Verdict}
-use Rattle.jh_check.specs.declared.verdict.Verdict.TheVariants.{True, False, Unknown}
+use Rattle.jh_check.specs.declared.verdict.Verdict.TheVariants.{False, Unknown}
 use Rattle.jh_judged_runs.specs.JudgedRuns.{IsRunVerdict}
 use Rattle.jh_simnode.specs.declared.serial.RunError.TheVariants as RunError
 use Rattle.jh_simnode.specs.Plans.{PlanValue}
@@ -33,17 +34,12 @@ ArePlanVerdicts p options from verdicts =
     (index : ℕ) (d : Verdict) → index < length verdicts
     → ComesOf p options (from + index) (slice_index_or verdicts index d)
 
-abbrev pub is_undecided : Verdict → Bool
-is_undecided False = false
-is_undecided True = false
-is_undecided Unknown = true
-
 -- these are the candidates that were tried: none of them fails, and so many are unknown
 pub record AreTriedSoFar (p : PlanValue) (options : Options) (verdicts : List Verdict)
     (unknown : ℕ) : Type 0 where
   pub come : ArePlanVerdicts p options options.from verdicts
   pub none_fails : All (λ verdict. verdict ≢ False) verdicts
-  pub counted : unknown ≡ count_by is_undecided verdicts
+  pub counted : unknown ≡ count_by is_unknown verdicts
 
 -- the number of the first that fails, where one does
 abbrev pub IsFirstFailing : PlanValue → Options → List Verdict → Option ℕ → Type 0

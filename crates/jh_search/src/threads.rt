@@ -27,7 +27,7 @@ const MAX_BLOCK: u64 = 1_024;
 
 /// Who is told how far a search is.
 pub trait SearchObserver {
-    /// `tried` candidates were tried and do not fail; of these, `unknown` are undecided.
+    /// `tried` candidates were tried and do not fail; of these, the verdict on `unknown` is unknown.
     fn see_tried(&mut self, tried: u64, unknown: u64);
 }
 

@@ -8,7 +8,7 @@ use Rattle.jh_ops.specs.Operation.{Operation}
 use Rattle.jh_ops.specs.OperationWritten.{IsWritable}
 use Rattle.jh_simnode.specs.declared.events.Event.{Event}
 use Rattle.jh_simnode.specs.Counts.{is_crash_of, process_after}
-use Rattle.jh_simnode.specs.Histories.{operations_from, placed_invocation, placed_completion, placed_entry_invocation, placed_entry_completion}
+use Rattle.jh_simnode.specs.Histories.{operations_from, indexed_invocation, indexed_completion, indexed_entry_invocation, indexed_entry_completion}
 use Rattle.jh_simnode.specs.Plans.{PlanValue}
 use Rattle.jh_simnode.specs.Runs.{Comes, Move, Reaches, Turns, call_event, move_of, thread_of}
 use Rattle.jh_simnode.specs.Runs.Move.{Ticks, Applies, Waits, Calls, Ends, Rests}
@@ -54,12 +54,12 @@ writable_from (Event.Call process node request draw reply ∷ es) place number e
     let small = All-head HasSmallProcess (Event.Call process node request draw reply) es h in
     let rest = writable_from es (place + 2) (number + 1) entry (All-tail HasSmallProcess (Event.Call process node request draw reply) es h) in
     let later : List Operation = operations_from (place + 2) (number + 1) entry es in
-    let second : Operation = placed_completion (place + 1) number process request reply in
-    All-cons P (placed_invocation place process request) (second ∷ later) small (All-cons P second later small rest)
+    let second : Operation = indexed_completion (place + 1) number process request reply in
+    All-cons P (indexed_invocation place process request) (second ∷ later) small (All-cons P second later small rest)
 writable_from (Event.Step step answer ∷ es) place number entry h =
     let P : Operation → Type 0 = λ op. IsWritable op.process in
     let rest = writable_from es (place + 2) (number + 1) (entry + 1) (All-tail HasSmallProcess (Event.Step step answer) es h) in
     let later : List Operation = operations_from (place + 2) (number + 1) (entry + 1) es in
-    let second : Operation = placed_entry_completion (place + 1) number entry answer in
-    All-cons P (placed_entry_invocation place entry) (second ∷ later) tt (All-cons P second later tt rest)
+    let second : Operation = indexed_entry_completion (place + 1) number entry answer in
+    All-cons P (indexed_entry_invocation place entry) (second ∷ later) tt (All-cons P second later tt rest)
 writable_from (Event.Tick ∷ es) place number entry h = writable_from es place (number + 1) entry (All-tail HasSmallProcess Event.Tick es h)

@@ -31,14 +31,14 @@ pub record Moment : Type 0 where
   pub replicas : List Replica
 
 -- no fault was begun so far
-abbrev pub calm_state : Setup → State
-calm_state u = record { names = u.names; start = u.start; past = []; active = []; future = [] }
+abbrev pub faultless_state : Setup → State
+faultless_state u = record { names = u.names; start = u.start; past = []; active = []; future = [] }
 
 -- where a world stands at first
 abbrev pub opening : Setup → Moment
 opening u = record {
   number = 0;
-  faults = calm_state u;
+  faults = faultless_state u;
   replicas = replicate (length u.names) (first_replica u.settings);
 }
 

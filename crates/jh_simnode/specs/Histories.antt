@@ -44,8 +44,8 @@ abbrev pub HasSmallEvent : Option ℕ → Type 0
 HasSmallEvent event = IfSome event (λ number. number < 2 ^ 63)
 
 -- an operation in no history yet, by an event of this number where it names one
-abbrev pub unplaced_operation : Kind → Process → List ℕ → Content → Option ℕ → Operation
-unplaced_operation kind process name content event = record {
+abbrev pub unindexed_operation : Kind → Process → List ℕ → Content → Option ℕ → Operation
+unindexed_operation kind process name content event = record {
   kind = kind;
   process = process;
   f = keyword name;
@@ -56,8 +56,8 @@ unplaced_operation kind process name content event = record {
 }
 
 -- an operation at its place in a history
-abbrev pub placed_operation : ℕ → Operation → Operation
-placed_operation place op = record {
+abbrev pub indexed_operation : ℕ → Operation → Operation
+indexed_operation place op = record {
   kind = op.kind;
   process = op.process;
   f = op.f;
@@ -70,50 +70,50 @@ placed_operation place op = record {
 -- a client's operation as it is invoked, and as the event of this number completes it
 abbrev pub invocation : ℕ → Request → Operation
 invocation process request =
-    unplaced_operation Kind.Invoke (Process.Client process) (request_name request)
+    unindexed_operation Kind.Invoke (Process.Client process) (request_name request)
     (asked_content request) None
 
 abbrev pub completion : ℕ → ℕ → Request → Reply → Operation
 completion number process request reply =
-    unplaced_operation (completion_kind reply) (Process.Client process) (request_name request)
+    unindexed_operation (completion_kind reply) (Process.Client process) (request_name request)
     (replied_content request reply) (Some number)
 
 -- an entry of the schedule before the nemesis takes its step, and after it
 abbrev pub entry_invocation : ℕ → Operation
 entry_invocation entry =
-    unplaced_operation Kind.Info Process.Nemesis (codes "step") (One (pos entry)) None
+    unindexed_operation Kind.Info Process.Nemesis (codes "step") (One (pos entry)) None
 
 abbrev pub entry_completion : ℕ → ℕ → StepAnswer → Operation
 entry_completion number entry answer =
-    unplaced_operation Kind.Info Process.Nemesis (codes "step")
+    unindexed_operation Kind.Info Process.Nemesis (codes "step")
     (Several (pos entry ∷ pos (code_of answer) ∷ []))
     (Some number)
 
 -- each of them at its place in the history
-abbrev pub placed_invocation : ℕ → ℕ → Request → Operation
-placed_invocation place process request = placed_operation place (invocation process request)
+abbrev pub indexed_invocation : ℕ → ℕ → Request → Operation
+indexed_invocation place process request = indexed_operation place (invocation process request)
 
-abbrev pub placed_completion : ℕ → ℕ → ℕ → Request → Reply → Operation
-placed_completion place number process request reply =
-    placed_operation place (completion number process request reply)
+abbrev pub indexed_completion : ℕ → ℕ → ℕ → Request → Reply → Operation
+indexed_completion place number process request reply =
+    indexed_operation place (completion number process request reply)
 
-abbrev pub placed_entry_invocation : ℕ → ℕ → Operation
-placed_entry_invocation place entry = placed_operation place (entry_invocation entry)
+abbrev pub indexed_entry_invocation : ℕ → ℕ → Operation
+indexed_entry_invocation place entry = indexed_operation place (entry_invocation entry)
 
-abbrev pub placed_entry_completion : ℕ → ℕ → ℕ → StepAnswer → Operation
-placed_entry_completion place number entry answer =
-    placed_operation place (entry_completion number entry answer)
+abbrev pub indexed_entry_completion : ℕ → ℕ → ℕ → StepAnswer → Operation
+indexed_entry_completion place number entry answer =
+    indexed_operation place (entry_completion number entry answer)
 
 -- the operations of these events: the first operation at this place, the first event with this
 -- number, the first step with this entry
 abbrev pub operations_from : ℕ → ℕ → ℕ → List Event → List Operation
 operations_from place number entry [] = []
 operations_from place number entry (Event.Call process node request draw reply ∷ es) =
-    placed_invocation place process request
-    ∷ placed_completion (place + 1) number process request reply ∷
+    indexed_invocation place process request
+    ∷ indexed_completion (place + 1) number process request reply ∷
     operations_from (place + 2) (number + 1) entry es
 operations_from place number entry (Event.Step step answer ∷ es) =
-    placed_entry_invocation place entry ∷ placed_entry_completion (place + 1) number entry answer ∷
+    indexed_entry_invocation place entry ∷ indexed_entry_completion (place + 1) number entry answer ∷
     operations_from (place + 2) (number + 1) (entry + 1) es
 operations_from place number entry (Event.Tick ∷ es) = operations_from place (number + 1) entry es
 

@@ -10,7 +10,7 @@ use Rattle.jh_nemesis.specs.declared.steps.Step.TheVariants.{Withdraw, WithdrawA
 use Rattle.jh_nemesis.specs.declared.steps.StepAnswer.TheVariants.{Ok}
 use Rattle.jh_simnode.specs.declared.events.Event.{Event}
 use Rattle.jh_simnode.specs.Reach.{Cells, cells_over}
-use Rattle.jh_simnode.specs.Events.{Setup, Moment, calm_state, env_of, moment_after, moment_at}
+use Rattle.jh_simnode.specs.Events.{Setup, Moment, faultless_state, env_of, moment_after, moment_at}
 use Rattle.jh_simnode.specs.Events.{IsLegal}
 
 -- the active faults with their past and future after a journal, and the environment there
@@ -39,7 +39,7 @@ is_quiet Event.Tick = true
 abbrev pub OverlayStands : Type 0
 OverlayStands = (u : Setup) (before after : List Event) → IsLegal u (before ++ after)
     → (env_at u before ≡ cells_over u.start (faults_in (state_at u before).active))
-    × (state_at u before ≡ state_after_all (calm_state u) (steps_in before))
+    × (state_at u before ≡ state_after_all (faultless_state u) (steps_in before))
 
 -- client calls, ticks and refused steps change neither the environment nor the active faults, nor
 -- what can be undone or redone

@@ -8,7 +8,7 @@ use Rattle.jh_env.specs.Cells.{NodeCell}
 use Rattle.jh_env.specs.Faults.{FaultValue}
 use Rattle.jh_env.specs.Cells.{Table, link_at, node_at}
 use Rattle.jh_env.specs.Names.{node_places}
-use Rattle.jh_env.specs.Overlay.{EnvValue, link_over, node_over}
+use Rattle.jh_env.specs.Overlay.{EnvValue, is_killed, link_over, node_over}
 
 -- an environment as a client meets it: the link between two places, and the node at a place, where
 -- there is one
@@ -33,12 +33,6 @@ is_running Running = true
 is_running Paused = false
 is_running Killed = false
 
--- it is killed
-abbrev pub is_dead : Life → Bool
-is_dead Running = false
-is_dead Paused = false
-is_dead Killed = true
-
 -- there is such a node, and it runs
 abbrev pub is_node_running : Option NodeCell → Bool
 is_node_running None = false
@@ -47,7 +41,7 @@ is_node_running (Some n) = is_running n.process
 -- there is such a node, and it is killed
 abbrev pub is_node_killed : Option NodeCell → Bool
 is_node_killed None = false
-is_node_killed (Some n) = is_dead n.process
+is_node_killed (Some n) = is_killed n.process
 
 -- the link is there, uncut, and doesn't lose a call of this draw
 abbrev pub carries : ℕ → Option Link → Bool

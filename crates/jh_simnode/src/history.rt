@@ -8,10 +8,10 @@ ghost use Rattle.jh_ops.specs.Operation.{operation, operations};
 ghost use Rattle.jh_ops.specs.Words.{Several, content_value, pairs_of_event};
 ghost use Rattle.jh_simnode.specs.Histories as rule;
 ghost use Rattle.jh_simnode.specs.Limits.{max_events};
-ghost use Rattle.jh_simnode.specs.Histories.{placed_entry_completion};
+ghost use Rattle.jh_simnode.specs.Histories.{indexed_entry_completion};
 ghost use Rattle.jh_ops.specs.Requests.{asked_content};
-ghost use Rattle.jh_simnode.specs.Histories.{placed_operation, placed_entry_invocation};
-ghost use Rattle.jh_simnode.specs.Histories.{placed_completion, placed_invocation, replied_content};
+ghost use Rattle.jh_simnode.specs.Histories.{indexed_operation, indexed_entry_invocation};
+ghost use Rattle.jh_simnode.specs.Histories.{indexed_completion, indexed_invocation, replied_content};
 ghost use Rattle.jh_simnode.specs.Histories.{got_content};
 
 use crate::events::Event;
@@ -146,10 +146,10 @@ pub fn entry_completion(
 }
 
 /// Adds an operation to a history, at its place.
-pub fn push_placed(history: &mut Vec<Op>, op: Op) -> Result<(), AllocError>
+pub fn push_indexed(history: &mut Vec<Op>, op: Op) -> Result<(), AllocError>
     requires { length history.old.items < 2 ^ 63 }
     ensures { OnOk result (operations history.new.items ≡ operations history.old.items
-        ++ placed_operation (length history.old.items) (operation op) ∷ []) }
+        ++ indexed_operation (length history.old.items) (operation op) ∷ []) }
 {
     let index = Some(history.len() as i64);
     history.push(Op { index, ..op })?;
@@ -167,11 +167,11 @@ fn push_call(
 ) -> Result<(), AllocError>
     requires { (length history.old.items ≤ 2 * max_events) × (number ≤ max_events) }
     ensures { OnOk result (operations history.new.items ≡ operations history.old.items
-        ++ placed_invocation (length history.old.items) process request
-        ∷ placed_completion (length history.old.items + 1) number process request reply.now ∷ []) }
+        ++ indexed_invocation (length history.old.items) process request
+        ∷ indexed_completion (length history.old.items + 1) number process request reply.now ∷ []) }
 {
-    push_placed(history, invocation(alloc, process, request)?)?;
-    push_placed(history, completion(alloc, number, process, request, reply)?)
+    push_indexed(history, invocation(alloc, process, request)?)?;
+    push_indexed(history, completion(alloc, number, process, request, reply)?)
 }
 
 /// The two operations of a step.
@@ -185,11 +185,11 @@ fn push_step(
     requires { (length history.old.items ≤ 2 * max_events) × (number ≤ max_events)
         × (entry ≤ max_events) }
     ensures { OnOk result (operations history.new.items ≡ operations history.old.items
-        ++ placed_entry_invocation (length history.old.items) entry
-        ∷ placed_entry_completion (length history.old.items + 1) number entry answer ∷ []) }
+        ++ indexed_entry_invocation (length history.old.items) entry
+        ∷ indexed_entry_completion (length history.old.items + 1) number entry answer ∷ []) }
 {
-    push_placed(history, entry_invocation(alloc, entry)?)?;
-    push_placed(history, entry_completion(alloc, number, entry, answer)?)
+    push_indexed(history, entry_invocation(alloc, entry)?)?;
+    push_indexed(history, entry_completion(alloc, number, entry, answer)?)
 }
 
 /// The history of a journal: two operations for each call and each step, and none for a tick. Takes

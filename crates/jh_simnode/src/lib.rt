@@ -22,7 +22,7 @@ mod world;
 
 pub use events::{Event, MAX_EVENTS, WorldError};
 pub use history::{
-    completion, completion_kind, entry_completion, entry_invocation, invocation, push_placed,
+    completion, completion_kind, entry_completion, entry_invocation, invocation, push_indexed,
 };
 pub use laws::{limits, world_laws};
 pub use plan::{MAX_ROWS, Plan, PlanData, PlanError};

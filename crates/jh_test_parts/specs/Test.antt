@@ -75,8 +75,8 @@ are_shares clients None = true
 are_shares clients (Some shares) =
     not (shares.threads == 0) && (clients % shares.threads == 0 && not (shares.calls == 0))
 
-abbrev pub HasKeys : TestValue → Type 0
-HasKeys t = are_shares t.clients t.keys ≡ true
+abbrev pub FitsKeys : TestValue → Type 0
+FitsKeys t = are_shares t.clients t.keys ≡ true
 
 -- the generator's calls are requests of what is tested
 abbrev pub suits_checker : Checker → ℕ → Generator → Bool
@@ -93,8 +93,8 @@ last_suits checker clients (Some generator) = suits_checker checker clients gene
 abbrev pub HasTestGenerator : TestValue → Type 0
 HasTestGenerator t = suits_checker t.checker t.clients t.generator ≡ true
 
-abbrev pub HasFinal : TestValue → Type 0
-HasFinal t = last_suits t.checker t.clients t.final ≡ true
+abbrev pub FitsFinal : TestValue → Type 0
+FitsFinal t = last_suits t.checker t.clients t.final ≡ true
 
 -- there are not too many entries, and each node that a fault names is in the environment
 abbrev pub HasSchedule : TestValue → Type 0
@@ -111,30 +111,30 @@ pub record IsGoodShape (shape : TransactionShape) : Type 0 where
   pub some_appends : 1 ≤ shape.appends
   pub few_appends : shape.appends ≤ 10000
 
-abbrev pub HasTransactions : TestValue → Type 0
-HasTransactions t = IsGoodShape t.transactions
+abbrev pub FitsTransactions : TestValue → Type 0
+FitsTransactions t = IsGoodShape t.transactions
 
 pub record IsFitTest (t : TestValue) : Type 0 where
   pub clients : HasTestClients t
   pub ops : HasTestOps t
-  pub keys : HasKeys t
+  pub keys : FitsKeys t
   pub generator : HasTestGenerator t
-  pub final : HasFinal t
+  pub final : FitsFinal t
   pub schedule : HasSchedule t
-  pub transactions : HasTransactions t
+  pub transactions : FitsTransactions t
 
 -- why a test is refused: each is looked at only where those before it are right
 abbrev pub RefusesTest : TestValue → TestError → Type 0
 RefusesTest t BadClients = HasTestClients t → ⊥
 RefusesTest t BadOps = HasTestClients t × (HasTestOps t → ⊥)
-RefusesTest t BadKeys = HasTestClients t × HasTestOps t × (HasKeys t → ⊥)
-RefusesTest t BadGenerator = HasTestClients t × HasTestOps t × HasKeys t × (HasTestGenerator t → ⊥)
-RefusesTest t BadFinal = HasTestClients t × HasTestOps t × HasKeys t × HasTestGenerator t × (HasFinal t → ⊥)
+RefusesTest t BadKeys = HasTestClients t × HasTestOps t × (FitsKeys t → ⊥)
+RefusesTest t BadGenerator = HasTestClients t × HasTestOps t × FitsKeys t × (HasTestGenerator t → ⊥)
+RefusesTest t BadFinal = HasTestClients t × HasTestOps t × FitsKeys t × HasTestGenerator t × (FitsFinal t → ⊥)
 RefusesTest t BadSchedule =
-    HasTestClients t × HasTestOps t × HasKeys t × HasTestGenerator t × HasFinal t × (HasSchedule t → ⊥)
+    HasTestClients t × HasTestOps t × FitsKeys t × HasTestGenerator t × FitsFinal t × (HasSchedule t → ⊥)
 RefusesTest t BadTransactions =
-    HasTestClients t × HasTestOps t × HasKeys t × HasTestGenerator t × HasFinal t × HasSchedule t
-    × (HasTransactions t → ⊥)
+    HasTestClients t × HasTestOps t × FitsKeys t × HasTestGenerator t × FitsFinal t × HasSchedule t
+    × (FitsTransactions t → ⊥)
 RefusesTest t OutOfMemory = IsFitTest t
 
 -- the thread of a process: a client that crashed goes on as a process of its thread (jepsen.generator)

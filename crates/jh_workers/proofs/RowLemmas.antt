@@ -14,7 +14,7 @@ use Rattle.jh_ops.specs.declared.operation.Op.{Op}
 use Rattle.jh_ops.specs.Words.{IsRecordedAs, RefusesWords, heading}
 use Rattle.jh_ops.specs.declared.words.WordsError.{WordsError}
 use Rattle.jh_ops.specs.declared.words.WordsError.TheVariants.{BadWords, OutOfMemory, NotRecordable, TooSmall}
-use Rattle.jh_simnode.specs.Histories.{placed_operation}
+use Rattle.jh_simnode.specs.Histories.{indexed_operation}
 use Rattle.jh_slots.specs.Seats.{Mark, Marks, Words, Void, Knowledge, knowledge_after_read}
 use Rattle.jh_slots.proofs.MapLemmas.{get_new, get_else}
 use Rattle.jh_workers.specs.Gather.{is_record, record_rows, IsBadMark, IsRecordOf, AreRecordsOf, RefusesGather, rows_of_log}
@@ -124,7 +124,7 @@ records_same s t n place [] [] same low are = tt
 records_same s t n place [] (op ∷ ops) same low are = absurd are
 records_same s t n place (r ∷ rs) [] same low are = absurd are
 records_same s t n place (r ∷ rs) (op ∷ ops) same low are = (
-  record { words = are.0.words; recorded = are.0.recorded; shown = same r low.0 ∙ are.0.shown; is = are.0.is; placed = are.0.placed },
+  record { words = are.0.words; recorded = are.0.recorded; shown = same r low.0 ∙ are.0.shown; is = are.0.is; indexed = are.0.indexed },
   records_same s t n (place + 1) rs ops same low.1 are.1,
 )
 
@@ -141,11 +141,11 @@ records_more s place (r ∷ rs) (x ∷ ops) row end op are at is =
 
 pub gathered_with : (s t : Marks) (n : ℕ) (words : List ℕ) (recorded : Operation) (history : List Operation) → AgreeBelow s t n
     → map.get t n ≡ Some (Words words) → IsRecordedAs recorded words → AreRecordsOf s 0 (record_rows s n) history
-    → AreRecordsOf t 0 (record_rows t (n + 1)) (history ++ placed_operation (length history) recorded ∷ [])
+    → AreRecordsOf t 0 (record_rows t (n + 1)) (history ++ indexed_operation (length history) recorded ∷ [])
 gathered_with s t n words recorded history same shown is are =
-    let op = placed_operation (length history) recorded in
+    let op = indexed_operation (length history) recorded in
     let before = records_same s t n 0 (record_rows s n) history same (rows_below s n) are in
-    let new : IsRecordOf t (length history) n op = record { words = words; recorded = recorded; shown = shown; is = is; placed = refl } in
+    let new : IsRecordOf t (length history) n op = record { words = words; recorded = recorded; shown = shown; is = is; indexed = refl } in
     subst (λ rows. AreRecordsOf t 0 rows (history ++ op ∷ [])) (sym (rows_with s t n words same shown))
     (records_more t 0 (record_rows s n) history n (length history) op before (omega arith) new)
 
@@ -183,4 +183,4 @@ pub writable_found : (mark : Option Mark) (found : Option Op) (history : List Op
     → All (λ op. IsWritable op.process) history → All (λ op. IsWritable op.process) (history_with_found history found)
 writable_found mark None history is all = all
 writable_found mark (Some op) history is all =
-    All-push (λ (o : Operation). IsWritable o.process) history (placed_operation (length history) (operation op)) all (recorded_writable (operation op) is.0 is.2)
+    All-push (λ (o : Operation). IsWritable o.process) history (indexed_operation (length history) (operation op)) all (recorded_writable (operation op) is.0 is.2)

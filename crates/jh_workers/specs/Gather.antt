@@ -6,7 +6,7 @@ use Rattle.std.specs.FinMap as map
 use Rattle.jh_slots.specs.Seats.{Mark, Marks, Words, Void}
 use Rattle.jh_ops.specs.Operation.{Operation}
 use Rattle.jh_ops.specs.Words.{IsRecordedAs}
-use Rattle.jh_simnode.specs.Histories.{placed_operation}
+use Rattle.jh_simnode.specs.Histories.{indexed_operation}
 use Rattle.jh_workers.specs.declared.records.GatherError.{GatherError}
 use Rattle.jh_workers.specs.declared.records.GatherError.TheVariants.{BadWords, OutOfMemory}
 
@@ -26,7 +26,7 @@ pub record IsRecordOf (seen : Marks) (place row : ℕ) (op : Operation) : Type 0
   pub recorded : Operation
   pub shown : map.get seen row ≡ Some (Words words)
   pub is : IsRecordedAs recorded words
-  pub placed : op ≡ placed_operation place recorded
+  pub indexed : op ≡ indexed_operation place recorded
 
 -- each row shows the record of one operation, which stand one after another from a place on
 abbrev pub AreRecordsOf : Marks → ℕ → List ℕ → List Operation → Type 0

@@ -7,7 +7,7 @@ use Rattle.jh_ops.specs.Words.{IsRecordedAs}
 use Rattle.jh_ops.specs.declared.operation.Op.{Op}
 use Rattle.jh_ops.specs.declared.words.WordsError.{WordsError}
 use Rattle.jh_ops.specs.declared.words.WordsError.TheVariants as words
-use Rattle.jh_simnode.specs.Histories.{placed_operation}
+use Rattle.jh_simnode.specs.Histories.{indexed_operation}
 use Rattle.jh_workers.specs.declared.records.GatherError.{GatherError}
 use Rattle.jh_workers.specs.declared.records.GatherError.TheVariants.{BadWords, OutOfMemory}
 use Rattle.jh_workers.specs.Gather.{IsBadMark, is_record}
@@ -40,4 +40,4 @@ IsFound mark (Some op) =
 abbrev pub history_with_found : List Operation → Option Op → List Operation
 history_with_found history None = history
 history_with_found history (Some op) =
-    history ++ placed_operation (length history) (operation op) ∷ []
+    history ++ indexed_operation (length history) (operation op) ∷ []

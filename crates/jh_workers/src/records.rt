@@ -11,7 +11,7 @@ ghost use Rattle.jh_workers.specs.GatherInside.{IsFound, RefusesRecord, RefusesR
 ghost use Rattle.jh_workers.specs.GatherInside.{history_with_found};
 
 use jh_ops::{Op, WordsError, of_words};
-use jh_simnode::push_placed;
+use jh_simnode::push_indexed;
 use jh_slots::{MAX_CLAIMED, MAX_ROWS, ROW_WORDS, Read, Seat, Slots};
 use std::alloc::{AllocError, Global};
 use thiserror::Error;
@@ -98,7 +98,7 @@ fn push_found(history: &mut Vec<Op>, found: Option<Op>) -> Result<(), AllocError
     ensures few { OnOk result (length history.new.items ≤ length history.old.items + 1) }
 {
     match found {
-        Some(op) => push_placed(history, op),
+        Some(op) => push_indexed(history, op),
         None => Ok(()),
     }
 }

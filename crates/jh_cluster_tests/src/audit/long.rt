@@ -3,7 +3,7 @@
 use crate::audit::rows::{Run, judged};
 use crate::first::plan_of;
 use jh_ops::{Op, Request};
-use jh_simnode::{Event, Got, Reply, completion, invocation, node_of, push_placed};
+use jh_simnode::{Event, Got, Reply, completion, invocation, node_of, push_indexed};
 use std::alloc::Global;
 
 /// How many processes ask, all before any is answered.
@@ -39,7 +39,7 @@ fn add(history: &mut Vec<Op>, op: Op) -> Option<()> {
     if history.len() > MAX_OPERATIONS {
         return None;
     }
-    push_placed(history, op).ok()
+    push_indexed(history, op).ok()
 }
 
 /// A process asks.
