@@ -1,0 +1,14 @@
+//! Where and why settings are refused, in lines that stand behind the refusal.
+#![tactic(auto)]
+
+mod generator;
+mod key_texts;
+mod line;
+mod moments;
+mod reasons;
+mod schedule;
+mod text;
+mod toml_text;
+
+pub use key_texts::SettingsKind;
+pub use reasons::settings_reasons;

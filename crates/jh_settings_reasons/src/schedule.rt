@@ -1,0 +1,150 @@
+//! Why the value under `schedule` is refused. `specs/Entries.antt` says which entry is bad, and why.
+
+ghost use Rattle.std.specs.Prelude.{◌≡◌, IfOk};
+ghost use Rattle.toml.specs.View as toml;
+ghost use Rattle.jh_edn.specs.View.{view};
+ghost use Rattle.jh_settings_reasons.specs.Entries as rule;
+ghost use Rattle.jh_settings_reasons.specs.Reasons as reasons;
+
+use crate::key_texts::{SettingsKind, key_takes};
+use crate::line::{add, add_shown, line_of};
+use crate::moments::is_moment;
+use crate::text::{TextFault, element_in};
+use jh_edn::Value;
+use jh_env::Nodes;
+use jh_settings::{Key, SettingsError, start_under};
+use jh_simnode::MAX_ENTRIES;
+use jh_step_texts::{StepTextError, step_of_value};
+use std::alloc::{AllocError, Global};
+use std::fmt::{self, Display, Formatter, Write};
+use toml::Table;
+
+/// Why a value is no entry.
+#[derive(Clone, Copy, Debug, PartialEq, Eq)]
+pub(crate) enum EntryFault {
+    /// It is no text of one element.
+    Text(TextFault),
+    /// The element is not `[AT STEP]`.
+    NoPair,
+    /// AT is no moment of such settings.
+    Moment(SettingsKind),
+    /// STEP is no step over the nodes of the start.
+    Step(StepTextError),
+}
+
+impl Display for EntryFault {
+    ghost use Rattle.jh_settings_reasons.specs.Entries.{entry_fault_text};
+
+    ghost output = { entry_fault_text };
+
+    fn fmt<W: Write>(&self, f: &mut Formatter<W>) -> fmt::Result {
+        match self {
+            EntryFault::Text(fault) => write!(f, "{fault}"),
+            EntryFault::NoPair => f.write_str("not [AT STEP]"),
+            EntryFault::Moment(SettingsKind::Run) => {
+                f.write_str("AT is no number from 0 to 10000")
+            }
+            EntryFault::Moment(SettingsKind::Test) => f.write_str(
+                "AT is no number from 0 to 1000000, and no [:ms T] with T from 0 to 86400000",
+            ),
+            EntryFault::Step(error) => write!(f, "{error}"),
+        }
+    }
+}
+
+/// Why an element is no entry, if it is none.
+fn element_fault(
+    alloc: Global,
+    kind: SettingsKind,
+    nodes: &Nodes,
+    element: &Value,
+) -> Result<Option<EntryFault>, AllocError>
+    ensures { IfOk result (λ fault. fault ≡ rule.element_fault kind nodes.now (view element.now)) }
+{
+    let Some([at, step]) = element.elements() else {
+        return Ok(Some(EntryFault::NoPair));
+    };
+    if !is_moment(kind, at) {
+        return Ok(Some(EntryFault::Moment(kind)));
+    }
+    match step_of_value(alloc, nodes, step) {
+        Ok(_) => Ok(None),
+        Err(StepTextError::OutOfMemory) => Err(AllocError),
+        Err(error) => Ok(Some(EntryFault::Step(error))),
+    }
+}
+
+/// Why a value is no entry, if it is none.
+fn entry_fault(
+    alloc: Global,
+    kind: SettingsKind,
+    nodes: &Nodes,
+    value: &toml::Value,
+) -> Result<Option<EntryFault>, AllocError>
+    ensures { IfOk result (rule.IsEntryFault kind nodes.now (toml.view value.now)) }
+{
+    match element_in(alloc, value)? {
+        Ok(element) => element_fault(alloc, kind, nodes, &element),
+        Err(fault) => Ok(Some(EntryFault::Text(fault))),
+    }
+}
+
+/// The first of these values that is no entry, with its place from 0, and why.
+fn first_fault(
+    alloc: Global,
+    kind: SettingsKind,
+    nodes: &Nodes,
+    values: &[toml::Value],
+) -> Result<Option<(usize, EntryFault)>, AllocError> {
+    for (place, value) in values.iter().enumerate() {
+        if let Some(fault) = entry_fault(alloc, kind, nodes, value)? {
+            return Ok(Some((place, fault)));
+        }
+    }
+    Ok(None)
+}
+
+/// The line that names an entry, by its place from 0, and why it is none.
+fn entry_line(alloc: Global, place: usize, fault: EntryFault) -> Result<Vec<u8>, AllocError>
+    ensures { IfOk result (λ line. reasons.NamesEntry place fault line.items) }
+{
+    let mut line = Vec::new(alloc);
+    add(&mut line, "entry ")?;
+    add_shown(&mut line, &place)?;
+    add(&mut line, ": ")?;
+    add_shown(&mut line, &fault)?;
+    Ok(line)
+}
+
+/// Why entries over these nodes are refused: the first that is none, or else what the key takes.
+fn entries_line(
+    alloc: Global,
+    kind: SettingsKind,
+    nodes: &Nodes,
+    values: &[toml::Value],
+) -> Result<Vec<u8>, AllocError> {
+    match first_fault(alloc, kind, nodes, values)? {
+        Some((place, fault)) => entry_line(alloc, place, fault),
+        None => line_of(alloc, key_takes(kind, Key::Schedule)),
+    }
+}
+
+/// Why the value under `schedule` is refused.
+pub(crate) fn schedule_line(
+    alloc: Global,
+    kind: SettingsKind,
+    table: &Table,
+    value: &toml::Value,
+) -> Result<Vec<u8>, AllocError> {
+    let toml::Value::Array(values) = value else {
+        return line_of(alloc, "not an array");
+    };
+    if values.len() > MAX_ENTRIES {
+        return line_of(alloc, "more than 1,024 entries");
+    }
+    match start_under(alloc, table) {
+        Ok(environment) => entries_line(alloc, kind, environment.nodes(), values.as_slice()),
+        Err(SettingsError::OutOfMemory) => Err(AllocError),
+        Err(_) => line_of(alloc, key_takes(kind, Key::Schedule)),
+    }
+}
