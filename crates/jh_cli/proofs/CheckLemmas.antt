@@ -9,7 +9,8 @@ use Rattle.jh_independent.specs.declared.error.KeysError.{KeysError}
 use Rattle.jh_independent.specs.declared.error.KeysError.TheVariants as KeysErrors
 use Rattle.jh_ops.specs.Operation.{Operation}
 use Rattle.jh_ops.specs.declared.history.HistoryError.TheVariants as history_errors
-use Rattle.jh_histories.specs.HistoryAndRest.{AreHistoryAndRest, RefusesHistoryAndRest}
+use Rattle.jh_histories.specs.HistoryAndRest.{RefusesHistoryAndRest}
+use Rattle.jh_cli.specs.HistoryInput.{IsHistoryInput, RefusesHistoryInput}
 use Rattle.jh_cli.specs.CheckRefusals.{RefusesBy, RefusesCheck, RefusesJudging}
 use Rattle.jh_cli.specs.Status.{check_error, keys_error, reading_error}
 use Rattle.jh_cli.specs.declared.check_command.CheckQuestion.{CheckQuestion}
@@ -29,7 +30,14 @@ nothing_written input refused =
       ]
     ]
 
-pub reading_refused : (question : CheckQuestion) (input : List ℕ) (error : ReadHistoryError) → RefusesHistoryAndRest input error → RefusesCheck question input (reading_error error)
+pub input_written : (skips_unread : Bool) (input : List ℕ) → RefusesHistoryInput skips_unread input (reading.Text edn.Write) → ⊥
+input_written skips_unread input refused =
+    elim refused [
+      | inl bytes ↦ bytes.0
+      | inr read ↦ nothing_written read.0 read.2
+    ]
+
+pub reading_refused : (question : CheckQuestion) (input : List ℕ) (error : ReadHistoryError) → RefusesHistoryInput question.skips_unread input error → RefusesCheck question input (reading_error error)
 reading_refused question input (reading.Text (edn.UnexpectedEnd line)) refused = (refl, refused)
 reading_refused question input (reading.Text (edn.BadToken line)) refused = (refl, refused)
 reading_refused question input (reading.Text (edn.FloatUnsupported line)) refused = (refl, refused)
@@ -41,7 +49,7 @@ reading_refused question input (reading.Text (edn.TooDeep line)) refused = (refl
 reading_refused question input (reading.Text edn.Utf8) refused = (refl, refused)
 reading_refused question input (reading.Text edn.TooLong) refused = (refl, refused)
 reading_refused question input (reading.Text edn.Read) refused = tt
-reading_refused question input (reading.Text edn.Write) refused = absurd (nothing_written input refused)
+reading_refused question input (reading.Text edn.Write) refused = absurd (input_written question.skips_unread input refused)
 reading_refused question input (reading.Text edn.OutOfMemory) refused = tt
 reading_refused question input (reading.History history_errors.OutOfMemory) refused = tt
 reading_refused question input (reading.History (history_errors.Op place why)) refused = (refl, refused)
@@ -72,7 +80,7 @@ by_judging : (independent : Bool) (question : CheckQuestion) (history : List Ope
 by_judging true question history e refused = subst IsJudging (sym refused.3) (by_keys refused.0)
 by_judging false question history e refused = subst IsJudging (sym refused.2) (by_checker refused.0)
 
-pub judging_refused : (question : CheckQuestion) (input : List ℕ) (history : List Operation) (below : List ℕ) (e : CliError) → AreHistoryAndRest input history below → RefusesJudging question history e → RefusesCheck question input e
+pub judging_refused : (question : CheckQuestion) (input : List ℕ) (history : List Operation) (below : List ℕ) (e : CliError) → IsHistoryInput question.skips_unread input history below → RefusesJudging question history e → RefusesCheck question input e
 judging_refused question input history below (Input error) parts refused = absurd (by_judging question.independent question history (Input error) refused)
 judging_refused question input history below EnvironmentMissing parts refused = absurd (by_judging question.independent question history EnvironmentMissing refused)
 judging_refused question input history below (Environment error) parts refused = absurd (by_judging question.independent question history (Environment error) refused)

@@ -1,4 +1,5 @@
 pub mod CheckLemmas
+pub mod HistoryInputLemmas
 pub mod RefusalLemmas
 pub mod StepLemmas
 pub mod WritingLemmas

@@ -8,11 +8,11 @@ use Rattle.std.proofs.lemmas.List.FromFn.{length-range_with_len}
 use Rattle.std.proofs.lemmas.List.Sums.{count_by-le-length, length-filter}
 use Rattle.jh_ops.specs.Operation.{Operation}
 use Rattle.jh_slots.specs.Seats.{Marks}
-use Rattle.jh_run_laws.specs.RecordedHistory.{IsPlacedRecord}
+use Rattle.jh_run_laws.specs.RecordedHistory.{IsIndexedRecord}
 use Rattle.jh_workers.specs.Gather.{AreRecordsOf, IsGathered, is_record, record_rows, rows_of_log}
 
 placed_from : (seen : Marks) (place : ℕ) (rows : List ℕ) (history : List Operation) → place + length rows ≤ 65536 → AreRecordsOf seen place rows history
-    → AllByRecursion IsPlacedRecord history
+    → AllByRecursion IsIndexedRecord history
 placed_from seen place [] [] low h = tt
 placed_from seen place [] (op ∷ ops) low h = absurd h
 placed_from seen place (row ∷ rows) [] low h = absurd h
@@ -23,7 +23,7 @@ placed_from seen place (row ∷ rows) (op ∷ ops) low h = (
     recorded = h.0.recorded;
     words = h.0.words;
     is = h.0.is;
-    placed = h.0.placed;
+    indexed = h.0.indexed;
   },
   placed_from seen (place + 1) rows ops (omega (arith, low)) h.1,
 )
@@ -35,6 +35,6 @@ few_rows seen count =
     let few : rows_of_log count ≤ 65536 = min-le_right count 65536 in
     omega (arith, length-filter p rows, count_by-le-length p rows, length-range_with_len 0 (rows_of_log count), few)
 
-pub gathered_placed : (seen : Marks) (count : ℕ) (history : List Operation) → IsGathered seen count history → All IsPlacedRecord history
+pub gathered_placed : (seen : Marks) (count : ℕ) (history : List Operation) → IsGathered seen count history → All IsIndexedRecord history
 gathered_placed seen count history gathered =
-    All-from_recursion IsPlacedRecord history (placed_from seen 0 (record_rows seen (rows_of_log count)) history (few_rows seen count) gathered)
+    All-from_recursion IsIndexedRecord history (placed_from seen 0 (record_rows seen (rows_of_log count)) history (few_rows seen count) gathered)

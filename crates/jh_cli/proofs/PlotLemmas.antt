@@ -1,5 +1,5 @@
 -- Why `plot` refuses an input, from why its history is not read or has no plot.
-use Rattle.std.proofs.Common.{◌≡◌, ℕ, List, refl, sym, subst}
+use Rattle.std.proofs.Common.{◌≡◌, ℕ, Bool, List, refl, sym, subst}
 use Rattle.jh_edn.specs.declared.error.EdnError.TheVariants as edn
 use Rattle.jh_histories.specs.declared.error.ReadHistoryError.{ReadHistoryError}
 use Rattle.jh_histories.specs.declared.error.ReadHistoryError.TheVariants as reading
@@ -8,29 +8,29 @@ use Rattle.jh_ops.specs.declared.history.HistoryError.TheVariants as history_err
 use Rattle.jh_plots.specs.Plots as plots
 use Rattle.jh_plots.specs.declared.error.PlotError.{PlotError}
 use Rattle.jh_plots.specs.declared.error.PlotError.TheVariants as plot_errors
-use Rattle.jh_histories.specs.HistoryAndRest.{AreHistoryAndRest, RefusesHistoryAndRest}
-use Rattle.jh_cli.proofs.CheckLemmas.{nothing_written}
+use Rattle.jh_cli.specs.HistoryInput.{IsHistoryInput, RefusesHistoryInput}
+use Rattle.jh_cli.proofs.CheckLemmas.{input_written}
 use Rattle.jh_cli.specs.PlotRefusals.{IsUnplottable, RefusesPlot, RefusesPlotting}
 use Rattle.jh_cli.specs.Status.{plot_error, reading_error}
 use Rattle.jh_cli.specs.declared.error.CliError.{CliError}
 use Rattle.jh_cli.specs.declared.error.CliError.TheVariants.{TimeMissing, Input, EnvironmentMissing, Environment, Element, History, Check, Settings, Run, HistoryFull, Mismatch, Thread, OnlyForRegister, OnlyForListAppend, BadPalette, Unwritable, SettingsRead, Read, Write, OutOfMemory}
 
-pub plotted_from : (input : List ℕ) (error : ReadHistoryError) → RefusesHistoryAndRest input error → RefusesPlot input (reading_error error)
-plotted_from input (reading.Text (edn.UnexpectedEnd line)) refused = (refl, refused)
-plotted_from input (reading.Text (edn.BadToken line)) refused = (refl, refused)
-plotted_from input (reading.Text (edn.FloatUnsupported line)) refused = (refl, refused)
-plotted_from input (reading.Text (edn.IntegerRange line)) refused = (refl, refused)
-plotted_from input (reading.Text (edn.BadEscape line)) refused = (refl, refused)
-plotted_from input (reading.Text (edn.OddMap line)) refused = (refl, refused)
-plotted_from input (reading.Text (edn.DuplicateKey line)) refused = (refl, refused)
-plotted_from input (reading.Text (edn.TooDeep line)) refused = (refl, refused)
-plotted_from input (reading.Text edn.Utf8) refused = (refl, refused)
-plotted_from input (reading.Text edn.TooLong) refused = (refl, refused)
-plotted_from input (reading.Text edn.Read) refused = tt
-plotted_from input (reading.Text edn.Write) refused = absurd (nothing_written input refused)
-plotted_from input (reading.Text edn.OutOfMemory) refused = tt
-plotted_from input (reading.History history_errors.OutOfMemory) refused = tt
-plotted_from input (reading.History (history_errors.Op place why)) refused = (refl, refused)
+pub plotted_from : (skips_unread : Bool) (input : List ℕ) (error : ReadHistoryError) → RefusesHistoryInput skips_unread input error → RefusesPlot skips_unread input (reading_error error)
+plotted_from skips_unread input (reading.Text (edn.UnexpectedEnd line)) refused = (refl, refused)
+plotted_from skips_unread input (reading.Text (edn.BadToken line)) refused = (refl, refused)
+plotted_from skips_unread input (reading.Text (edn.FloatUnsupported line)) refused = (refl, refused)
+plotted_from skips_unread input (reading.Text (edn.IntegerRange line)) refused = (refl, refused)
+plotted_from skips_unread input (reading.Text (edn.BadEscape line)) refused = (refl, refused)
+plotted_from skips_unread input (reading.Text (edn.OddMap line)) refused = (refl, refused)
+plotted_from skips_unread input (reading.Text (edn.DuplicateKey line)) refused = (refl, refused)
+plotted_from skips_unread input (reading.Text (edn.TooDeep line)) refused = (refl, refused)
+plotted_from skips_unread input (reading.Text edn.Utf8) refused = (refl, refused)
+plotted_from skips_unread input (reading.Text edn.TooLong) refused = (refl, refused)
+plotted_from skips_unread input (reading.Text edn.Read) refused = tt
+plotted_from skips_unread input (reading.Text edn.Write) refused = absurd (input_written skips_unread input refused)
+plotted_from skips_unread input (reading.Text edn.OutOfMemory) refused = tt
+plotted_from skips_unread input (reading.History history_errors.OutOfMemory) refused = tt
+plotted_from skips_unread input (reading.History (history_errors.Op place why)) refused = (refl, refused)
 
 -- what a history may have no plot for
 abbrev IsPlotting : CliError → Type 0
@@ -53,24 +53,25 @@ unplotted history (plot_errors.TimeMissing index) refused = (plot_errors.TimeMis
 unplotted history (plot_errors.Pair error) refused = (plot_errors.Pair error, refused, refl)
 unplotted history plot_errors.OutOfMemory refused = tt
 
-pub plotting_refused : (input : List ℕ) (history : List Operation) (below : List ℕ) (e : CliError) → AreHistoryAndRest input history below → RefusesPlotting history e → RefusesPlot input e
-plotting_refused input history below (TimeMissing index) parts refused = (history, below, parts, refused)
-plotting_refused input history below (Input error) parts refused = absurd (by_plot history (Input error) refused)
-plotting_refused input history below EnvironmentMissing parts refused = (history, below, parts, refused)
-plotting_refused input history below (Environment error) parts refused = (history, below, parts, refused)
-plotting_refused input history below (Element number error) parts refused = (history, below, parts, refused)
-plotting_refused input history below (History error) parts refused = absurd (by_plot history (History error) refused)
-plotting_refused input history below (Check error) parts refused = (history, below, parts, refused)
-plotting_refused input history below (Settings error) parts refused = (history, below, parts, refused)
-plotting_refused input history below (Run error) parts refused = (history, below, parts, refused)
-plotting_refused input history below HistoryFull parts refused = (history, below, parts, refused)
-plotting_refused input history below Mismatch parts refused = (history, below, parts, refused)
-plotting_refused input history below Thread parts refused = (history, below, parts, refused)
-plotting_refused input history below OnlyForRegister parts refused = (history, below, parts, refused)
-plotting_refused input history below OnlyForListAppend parts refused = (history, below, parts, refused)
-plotting_refused input history below BadPalette parts refused = (history, below, parts, refused)
-plotting_refused input history below Unwritable parts refused = (history, below, parts, refused)
-plotting_refused input history below SettingsRead parts refused = (history, below, parts, refused)
-plotting_refused input history below Read parts refused = tt
-plotting_refused input history below Write parts refused = absurd (by_plot history Write refused)
-plotting_refused input history below OutOfMemory parts refused = tt
+pub plotting_refused : (skips_unread : Bool) (input : List ℕ) (history : List Operation) (below : List ℕ) (e : CliError) → IsHistoryInput skips_unread input history below → RefusesPlotting history e
+    → RefusesPlot skips_unread input e
+plotting_refused skips_unread input history below (TimeMissing index) parts refused = (history, below, parts, refused)
+plotting_refused skips_unread input history below (Input error) parts refused = absurd (by_plot history (Input error) refused)
+plotting_refused skips_unread input history below EnvironmentMissing parts refused = (history, below, parts, refused)
+plotting_refused skips_unread input history below (Environment error) parts refused = (history, below, parts, refused)
+plotting_refused skips_unread input history below (Element number error) parts refused = (history, below, parts, refused)
+plotting_refused skips_unread input history below (History error) parts refused = absurd (by_plot history (History error) refused)
+plotting_refused skips_unread input history below (Check error) parts refused = (history, below, parts, refused)
+plotting_refused skips_unread input history below (Settings error) parts refused = (history, below, parts, refused)
+plotting_refused skips_unread input history below (Run error) parts refused = (history, below, parts, refused)
+plotting_refused skips_unread input history below HistoryFull parts refused = (history, below, parts, refused)
+plotting_refused skips_unread input history below Mismatch parts refused = (history, below, parts, refused)
+plotting_refused skips_unread input history below Thread parts refused = (history, below, parts, refused)
+plotting_refused skips_unread input history below OnlyForRegister parts refused = (history, below, parts, refused)
+plotting_refused skips_unread input history below OnlyForListAppend parts refused = (history, below, parts, refused)
+plotting_refused skips_unread input history below BadPalette parts refused = (history, below, parts, refused)
+plotting_refused skips_unread input history below Unwritable parts refused = (history, below, parts, refused)
+plotting_refused skips_unread input history below SettingsRead parts refused = (history, below, parts, refused)
+plotting_refused skips_unread input history below Read parts refused = tt
+plotting_refused skips_unread input history below Write parts refused = absurd (by_plot history Write refused)
+plotting_refused skips_unread input history below OutOfMemory parts refused = tt

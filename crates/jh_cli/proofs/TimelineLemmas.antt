@@ -12,8 +12,8 @@ use Rattle.jh_independent.specs.declared.error.KeysError.{KeysError}
 use Rattle.jh_independent.specs.declared.error.KeysError.TheVariants as KeysErrors
 use Rattle.jh_ops.specs.Operation.{Operation}
 use Rattle.jh_ops.specs.declared.history.HistoryError.TheVariants as history_errors
-use Rattle.jh_histories.specs.HistoryAndRest.{AreHistoryAndRest, RefusesHistoryAndRest}
-use Rattle.jh_cli.proofs.CheckLemmas.{IsJudging, by_checker, by_keys, nothing_written}
+use Rattle.jh_cli.specs.HistoryInput.{IsHistoryInput, RefusesHistoryInput}
+use Rattle.jh_cli.proofs.CheckLemmas.{IsJudging, by_checker, by_keys, input_written}
 use Rattle.jh_cli.specs.Status.{keys_error, reading_error}
 use Rattle.jh_cli.specs.TimelineRefusals.{RefusesFinding, RefusesPage, RefusesShowing, RefusesTimeline}
 use Rattle.jh_cli.specs.declared.error.CliError.{CliError}
@@ -22,7 +22,7 @@ use Rattle.jh_cli.specs.declared.timeline_command.TimelineQuestion.{TimelineQues
 
 -- ---- no parts are read
 
-pub parts_refused : (question : TimelineQuestion) (steps : List Edn) (input : List ℕ) (error : ReadHistoryError) → RefusesHistoryAndRest input error → RefusesTimeline question steps input (reading_error error)
+pub parts_refused : (question : TimelineQuestion) (steps : List Edn) (input : List ℕ) (error : ReadHistoryError) → RefusesHistoryInput question.skips_unread input error → RefusesTimeline question steps input (reading_error error)
 parts_refused question steps input (reading.Text (edn.UnexpectedEnd line)) refused = (refl, refused)
 parts_refused question steps input (reading.Text (edn.BadToken line)) refused = (refl, refused)
 parts_refused question steps input (reading.Text (edn.FloatUnsupported line)) refused = (refl, refused)
@@ -34,7 +34,7 @@ parts_refused question steps input (reading.Text (edn.TooDeep line)) refused = (
 parts_refused question steps input (reading.Text edn.Utf8) refused = (refl, refused)
 parts_refused question steps input (reading.Text edn.TooLong) refused = (refl, refused)
 parts_refused question steps input (reading.Text edn.Read) refused = tt
-parts_refused question steps input (reading.Text edn.Write) refused = absurd (nothing_written input refused)
+parts_refused question steps input (reading.Text edn.Write) refused = absurd (input_written question.skips_unread input refused)
 parts_refused question steps input (reading.Text edn.OutOfMemory) refused = tt
 parts_refused question steps input (reading.History history_errors.OutOfMemory) refused = tt
 parts_refused question steps input (reading.History (history_errors.Op place why)) refused = (refl, refused)
@@ -47,7 +47,7 @@ by_finding true (Some judging) history e refused = subst IsJudging (sym refused.
 by_finding false None history e refused = absurd refused
 by_finding false (Some judging) history e refused = subst IsJudging (sym refused.2) (by_checker refused.0)
 
-pub page_refused : (question : TimelineQuestion) (steps : List Edn) (input : List ℕ) (history : List Operation) (below : List ℕ) (e : CliError) → AreHistoryAndRest input history below → RefusesPage question history e
+pub page_refused : (question : TimelineQuestion) (steps : List Edn) (input : List ℕ) (history : List Operation) (below : List ℕ) (e : CliError) → IsHistoryInput question.skips_unread input history below → RefusesPage question history e
     → RefusesTimeline question steps input e
 page_refused question steps input history below (Input error) parts refused = absurd (by_finding question.independent question.judging history (Input error) refused)
 page_refused question steps input history below EnvironmentMissing parts refused = (history, below, parts, refused)

@@ -10,7 +10,7 @@ use Rattle.jh_independent.specs.declared.error.KeysError.TheVariants as KeysErro
 use Rattle.jh_checkers.specs.declared.checker.Checker.{Checker}
 use Rattle.jh_checkers.specs.declared.finding.Judging.{Judging}
 use Rattle.jh_reports.specs.Judged.{RefusesLine}
-use Rattle.jh_histories.specs.HistoryAndRest.{AreHistoryAndRest, RefusesHistoryAndRest}
+use Rattle.jh_cli.specs.HistoryInput.{IsHistoryInput, RefusesHistoryInput}
 use Rattle.jh_cli.specs.CheckText.{TakesInitial, TakesModel, IsCheckTextOf}
 use Rattle.jh_cli.specs.Status.{check_error, keys_error, IsInputError, IsHistoryError}
 use Rattle.jh_cli.specs.declared.check_command.CheckQuestion.{CheckQuestion}
@@ -50,13 +50,13 @@ RefusesCheck question input OnlyForListAppend =
     TakesInitial question.judging.checker question.judging.initial
     × (TakesModel question.judging.checker question.judging.model → ⊥)
 RefusesCheck question input (Input error) =
-    IsInputError error × RefusesHistoryAndRest input (reading.Text error)
+    IsInputError error × RefusesHistoryInput question.skips_unread input (reading.Text error)
 RefusesCheck question input (History error) =
-    IsHistoryError error × RefusesHistoryAndRest input (reading.History error)
+    IsHistoryError error × RefusesHistoryInput question.skips_unread input (reading.History error)
 RefusesCheck question input Read = Unit {0}
 RefusesCheck question input Write =
     (status : ℕ) × (output : List ℕ) × IsCheckTextOf question input status output
 RefusesCheck question input OutOfMemory = Unit {0}
 RefusesCheck question input e =
-    (history : List Operation) × (below : List ℕ) × AreHistoryAndRest input history below
+    (history : List Operation) × (below : List ℕ) × IsHistoryInput question.skips_unread input history below
     × RefusesBy question.independent question history e

@@ -6,7 +6,7 @@ use Rattle.jh_ops.specs.Operation.{Operation}
 use Rattle.jh_checkers.specs.declared.checker.Checker.{Checker}
 use Rattle.jh_txn.specs.declared.model.ConsistencyModel.{ConsistencyModel}
 use Rattle.jh_reports.specs.Judged.{IsTextBy}
-use Rattle.jh_histories.specs.HistoryAndRest.{AreHistoryAndRest}
+use Rattle.jh_cli.specs.HistoryInput.{IsHistoryInput}
 use Rattle.jh_cli.specs.Enough.{answer_where_enough, count_ok_calls}
 use Rattle.jh_cli.specs.declared.check_command.CheckQuestion.{CheckQuestion}
 
@@ -35,5 +35,5 @@ IsCheckLine question history status output =
 -- for an input: the history that it is, or, of what `run` or `drive` printed, the one in it
 abbrev pub IsCheckTextOf : CheckQuestion → List ℕ → ℕ → List ℕ → Type 0
 IsCheckTextOf question input status output =
-    (history : List Operation) × (below : List ℕ) × AreHistoryAndRest input history below
+    (history : List Operation) × (below : List ℕ) × IsHistoryInput question.skips_unread input history below
     × IsCheckLine question history status output

@@ -16,13 +16,13 @@ functions_of Checker.Counter = codes "add" ∷ codes "read" ∷ []
 functions_of Checker.Ids = codes "generate" ∷ []
 functions_of Checker.ListAppend = codes "txn" ∷ []
 
--- a client's call of one of these functions ended `:ok`
-abbrev pub is_ok_call : Checker → Operation → Bool
-is_ok_call checker op = list_any (λ name. is_asked Kind.Ok name op) (functions_of checker)
+-- a client's operation of this kind, of one of these functions
+abbrev pub is_judged : Checker → Kind → Operation → Bool
+is_judged checker kind op = list_any (λ name. is_asked kind name op) (functions_of checker)
 
--- how many such calls there are, in all keys
+-- how many of clients' calls of these functions ended `:ok`, in all keys
 abbrev pub count_ok_calls : Checker → List Operation → ℕ
-count_ok_calls checker history = count_by (is_ok_call checker) history
+count_ok_calls checker history = count_by (is_judged checker Kind.Ok) history
 
 -- the line where fewer calls were done than are wanted
 abbrev pub few_line : ℕ → ℕ → List ℕ

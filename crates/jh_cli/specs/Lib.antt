@@ -3,6 +3,8 @@ pub mod Outputs
 pub mod EnvText
 pub mod EnvRefusals
 pub mod Enough
+pub mod Counts
+pub mod HistoryInput
 pub mod CheckText
 pub mod CheckRefusals
 pub mod RunText

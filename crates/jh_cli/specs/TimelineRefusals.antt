@@ -10,7 +10,7 @@ use Rattle.jh_independent.specs.declared.error.KeysError.TheVariants as KeysErro
 use Rattle.jh_checkers.specs.declared.finding.Judging.{Judging}
 use Rattle.jh_edn.specs.Edn.{Edn}
 use Rattle.jh_ops.specs.Operation.{Operation}
-use Rattle.jh_histories.specs.HistoryAndRest.{AreHistoryAndRest, RefusesHistoryAndRest}
+use Rattle.jh_cli.specs.HistoryInput.{IsHistoryInput, RefusesHistoryInput}
 use Rattle.jh_cli.specs.CheckRefusals.{RefusesWhole}
 use Rattle.jh_cli.specs.Status.{IsInputError, IsHistoryError, keys_error}
 use Rattle.jh_cli.specs.TimelineText.{IsTimelineTextOf, TakesInitialBy, TakesModelBy}
@@ -55,13 +55,13 @@ RefusesTimeline question steps input OnlyForRegister = TakesInitialBy question.j
 RefusesTimeline question steps input OnlyForListAppend =
     TakesInitialBy question.judging × (TakesModelBy question.judging → ⊥)
 RefusesTimeline question steps input (Input error) =
-    IsInputError error × RefusesHistoryAndRest input (reading.Text error)
+    IsInputError error × RefusesHistoryInput question.skips_unread input (reading.Text error)
 RefusesTimeline question steps input (History error) =
-    IsHistoryError error × RefusesHistoryAndRest input (reading.History error)
+    IsHistoryError error × RefusesHistoryInput question.skips_unread input (reading.History error)
 RefusesTimeline question steps input Read = Unit {0}
 RefusesTimeline question steps input Write =
     (status : ℕ) × (output : List ℕ) × IsTimelineTextOf question steps input status output
 RefusesTimeline question steps input OutOfMemory = Unit {0}
 RefusesTimeline question steps input e =
-    (history : List Operation) × (below : List ℕ) × AreHistoryAndRest input history below
+    (history : List Operation) × (below : List ℕ) × IsHistoryInput question.skips_unread input history below
     × RefusesFinding question.independent question.judging history e

@@ -15,7 +15,7 @@ use Rattle.jh_timeline_pages.specs.Page.{page_text}
 use Rattle.jh_timeline_pages.specs.declared.section.Section.{Section}
 use Rattle.jh_timeline_pages.specs.declared.top.Top.{Top}
 use Rattle.jh_timeline_sections.specs.KeySections.{AreSectionsOf}
-use Rattle.jh_histories.specs.HistoryAndRest.{AreHistoryAndRest}
+use Rattle.jh_cli.specs.HistoryInput.{IsHistoryInput}
 use Rattle.jh_timeline_sections.specs.SaidVerdicts.{said_verdict}
 use Rattle.jh_timeline_sections.specs.Sections.{IsSectionOf}
 use Rattle.jh_timeline_sections.specs.Titles.{history_title, keys_title}
@@ -122,5 +122,5 @@ IsPage question steps history below status output =
 -- with what else it has below
 abbrev pub IsTimelineTextOf : TimelineQuestion → List Edn → List ℕ → ℕ → List ℕ → Type 0
 IsTimelineTextOf question steps input status output =
-    (history : List Operation) × (below : List ℕ) × AreHistoryAndRest input history below
+    (history : List Operation) × (below : List ℕ) × IsHistoryInput question.skips_unread input history below
     × IsPage question steps history below status output

@@ -2,7 +2,7 @@
 //! that a checker finds, in the history or in that of each of its keys; or that the history has too few
 //! calls to be called valid, which `enough.rt` counts. What is written stands in `specs/CheckText.antt`,
 //! why a history is refused in `specs/CheckRefusals.antt`; a new checker is a row of the table in
-//! `jh_checkers`, and a case of `is_ok_call` in `enough.rt`.
+//! `jh_checkers`, and a case of `is_judged` in `enough.rt`.
 
 ghost use Rattle.std.specs.Prelude.{◌≡◌, ◌≢◌, ◌↔◌, ◌≤◌, IfOk, IfErr, IsErrOf, IsTrue};
 ghost use Rattle.std.specs.Prelude.{MatchResult};
@@ -14,11 +14,12 @@ ghost use Rattle.jh_cli.specs.CheckText.{TakesInitial, TakesModel};
 ghost use Rattle.jh_cli.specs.Outputs.{OnInput, WritesOutput};
 ghost use Rattle.jh_reports.specs.Judged.{IsKeysText, IsTextBy, IsWholeText};
 
+use crate::counts::{HistoryObserver, history_counts};
 use crate::enough::answer_where_enough;
 use crate::error::CliError;
-use crate::output::{MAX_READS, finish};
+use crate::history_input::read_history_input;
+use crate::output::finish;
 use jh_checkers::{Checker, Judging};
-use jh_histories::read_history_and_rest;
 use jh_independent::check_keys;
 use jh_ops::Op;
 use jh_reports::{Output, output_of_keys};
@@ -38,10 +39,12 @@ pub struct CheckQuestion {
     /// A history with fewer calls that ended `:ok` is not called valid; counted are clients' calls
     /// of the functions that the checker judges, in all keys. None: any number is enough.
     pub at_least: Option<usize>,
+    /// Whether keys that no checker reads are left out where they can't be read.
+    pub skips_unread: bool,
 }
 
 /// Reads a history as `jh_histories::read_history_and_rest` does, also out of what `run` or `drive`
-/// printed, judges it as `jh_checkers::check_history` does, and writes one line with what is found.
+/// printed, without its unread keys where that is asked for, judges it as `jh_checkers::check_history` does, and writes one line with what is found.
 /// The answer is the exit status: 0 where the history is valid, 1 where it is not, 2 where that is not known. All is read
 /// and judged before the first byte is written.
 ///
@@ -52,16 +55,19 @@ pub struct CheckQuestion {
 /// A history with fewer calls than the question wants is not called valid: where it would be, the
 /// line is `{:valid? :unknown, :error "K of at least N operations"}`, and the status 2.
 ///
+/// The observer is told, once the history is read, how many of its calls are judged.
+///
 /// Errors: `OnlyForRegister` where there is an initial value and no register, `OnlyForListAppend`
 /// where there is a consistency model and no transactions over lists, both before anything is read;
 /// an error of reading, then of the text (`Input`), `History`, `Check`; `Thread`, where more than one
 /// was wanted; `OutOfMemory`; `Write`. Nothing is written before any of them but `Write`.
-pub fn check_run<T: Threads + Wait + Sync, R: Read, W: Write>(
+pub fn check_run<T: Threads + Wait + Sync, R: Read, W: Write, O: HistoryObserver>(
     rt: &T,
     alloc: Global,
     reader: &mut R,
     writer: &mut W,
     question: CheckQuestion,
+    observer: &mut O,
 ) -> Result<u8, CliError>
     requires { (1 ≤ question.threads) × (question.threads ≤ 16) }
     ensures written { IfOk result (λ status. WritesOutput (R.remaining reader.old)
@@ -83,7 +89,8 @@ pub fn check_run<T: Threads + Wait + Sync, R: Read, W: Write>(
     if !takes_model(question.judging) {
         return Err(CliError::OnlyForListAppend);
     }
-    let parts = read_history_and_rest(alloc, reader, MAX_READS)?;
+    let parts = read_history_input(alloc, reader, question.skips_unread)?;
+    observer.see_history(history_counts(question.judging.checker, &parts.history));
     let output = judge_history(rt, alloc, &parts.history, question)?;
     finish(output, writer)
 }

@@ -1,6 +1,6 @@
 //! Whether a history has enough calls to be called valid. `specs/Enough.antt` has the rule.
 
-ghost use Rattle.std.specs.Prelude.{◌≡◌, IfOk};
+ghost use Rattle.std.specs.Prelude.{◌≡◌, IfOk, map};
 ghost use Rattle.jh_ops.specs.Operation.{operation, operations};
 ghost use Rattle.jh_cli.specs.Enough as rule;
 
@@ -10,21 +10,38 @@ use jh_ops::{Kind, Op};
 use jh_reports::{DONE, Output, UNKNOWN};
 use std::alloc::{AllocError, Global};
 
-/// Whether a client's call that the checker judges ended `:ok`.
-fn is_ok_call(checker: Checker, op: &Op) -> bool
-    ensures { result ≡ rule.is_ok_call checker (operation op.now) }
+/// The functions of the workloads.
+static REGISTER: [&str; 3] = ["read", "write", "cas"];
+
+static ADDS: [&str; 2] = ["add", "read"];
+
+static IDS: [&str; 1] = ["generate"];
+
+static TRANSACTIONS: [&str; 1] = ["txn"];
+
+/// The names of the functions whose calls a checker judges.
+pub fn functions_of(checker: Checker) -> &'static [&'static str]
+    ensures { map (λ name. name.now) result.now ≡ rule.functions_of checker }
+{
+    match checker {
+        Checker::Register => REGISTER.as_slice(),
+        Checker::Set | Checker::Counter => ADDS.as_slice(),
+        Checker::Ids => IDS.as_slice(),
+        Checker::ListAppend => TRANSACTIONS.as_slice(),
+    }
+}
+
+/// Whether a client's operation of this kind is one of a function that the checker judges.
+pub(crate) fn is_judged(checker: Checker, kind: Kind, op: &Op) -> bool
+    ensures { result ≡ rule.is_judged checker kind (operation op.now) }
 {
     match checker {
         Checker::Register => {
-            op.is_asked(Kind::Ok, "read")
-                || op.is_asked(Kind::Ok, "write")
-                || op.is_asked(Kind::Ok, "cas")
+            op.is_asked(kind, "read") || op.is_asked(kind, "write") || op.is_asked(kind, "cas")
         }
-        Checker::Set | Checker::Counter => {
-            op.is_asked(Kind::Ok, "add") || op.is_asked(Kind::Ok, "read")
-        }
-        Checker::Ids => op.is_asked(Kind::Ok, "generate"),
-        Checker::ListAppend => op.is_asked(Kind::Ok, "txn"),
+        Checker::Set | Checker::Counter => op.is_asked(kind, "add") || op.is_asked(kind, "read"),
+        Checker::Ids => op.is_asked(kind, "generate"),
+        Checker::ListAppend => op.is_asked(kind, "txn"),
     }
 }
 
@@ -34,7 +51,7 @@ fn count_ok_calls(checker: Checker, history: &[Op]) -> usize
 {
     let mut done = 0;
     for op in history {
-        if is_ok_call(checker, op) {
+        if is_judged(checker, Kind::Ok, op) {
             done += 1;
         }
     }

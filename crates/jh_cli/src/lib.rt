@@ -5,9 +5,11 @@
 #![tactic(auto)]
 
 mod check_command;
+mod counts;
 mod enough;
 mod env_command;
 mod error;
+mod history_input;
 mod notice;
 mod output;
 mod plot_command;
@@ -17,6 +19,8 @@ mod shrink_command;
 mod timeline_command;
 
 pub use check_command::{CheckQuestion, check_run};
+pub use counts::{HistoryCounts, HistoryObserver, history_counts};
+pub use enough::functions_of;
 pub use env_command::env_run;
 pub use error::CliError;
 pub use plot_command::plot_run;

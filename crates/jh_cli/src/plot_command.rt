@@ -10,9 +10,9 @@ ghost use Rattle.jh_cli.specs.PlotRefusals.{RefusesPlot, RefusesPlotting};
 ghost use Rattle.jh_cli.specs.PlotText.{IsPlotPage, IsPlotTextOf};
 
 use crate::error::CliError;
-use crate::output::{MAX_READS, finish};
+use crate::history_input::read_history_input;
+use crate::output::finish;
 use jh_bands::bands_of;
-use jh_histories::read_history_and_rest;
 use jh_ops::Op;
 use jh_plot_pages::write_plot_page;
 use jh_plots::{Plot, plot_of};
@@ -21,7 +21,7 @@ use std::alloc::{AllocError, Global};
 use std::io::{Read, Write};
 
 /// Reads a history as `jh_histories::read_history_and_rest` does, also out of what `run` or
-/// `drive` printed, and writes a page in HTML with the latency of each call, percentiles of the
+/// `drive` printed, without its unread keys where `skips_unread` asks for that, and writes a page in HTML with the latency of each call, percentiles of the
 /// latencies and rates over time, as `jh_plots::plot_of` places them. The times of faults are there where
 /// the records of the nemesis have their steps, as those of `drive` do. The answer is the exit status, 0.
 /// All is read, and the page made, before the first byte is written.
@@ -35,15 +35,16 @@ pub fn plot_run<R: Read, W: Write>(
     alloc: Global,
     reader: &mut R,
     writer: &mut W,
+    skips_unread: bool,
 ) -> Result<u8, CliError>
     ensures status { IfOk result (λ status. status ≡ 0) }
     ensures written { IfOk result (λ status. WritesOutput (R.remaining reader.old)
-        IsPlotTextOf status (W.contents writer.old) (W.contents writer.new)) }
+        (IsPlotTextOf skips_unread) status (W.contents writer.old) (W.contents writer.new)) }
     ensures refused { IfErr result (λ e. OnInput (R.remaining reader.old)
-        (λ input. RefusesPlot input e)) }
+        (λ input. RefusesPlot skips_unread input e)) }
     ensures unwritten { IfErr result (λ e. e ≢ CliError.Write → writer.new ≡ writer.old) }
 {
-    let parts = read_history_and_rest(alloc, reader, MAX_READS)?;
+    let parts = read_history_input(alloc, reader, skips_unread)?;
     let text = plot_text(alloc, &parts.history)?;
     finish(Output { status: DONE, text }, writer)
 }

@@ -19,11 +19,12 @@ ghost use Rattle.jh_cli.specs.TimelineText.{TakesInitialBy, TakesModelBy};
 
 use crate::check_command::{takes_initial, takes_model};
 use crate::error::CliError;
+use crate::history_input::read_history_input;
 use crate::notice::notice_of;
-use crate::output::{MAX_READS, finish};
+use crate::output::finish;
 use jh_checkers::{Finding, Judging, check_history};
 use jh_edn::Value;
-use jh_histories::{HistoryAndRest, read_history_and_rest};
+use jh_histories::HistoryAndRest;
 use jh_independent::{check_keys_serial, verdict_of_all};
 use jh_ops::Op;
 use jh_reports::{DONE, Output, finding_text, keys_text};
@@ -43,6 +44,8 @@ pub struct TimelineQuestion {
     pub independent: bool,
     /// Which records are shown.
     pub choice: Choice,
+    /// Whether keys that no checker reads are left out where they can't be read.
+    pub skips_unread: bool,
 }
 
 /// What a page shows, with the exit status.
@@ -55,7 +58,8 @@ struct Shown {
     sections: Vec<Section>,
 }
 
-/// Reads a history as `jh_histories::read_history_and_rest` does, or all that `run` printed, judges
+/// Reads a history as `jh_histories::read_history_and_rest` does, or all that `run` printed, without its
+/// unread keys where that is asked for, judges
 /// it by the checker of the workload, if there is one, and writes a page in HTML that shows the
 /// history: what was found in one sentence on top, as `jh_timeline_sections::title_of` says it,
 /// with the line of the checker folded below, and a notice where the input says another verdict;
@@ -102,7 +106,7 @@ pub fn timeline_run<R: Read, W: Write>(
     if !takes_model_by(question.judging) {
         return Err(CliError::OnlyForListAppend);
     }
-    let parts = read_history_and_rest(alloc, reader, MAX_READS)?;
+    let parts = read_history_input(alloc, reader, question.skips_unread)?;
     let output = page_of(alloc, parts, question, steps)?;
     finish(output, writer)
 }

@@ -17,7 +17,7 @@ returns-in_err-parts-clause-refused g c =
 pub returns-in_err-output-clause-refused : goal.returns-in_err-output-clause-refused
 returns-in_err-output-clause-refused g c =
     let p = err_from_is_err_and c.from_residual-in_err-output.result c.from_residual-in_err-output.ensures.1 in
-    let refused = rw c.deref.ensures.value at c.in_err-output.ensures in
+    let refused = rw c.deref-2.ensures.value at c.in_err-output.ensures in
     rw (p.1, p.2) (on_input _ _ (g.R.Read.remaining c.args.reader.now) (λ input parts.
     judging_refused c.args.question input (operations c.in_ok-parts.parts.history.items) c.in_ok-parts.parts.below.items c.in_err-output.field-0.0 parts refused
     ) c.in_ok-parts.ensures.parsed)
@@ -26,7 +26,7 @@ pub returns-clause-written : goal.returns-clause-written
 returns-clause-written g c =
     let known = g.R.Read.remaining c.args.reader.now in
     let goes : IfSome known (λ input. IsCheckTextOf c.args.question input c.in_ok-output.output.status c.in_ok-output.output.text.items) =
-    on_input _ _ known (λ input parts. (operations c.in_ok-parts.parts.history.items, c.in_ok-parts.parts.below.items, parts, rw c.deref.ensures.value at c.in_ok-output.ensures)) c.in_ok-parts.ensures.parsed in
+    on_input _ _ known (λ input parts. (operations c.in_ok-parts.parts.history.items, c.in_ok-parts.parts.below.items, parts, rw c.deref-2.ensures.value at c.in_ok-output.ensures)) c.in_ok-parts.ensures.parsed in
     output_written (IsCheckTextOf c.args.question) known (g.W.Write.contents c.args.writer.now) (g.W.Write.contents c.finish.new.writer) c.finish.result c.in_ok-output.output.status c.in_ok-output.output.text.items
     goes c.finish.ensures.status c.finish.ensures.written
 
@@ -34,6 +34,6 @@ pub returns-clause-refused : goal.returns-clause-refused
 returns-clause-refused g c =
     let known = g.R.Read.remaining c.args.reader.now in
     let goes : IfSome known (λ input. IsCheckTextOf c.args.question input c.in_ok-output.output.status c.in_ok-output.output.text.items) =
-    on_input _ _ known (λ input parts. (operations c.in_ok-parts.parts.history.items, c.in_ok-parts.parts.below.items, parts, rw c.deref.ensures.value at c.in_ok-output.ensures)) c.in_ok-parts.ensures.parsed in
+    on_input _ _ known (λ input parts. (operations c.in_ok-parts.parts.history.items, c.in_ok-parts.parts.below.items, parts, rw c.deref-2.ensures.value at c.in_ok-output.ensures)) c.in_ok-parts.ensures.parsed in
     output_refused (IsCheckTextOf c.args.question) (RefusesCheck c.args.question) known c.finish.result c.in_ok-output.output.status c.in_ok-output.output.text.items
     (λ input is. (c.in_ok-output.output.status, c.in_ok-output.output.text.items, is)) goes c.finish.ensures.failed
