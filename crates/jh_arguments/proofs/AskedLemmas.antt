@@ -25,7 +25,7 @@ use Rattle.jh_arguments.proofs.SameWalk.{subcommand_same}
 use Rattle.jh_checkers.specs.Checkers.{checker_name, checker_names}
 use Rattle.jh_checkers.specs.Models.{model_named}
 use Rattle.jh_arguments.specs.Palettes.{palette_named}
-use Rattle.jh_arguments.specs.Line.{IsCommandLine, check, drive, jeprun, search, shrink, timeline}
+use Rattle.jh_arguments.specs.Line.{IsCommandLine, check, drive, jeprun, plot, search, shrink, timeline, without_options}
 use Rattle.jh_arguments.specs.Commands.{SubcommandIsAny, AsksCheck, SubcommandIsDrive, SubcommandIs, AsksSearch, AsksTimeline, IsFlag, IsGivenWithin, IsIndex, IsInitial, IsJudging, IsJudgingBy, IsNumberWithin, IsShow}
 use Rattle.jh_arguments.specs.Limits.{max_candidates, max_spread_ms}
 use Rattle.jh_checkers.specs.declared.checker.Checker.{Checker}
@@ -111,14 +111,20 @@ module _ (names models : Bor (List (Bor Text))) (all : map (λ s. s.now) names.n
   abbrev leaf : App → Shape
   leaf a = built_leaf (inherited (with_leaf_noted (marked_built (jeprun names models).top)) a.top)
 
-  env_asks : Leads SubcommandIsAny (leaf (new_app (codes "env")))
+  env_asks : Leads SubcommandIsAny (leaf (without_options (codes "env")))
   env_asks name rest named other fault = inl (Env, refl)
 
-  run_asks : Leads SubcommandIsAny (leaf (new_app (codes "run")))
+  run_asks : Leads SubcommandIsAny (leaf (without_options (codes "run")))
   run_asks name rest named other fault = inl (Run, refl)
 
-  plot_asks : Leads SubcommandIsAny (leaf (new_app (codes "plot")))
-  plot_asks name rest named other fault = inl (Plot, refl)
+  plot_asks : Leads SubcommandIsAny (leaf plot)
+  plot_asks name rest named other fault =
+      let rows = rows_after (leaf plot).rules [] rest in
+      let skips = flag_in (one_of (codes "skip-unread") rows) in
+      inl (Plot skips.0, (refl, skips.1))
+
+  plot_rules : Each (IsOwn (leaf plot).rules) (leaf plot).rules
+  plot_rules = (flag_valued _ _ refl (omega arith), (flag_valued _ _ refl (omega arith), (request _ _ refl refl, tt)))
 
   help_asks : Leads SubcommandIsAny (built_leaf help_shape)
   help_asks name rest named other fault =
@@ -130,7 +136,7 @@ module _ (names models : Bor (List (Bor Text))) (all : map (λ s. s.now) names.n
       or_false false e = e
 
   shrink_rules : Each (IsOwn (leaf shrink).rules) (leaf shrink).rules
-  shrink_rules = (one_valued _ _ refl refl, (request _ _ refl refl, tt))
+  shrink_rules = (one_valued _ _ refl refl, (flag_valued _ _ refl (omega arith), (request _ _ refl refl, tt)))
 
   shrink_asks : Leads SubcommandIsAny (leaf shrink)
   shrink_asks name rest named other fault =
@@ -140,7 +146,7 @@ module _ (names models : Bor (List (Bor Text))) (all : map (λ s. s.now) names.n
       inl (Shrink budget.0, (refl, budget.1.0))
 
   drive_rules : Each (IsOwn (leaf drive).rules) (leaf drive).rules
-  drive_rules = (one_valued _ _ refl refl, (request _ _ refl refl, tt))
+  drive_rules = (one_valued _ _ refl refl, (flag_valued _ _ refl (omega arith), (request _ _ refl refl, tt)))
 
   drive_asks : Leads SubcommandIsAny (leaf drive)
   drive_asks name rest named other fault =
@@ -158,7 +164,7 @@ module _ (names models : Bor (List (Bor Text))) (all : map (λ s. s.now) names.n
         one_valued _ _ refl refl,
         (
           one_valued _ _ refl refl,
-          (one_valued _ _ refl refl, (one_valued _ _ refl refl, (one_valued _ _ refl refl, (request _ _ refl refl, tt)))),
+          (one_valued _ _ refl refl, (one_valued _ _ refl refl, (one_valued _ _ refl refl, (flag_valued _ _ refl (omega arith), (request _ _ refl refl, tt))))),
         ),
       ),
     ),
@@ -225,7 +231,13 @@ module _ (names models : Bor (List (Bor Text))) (all : map (λ s. s.now) names.n
         one_valued _ _ refl refl,
         (
           one_valued _ _ refl refl,
-          (flag_valued _ _ refl (omega arith), (flag_valued _ _ refl (omega arith), (one_valued _ _ refl refl, (one_valued _ _ refl refl, (request _ _ refl refl, tt))))),
+          (
+            flag_valued _ _ refl (omega arith),
+            (
+              flag_valued _ _ refl (omega arith),
+              (one_valued _ _ refl refl, (one_valued _ _ refl refl, (flag_valued _ _ refl (omega arith), (flag_valued _ _ refl (omega arith), (request _ _ refl refl, tt))))),
+            ),
+          ),
         ),
       ),
     ),
@@ -241,7 +253,8 @@ module _ (names models : Bor (List (Bor Text))) (all : map (λ s. s.now) names.n
       let threads = number_in rows (codes "threads") 1 16 (needed_gives _ rows holds (codes "threads") false (vp.Unsigned 1 16) refl) in
       let least = index_in rows (codes "at-least") (option_gives _ rows holds (codes "at-least") false (vp.Unsigned 0 18446744073709551615) false refl) in
       let by = judging_in _ rows holds refl refl explain.0 checker.0 in
-      let asks : AsksCheck rows (record { judging = by.0; independent = independent.0; threads = threads.0; at_least = least.0 }) = record {
+      let skips = flag_in (one_of (codes "skip-unread") rows) in
+      let asks : AsksCheck rows (record { judging = by.0; independent = independent.0; threads = threads.0; at_least = least.0; skips_unread = skips.0 }) = record {
         workload = checker.1 ∙ ap (λ c. Some (checker_name c)) (sym by.3);
         initial = by.1.initial;
         model = by.1.model;
@@ -250,6 +263,7 @@ module _ (names models : Bor (List (Bor Text))) (all : map (λ s. s.now) names.n
         independent = independent.1;
         threads = threads.1;
         at_least = least.1;
+        skips_unread = skips.1;
       } in
       inl (Check _, (refl, asks))
 
@@ -262,7 +276,13 @@ module _ (names models : Bor (List (Bor Text))) (all : map (λ s. s.now) names.n
         one_valued _ _ refl refl,
         (
           one_valued _ _ refl refl,
-          (flag_valued _ _ refl (omega arith), (one_valued _ _ refl refl, (one_valued _ _ refl refl, (one_valued _ _ refl refl, (request _ _ refl refl, tt))))),
+          (
+            flag_valued _ _ refl (omega arith),
+            (
+              one_valued _ _ refl refl,
+              (one_valued _ _ refl refl, (one_valued _ _ refl refl, (flag_valued _ _ refl (omega arith), (flag_valued _ _ refl (omega arith), (request _ _ refl refl, tt))))),
+            ),
+          ),
         ),
       ),
     ),
@@ -285,17 +305,18 @@ module _ (names models : Bor (List (Bor Text))) (all : map (λ s. s.now) names.n
       let independent = flag_in (one_of (codes "independent") rows) in
       let from = index_in rows (codes "from") (option_gives _ rows holds (codes "from") false (vp.Unsigned 0 18446744073709551615) false refl) in
       let to = index_in rows (codes "to") (option_gives _ rows holds (codes "to") false (vp.Unsigned 0 18446744073709551615) false refl) in
-      let asks : AsksTimeline rows (record { judging = judging.0; independent = independent.0; choice = record { from = from.0; to = to.0 } }) =
-      record { judging = judging.1; independent = independent.1; from = from.1; to = to.1 } in
+      let skips = flag_in (one_of (codes "skip-unread") rows) in
+      let asks : AsksTimeline rows (record { judging = judging.0; independent = independent.0; choice = record { from = from.0; to = to.0 }; skips_unread = skips.0 }) =
+      record { judging = judging.1; independent = independent.1; from = from.1; to = to.1; skips_unread = skips.1 } in
       inl (Timeline _, (refl, asks))
 
   -- two subcommands have names that differ
   other_name : (a b : Text) → bytes_eq a b ≡ false → a ≡ b → ⊥
   other_name a b differ same = true≢false (sym ((bytes_eq-Decides a b).1 same) ∙ differ)
 
-  once_of : (a : App) → bytes_eq (leaf a).name (codes "check") ≡ false → bytes_eq (leaf a).name (codes "timeline") ≡ false → Leads Once (leaf a)
-  once_of a first second name rest named other fault =
-      asked_once ((leaf a).name, rows_after (leaf a).rules [] rest) (λ e. absurd (other_name _ _ first e)) (λ e. absurd (other_name _ _ second e))
+  once_of : (a : App) → bytes_eq (leaf a).name (codes "check") ≡ false → bytes_eq (leaf a).name (codes "timeline") ≡ false → bytes_eq (leaf a).name (codes "plot") ≡ false → Leads Once (leaf a)
+  once_of a first second third name rest named other fault =
+      asked_once ((leaf a).name, rows_after (leaf a).rules [] rest) (λ e. absurd (other_name _ _ first e)) (λ e. absurd (other_name _ _ second e)) (λ e. absurd (other_name _ _ third e))
 
   check_once : Leads Once (leaf (check names models))
   check_once name rest named other fault =
@@ -305,20 +326,32 @@ module _ (names models : Bor (List (Bor Text))) (all : map (λ s. s.now) names.n
       (λ e. (
         flag_once rows (codes "explain") (option_gives _ rows holds (codes "explain") false vp.Bool true refl),
         flag_once rows (codes "independent") (option_gives _ rows holds (codes "independent") false vp.Bool true refl),
+        flag_once rows (codes "skip-unread") (option_gives _ rows holds (codes "skip-unread") false vp.Bool true refl),
       ))
-      (λ e. absurd (other_name (codes "check") (codes "timeline") refl e))
+      (λ e. absurd (other_name (codes "check") (codes "timeline") refl e)) (λ e. absurd (other_name (codes "check") (codes "plot") refl e))
 
   timeline_once : Leads Once (leaf (timeline names models))
   timeline_once name rest named other fault =
       let holds = level_holds (leaf (timeline names models)) [] rest timeline_rules fault in
       let rows = rows_after (leaf (timeline names models)).rules [] rest in
       asked_once (codes "timeline", rows) (λ e. absurd (other_name (codes "timeline") (codes "check") refl e))
-      (λ e. flag_once rows (codes "independent") (option_gives _ rows holds (codes "independent") false vp.Bool true refl))
+      (λ e. (
+        flag_once rows (codes "independent") (option_gives _ rows holds (codes "independent") false vp.Bool true refl),
+        flag_once rows (codes "skip-unread") (option_gives _ rows holds (codes "skip-unread") false vp.Bool true refl),
+      ))
+      (λ e. absurd (other_name (codes "timeline") (codes "plot") refl e))
+
+  plot_once : Leads Once (leaf plot)
+  plot_once name rest named other fault =
+      let holds = level_holds (leaf plot) [] rest plot_rules fault in
+      let rows = rows_after (leaf plot).rules [] rest in
+      asked_once (codes "plot", rows) (λ e. absurd (other_name (codes "plot") (codes "check") refl e)) (λ e. absurd (other_name (codes "plot") (codes "timeline") refl e))
+      (λ e. flag_once rows (codes "skip-unread") (option_gives _ rows holds (codes "skip-unread") false vp.Bool true refl))
 
   help_once : Leads Once (built_leaf help_shape)
   help_once name rest named other fault =
       asked_once (codes "help", rows_after (built_leaf help_shape).rules [] rest) (λ e. absurd (other_name (codes "help") (codes "check") refl e))
-      (λ e. absurd (other_name (codes "help") (codes "timeline") refl e))
+      (λ e. absurd (other_name (codes "help") (codes "timeline") refl e)) (λ e. absurd (other_name (codes "help") (codes "plot") refl e))
 
   line_asks : (words : List Text) → fault_of (jeprun names models) words ≡ [] → SubcommandIsAny (subcommand_of (jeprun names models) words)
   line_asks words fault =
@@ -328,15 +361,12 @@ module _ (names models : Bor (List (Bor Text))) (all : map (λ s. s.now) names.n
   line_once : (words : List Text) → fault_of (jeprun names models) words ≡ [] → Once (subcommand_of (jeprun names models) words)
   line_once words fault =
       entered_leads Once (built (jeprun names models)) (argument_words (jeprun names models) words) (
-        once_of (new_app (codes "env")) refl refl,
+        once_of (without_options (codes "env")) refl refl refl,
         (
           check_once,
           (
-            once_of (new_app (codes "run")) refl refl,
-            (
-              once_of shrink refl refl,
-              (once_of search refl refl, (timeline_once, (once_of drive refl refl, (once_of (new_app (codes "plot")) refl refl, (help_once, tt))))),
-            ),
+            once_of (without_options (codes "run")) refl refl refl,
+            (once_of shrink refl refl refl, (once_of search refl refl refl, (timeline_once, (once_of drive refl refl refl, (plot_once, (help_once, tt)))))),
           ),
         ),
       ) refl refl fault

@@ -84,8 +84,8 @@ judging_once rows name m n a b explain =
     let model = a.model ∙ sym b.model in
     λ i. record { checker = checker i; initial = initial i; budget = budget i; explain = explain i; model = model i }
 
-check_once : (rows : List Row) → FlagOnce rows (codes "explain") → FlagOnce rows (codes "independent") → (m n : CheckQuestion) → AsksCheck rows m → AsksCheck rows n → m ≡ n
-check_once rows explained split m n a b =
+check_once : (rows : List Row) → FlagOnce rows (codes "explain") → FlagOnce rows (codes "independent") → FlagOnce rows (codes "skip-unread") → (m n : CheckQuestion) → AsksCheck rows m → AsksCheck rows n → m ≡ n
+check_once rows explained split skipped m n a b =
     let checker = checker_once m.judging.checker n.judging.checker (some_same _ _ (sym a.workload ∙ b.workload)) in
     let initial = initial_once (one_of (codes "initial") rows) m.judging.initial n.judging.initial a.initial b.initial in
     let budget = number_one (one_of (codes "budget") rows) m.judging.budget n.judging.budget a.budget b.budget in
@@ -94,11 +94,13 @@ check_once rows explained split m n a b =
     let independent = split m.independent n.independent a.independent b.independent in
     let threads = number_one (one_of (codes "threads") rows) m.threads n.threads a.threads.0 b.threads.0 in
     let least = index_once (one_of (codes "at-least") rows) m.at_least n.at_least a.at_least b.at_least in
+    let skips = skipped m.skips_unread n.skips_unread a.skips_unread b.skips_unread in
     λ i. record {
       judging = record { checker = checker i; initial = initial i; budget = budget i; explain = explain i; model = model i };
       independent = independent i;
       threads = threads i;
       at_least = least i;
+      skips_unread = skips i;
     }
 
 search_once : (rows : List Row) (m n : SearchQuestion) → AsksSearch rows m → AsksSearch rows n → m ≡ n
@@ -119,13 +121,14 @@ page_once rows (Some m) (Some n) a b =
     let name : a.0 ≡ b.0 = some_same a.0 b.0 (sym a.1 ∙ b.1) in
     ap Some (judging_once rows b.0 m n (subst (λ t. IsJudgingBy rows t m) name a.2) b.2 (a.3 ∙ sym b.3))
 
-timeline_once : (rows : List Row) → FlagOnce rows (codes "independent") → (m n : TimelineQuestion) → AsksTimeline rows m → AsksTimeline rows n → m ≡ n
-timeline_once rows split m n a b =
+timeline_once : (rows : List Row) → FlagOnce rows (codes "independent") → FlagOnce rows (codes "skip-unread") → (m n : TimelineQuestion) → AsksTimeline rows m → AsksTimeline rows n → m ≡ n
+timeline_once rows split skipped m n a b =
     let judging = page_once rows m.judging n.judging a.judging b.judging in
     let independent = split m.independent n.independent a.independent b.independent in
     let from = index_once (one_of (codes "from") rows) m.choice.from n.choice.from a.from b.from in
     let to = index_once (one_of (codes "to") rows) m.choice.to n.choice.to a.to b.to in
-    λ i. record { judging = judging i; independent = independent i; choice = record { from = from i; to = to i } }
+    let skips = skipped m.skips_unread n.skips_unread a.skips_unread b.skips_unread in
+    λ i. record { judging = judging i; independent = independent i; choice = record { from = from i; to = to i }; skips_unread = skips i }
 
 -- ---- one subcommand with its options asks for one command
 
@@ -136,7 +139,7 @@ command_name Run = codes "run"
 command_name (Shrink budget) = codes "shrink"
 command_name (Search question) = codes "search"
 command_name (Timeline question) = codes "timeline"
-command_name Plot = codes "plot"
+command_name (Plot skips_unread) = codes "plot"
 
 -- a number for each name
 abbrev mark_of : Text → ℕ
@@ -150,7 +153,7 @@ named found Run asks = asks
 named found (Shrink budget) asks = asks.0
 named found (Search question) asks = asks.0
 named found (Timeline question) asks = asks.0
-named found Plot asks = asks
+named found (Plot skips_unread) asks = asks.0
 
 -- none is called drive
 pub no_drive : (c : Command) → command_name c ≡ codes "drive" → ⊥
@@ -163,23 +166,25 @@ no_drive c e = go c (ap mark_of e)
     go (Shrink budget) e = omega (arith, e)
     go (Search question) e = omega (arith, e)
     go (Timeline question) e = omega (arith, e)
-    go Plot e = omega (arith, e)
+    go (Plot skips_unread) e = omega (arith, e)
 
 abbrev pub Once : Option (Text × List Row) → Type 0
 Once found = (c d : Command) → SubcommandIs found c → SubcommandIs found d → c ≡ d
 
-pub asked_once : (found : Text × List Row) → (found.0 ≡ codes "check" → FlagOnce found.1 (codes "explain") × FlagOnce found.1 (codes "independent"))
-    → (found.0 ≡ codes "timeline" → FlagOnce found.1 (codes "independent")) → Once (Some found)
-asked_once found flags flag c d asks also = go c d asks also (ap mark_of (sym (named found c asks) ∙ named found d also))
+pub asked_once : (found : Text × List Row)
+    → (found.0 ≡ codes "check" → FlagOnce found.1 (codes "explain") × FlagOnce found.1 (codes "independent") × FlagOnce found.1 (codes "skip-unread"))
+    → (found.0 ≡ codes "timeline" → FlagOnce found.1 (codes "independent") × FlagOnce found.1 (codes "skip-unread"))
+    → (found.0 ≡ codes "plot" → FlagOnce found.1 (codes "skip-unread")) → Once (Some found)
+asked_once found of_check of_timeline of_plot c d asks also = go c d asks also (ap mark_of (sym (named found c asks) ∙ named found d also))
   where
     go : (c d : Command) → SubcommandIs (Some found) c → SubcommandIs (Some found) d → mark_of (command_name c) ≡ mark_of (command_name d) → c ≡ d
     go Env Env a b e = refl
     go Run Run a b e = refl
     go (Shrink m) (Shrink n) a b e = ap Shrink (number_one (one_of (codes "budget") found.1) m n a.1 b.1)
-    go (Check m) (Check n) a b e = ap Check (check_once found.1 (flags a.0).0 (flags a.0).1 m n a.1 b.1)
+    go (Check m) (Check n) a b e = ap Check (check_once found.1 (of_check a.0).0 (of_check a.0).1 (of_check a.0).2 m n a.1 b.1)
     go (Search m) (Search n) a b e = ap Search (search_once found.1 m n a.1 b.1)
-    go (Timeline m) (Timeline n) a b e = ap Timeline (timeline_once found.1 (flag a.0) m n a.1 b.1)
-    go Plot Plot a b e = refl
+    go (Timeline m) (Timeline n) a b e = ap Timeline (timeline_once found.1 (of_timeline a.0).0 (of_timeline a.0).1 m n a.1 b.1)
+    go (Plot m) (Plot n) a b e = ap Plot (of_plot a.0 m n a.1 b.1)
     go _ _ a b e = absurd (omega (arith, e))
 
 -- ---- and so do arguments

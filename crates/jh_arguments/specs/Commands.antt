@@ -93,6 +93,7 @@ pub record AsksCheck (options : List Row) (question : CheckQuestion) : Type 0 wh
   pub independent : IsFlag (one_of (codes "independent") options) question.independent
   pub threads : IsThreads (one_of (codes "threads") options) question.threads
   pub at_least : IsIndex (one_of (codes "at-least") options) question.at_least
+  pub skips_unread : IsFlag (one_of (codes "skip-unread") options) question.skips_unread
 
 -- by the checker of the workload of this name a history is judged so
 pub record IsJudgingBy (options : List Row) (name : Text) (judging : Judging) : Type 0 where
@@ -114,6 +115,7 @@ pub record AsksTimeline (options : List Row) (question : TimelineQuestion) : Typ
   pub independent : IsFlag (one_of (codes "independent") options) question.independent
   pub from : IsIndex (one_of (codes "from") options) question.choice.from
   pub to : IsIndex (one_of (codes "to") options) question.choice.to
+  pub skips_unread : IsFlag (one_of (codes "skip-unread") options) question.skips_unread
 
 -- the number from the least to the most that an option gives, if it is there
 abbrev pub IsGivenWithin : ℕ → ℕ → Option Text → Option ℕ → Type 0
@@ -164,7 +166,13 @@ SubcommandIs (Some found) (Search question) =
     (found.0 ≡ codes "search") × AsksSearch found.1 question
 SubcommandIs (Some found) (Timeline question) =
     (found.0 ≡ codes "timeline") × AsksTimeline found.1 question
-SubcommandIs (Some found) Plot = found.0 ≡ codes "plot"
+SubcommandIs (Some found) (Plot skips_unread) =
+    (found.0 ≡ codes "plot") × IsFlag (one_of (codes "skip-unread") found.1) skips_unread
+
+-- A subcommand with its options asks to be told where and why an input is refused, or does not.
+abbrev pub SubcommandIsVerbose : Option (Text × List Row) → Bool → Type 0
+SubcommandIsVerbose None verbose = verbose ≡ false
+SubcommandIsVerbose (Some found) verbose = IsFlag (one_of (codes "verbose") found.1) verbose
 
 -- A subcommand with its options asks for a command, or for a test.
 abbrev pub SubcommandIsAny : Option (Text × List Row) → Type 0
@@ -190,7 +198,8 @@ IsOutputOf (Shrink runs) steps input status output = IsShrinkTextOf runs input s
 IsOutputOf (Search question) steps input status output = IsSearchTextOf question input status output
 IsOutputOf (Timeline question) steps input status output =
     IsTimelineTextOf question steps input status output
-IsOutputOf Plot steps input status output = IsPlotTextOf input status output
+IsOutputOf (Plot skips_unread) steps input status output =
+    IsPlotTextOf skips_unread input status output
 
 -- The command may end with this error for its options alone.
 abbrev pub IsOfOptions : Command → CliError → Type 0
@@ -222,4 +231,4 @@ RefusesCommand Run steps input e = RefusesRun input e
 RefusesCommand (Shrink runs) steps input e = RefusesShrinking runs input e
 RefusesCommand (Search question) steps input e = RefusesSearch question input e
 RefusesCommand (Timeline question) steps input e = RefusesTimeline question steps input e
-RefusesCommand Plot steps input e = RefusesPlot input e
+RefusesCommand (Plot skips_unread) steps input e = RefusesPlot skips_unread input e

@@ -56,18 +56,30 @@ budget default = number_rule (codes "budget") (Unsigned 0 max_budget) default
 abbrev pub flag : Text → Rule
 flag name = record (new_rule name) { long = Some name; action = Some SetTrue }
 
+-- what can't be read is left out
+abbrev pub skip_unread : Rule
+skip_unread = flag (codes "skip-unread")
+
+-- it is told where and why an input is refused
+abbrev pub verbose : Rule
+verbose = flag (codes "verbose")
+
+-- a command without options of its own
+abbrev pub without_options : Text → App
+without_options name = with_rule (new_app name) verbose
+
 -- by how many threads keys are judged
 abbrev pub threads : Rule
 threads = number_rule (codes "threads") (Unsigned 1 max_threads) (codes "1")
 
 abbrev pub check : Bor (List (Bor Text)) → Bor (List (Bor Text)) → App
 check names models =
-    with_rule (with_rule (with_rule
+    with_rule (with_rule (with_rule (with_rule (with_rule
     (with_rule (with_rule (with_rule
     (with_rule (with_rule (new_app (codes "check")) (needed_rule (workload names)))
     initial_rule) (model models))
     (budget (codes "100000"))) (flag (codes "explain"))) (flag (codes "independent"))) threads)
-    (index (codes "at-least"))
+    (index (codes "at-least"))) skip_unread) verbose
 
 -- the file with the settings of a run, by whose schedule the page of what it printed names steps
 abbrev pub schedule_file : Rule
@@ -75,15 +87,15 @@ schedule_file = option (codes "settings")
 
 abbrev pub timeline : Bor (List (Bor Text)) → Bor (List (Bor Text)) → App
 timeline names models =
-    with_rule (with_rule (with_rule
+    with_rule (with_rule (with_rule (with_rule (with_rule
     (with_rule (with_rule (with_rule
     (with_rule (with_rule (new_app (codes "timeline")) (workload names)) initial_rule)
     (model models))
     (budget (codes "100000"))) (flag (codes "independent"))) (index (codes "from")))
-    (index (codes "to"))) schedule_file
+    (index (codes "to"))) schedule_file) skip_unread) verbose
 
 abbrev pub shrink : App
-shrink = with_rule (new_app (codes "shrink")) (budget (codes "10000"))
+shrink = with_rule (with_rule (new_app (codes "shrink")) (budget (codes "10000"))) verbose
 
 -- the names of kinds of faults, all where none are given
 abbrev pub palette : Rule
@@ -108,19 +120,22 @@ spread = given_rule (codes "ms") (Unsigned 1 max_spread_ms)
 
 abbrev pub search : App
 search =
-    with_rule (with_rule (with_rule (with_rule
+    with_rule (with_rule (with_rule (with_rule (with_rule
     (with_rule (with_rule (with_rule (new_app (codes "search"))
     (number_rule (codes "runs") (Unsigned 1 max_candidates) (codes "10000")))
     (number_rule (codes "faults") (Unsigned 0 max_faults) (codes "8"))) palette)
     (number_rule (codes "from") (Unsigned 0 max_candidates) (codes "0"))) given_threads)
-    show) spread
+    show) spread) verbose
 
 -- the file with the settings of a test, which is given by its place
 abbrev pub settings_file : Rule
 settings_file = needed_rule (record (new_rule (codes "settings")) { value_names = 1 })
 
 abbrev pub drive : App
-drive = with_rule (new_app (codes "drive")) settings_file
+drive = with_rule (with_rule (new_app (codes "drive")) settings_file) verbose
+
+abbrev pub plot : App
+plot = with_rule (with_rule (new_app (codes "plot")) skip_unread) verbose
 
 abbrev pub jeprun : Bor (List (Bor Text)) → Bor (List (Bor Text)) → App
 jeprun names models = with_subcommand (with_subcommand (with_subcommand (with_subcommand
@@ -128,8 +143,8 @@ jeprun names models = with_subcommand (with_subcommand (with_subcommand (with_su
     (on_top (λ s.
     record s { has_version = true; subcommand_required = true; arg_required_else_help = true })
     (new_app (codes "jeprun")))
-    (new_app (codes "env")).top) (check names models).top) (new_app (codes "run")).top) shrink.top)
-    search.top) (timeline names models).top) drive.top) (new_app (codes "plot")).top
+    (without_options (codes "env")).top) (check names models).top) (without_options (codes "run")).top)
+    shrink.top) search.top) (timeline names models).top) drive.top) plot.top
 
 -- the command line, with the names of the workloads that there are checkers for, and those of the
 -- consistency models

@@ -22,7 +22,7 @@ ghost use Rattle.jh_arguments.specs.declared.answers.Refusal.TheVariants as Refu
 use crate::commands::{Command, command_of, do_command, schedule_path_of, settings_path_of};
 use crate::line::parse;
 use clap::ArgMatches;
-use jh_cli::CliError;
+use jh_cli::{CliError, HistoryObserver};
 use jh_drive::{CallObserver, DriveError, drive_observed};
 use jh_edn::Value;
 use jh_lines::Streams;
@@ -168,7 +168,7 @@ where
     S: AsStr,
     R: Read,
     W: Write,
-    O: CommandObserver + Observer + SearchObserver + CallObserver,
+    O: CommandObserver + Observer + SearchObserver + HistoryObserver + CallObserver,
     ensures done { IfOk result (λ status. IsCommandDone (map S.text arguments.now)
         (R.remaining streams.old.reader) (W.contents streams.old.writer) (W.contents streams.new.writer) status
         ⊎ IsConductedTo (map S.text arguments.now)

@@ -11,7 +11,7 @@ ghost use Rattle.jh_cli.specs.Outputs.{OnInput, WritesOutput};
 ghost use Rattle.jh_cli.specs.declared.error.CliError.{CliError as CliErrorData};
 ghost use Rattle.jh_cli.specs.declared.error.CliError.TheVariants as CliError;
 ghost use Rattle.jh_arguments.specs.Commands.{AsksCheck, SubcommandHasSchedule, SubcommandIs};
-ghost use Rattle.jh_arguments.specs.Commands.{SubcommandIsDrive, IsGivenWithin};
+ghost use Rattle.jh_arguments.specs.Commands.{SubcommandIsDrive, SubcommandIsVerbose, IsGivenWithin};
 ghost use Rattle.jh_arguments.specs.Commands.{AsksSearch, IsShow};
 ghost use Rattle.jh_arguments.specs.Commands.{AsksTimeline, HasNumbersInRange, IsFlag, IsIndex};
 ghost use Rattle.jh_arguments.specs.Commands.{IsInitial, IsNumberWithin};
@@ -31,8 +31,8 @@ use crate::palettes::palette_named;
 use clap::ArgMatches;
 use jh_checkers::{Checker, Judging, model_named};
 use jh_cli::{
-    CheckQuestion, CliError, SearchQuestion, Show, TimelineQuestion, check_run, env_run, plot_run,
-    run_run, search_run, shrink_run_observed, timeline_run,
+    CheckQuestion, CliError, HistoryObserver, SearchQuestion, Show, TimelineQuestion, check_run,
+    env_run, plot_run, run_run, search_run, shrink_run_observed, timeline_run,
 };
 use jh_edn::Value;
 use jh_search::{Palette, SearchObserver};
@@ -59,8 +59,9 @@ pub enum Command {
     Search(SearchQuestion),
     /// A page that shows a history.
     Timeline(TimelineQuestion),
-    /// A page that shows the latencies and rates of a history.
-    Plot,
+    /// A page that shows the latencies and rates of a history, without keys that can't be read where
+    /// that is asked for.
+    Plot(bool),
 }
 
 /// The command that the arguments ask for. `parse` has seen to it that there is one.
@@ -77,8 +78,18 @@ pub fn command_of(matches: &ArgMatches<'_>) -> Option<Command>
         ("shrink", options) => Some(Command::Shrink(number_of(options, "budget")?)),
         ("search", options) => Some(Command::Search(search_question_of(options)?)),
         ("timeline", options) => Some(Command::Timeline(timeline_question_of(options)?)),
-        ("plot", _) => Some(Command::Plot),
+        ("plot", options) => Some(Command::Plot(flag_of(options, "skip-unread"))),
         _ => None,
+    }
+}
+
+/// Whether the arguments ask to be told where and why an input is refused.
+pub fn is_verbose(matches: &ArgMatches<'_>) -> bool
+    ensures { SubcommandIsVerbose (subcommand_rows_of matches.now) result }
+{
+    match matches.subcommand() {
+        Some((_, options)) => flag_of(options, "verbose"),
+        None => false,
     }
 }
 
@@ -138,6 +149,7 @@ pub fn question_of(options: &ArgMatches<'_>) -> Option<CheckQuestion>
         independent: flag_of(options, "independent"),
         threads: threads_of(options)?,
         at_least: index_of(options, "at-least"),
+        skips_unread: flag_of(options, "skip-unread"),
     })
 }
 
@@ -175,6 +187,7 @@ pub fn timeline_question_of(options: &ArgMatches<'_>) -> Option<TimelineQuestion
             from: index_of(options, "from"),
             to: index_of(options, "to"),
         },
+        skips_unread: flag_of(options, "skip-unread"),
     })
 }
 
@@ -319,9 +332,9 @@ fn palette_of(options: &ArgMatches<'_>) -> Option<Palette>
 ///
 /// The steps are those by which `timeline` names the records of the nemesis; no other command looks at them.
 ///
-/// The observer is told how far the work of `shrink` or `search` is. A run on threads, a search and
+/// The observer is told how far the work of `shrink` or `search` is, and what a history holds that `check` judges. A run on threads, a search and
 /// the judgement of keys may wait; all else returns if each call of the reader, the writer and the observer does.
-pub fn do_command<T: Threads + Wait + Sync, R: Read, W: Write, O: Observer + SearchObserver>(
+pub fn do_command<T, R, W, O>(
     rt: &T,
     alloc: Global,
     command: Command,
@@ -330,6 +343,11 @@ pub fn do_command<T: Threads + Wait + Sync, R: Read, W: Write, O: Observer + Sea
     writer: &mut W,
     observer: &mut O,
 ) -> Result<u8, CliError>
+where
+    T: Threads + Wait + Sync,
+    R: Read,
+    W: Write,
+    O: Observer + SearchObserver + HistoryObserver,
     requires { HasNumbersInRange command }
     ensures written { IfOk result (λ status. WritesOutput (R.remaining reader.old)
         (IsOutputOf command (views steps.now)) status (W.contents writer.old) (W.contents writer.new)) }
@@ -343,11 +361,11 @@ pub fn do_command<T: Threads + Wait + Sync, R: Read, W: Write, O: Observer + Sea
 {
     match command {
         Command::Env => env_run(alloc, reader, writer),
-        Command::Check(question) => check_run(rt, alloc, reader, writer, question),
+        Command::Check(question) => check_run(rt, alloc, reader, writer, question, observer),
         Command::Run => run_run(rt, alloc, reader, writer),
         Command::Shrink(budget) => shrink_run_observed(alloc, reader, writer, budget, observer),
         Command::Search(question) => search_run(rt, alloc, reader, writer, question, observer),
         Command::Timeline(question) => timeline_run(alloc, reader, writer, question, steps),
-        Command::Plot => plot_run(alloc, reader, writer),
+        Command::Plot(skips_unread) => plot_run(alloc, reader, writer, skips_unread),
     }
 }

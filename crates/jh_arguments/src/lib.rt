@@ -3,9 +3,10 @@
 //! `line.rt` has the commands and their options as `clap` reads them, `help.rt` what stands at the end
 //! of their help, and `commands.rt` what each command is and does. `drive` is none of these: it has a
 //! file of settings, and `answers.rt` conducts its test. There the whole stands in one call, from the
-//! arguments to the exit status; `program.rt` has the standard streams and what a terminal is told.
+//! arguments to the exit status; `program.rt` has the standard streams, `teller.rt` what a terminal is told, and
+//! `reasons.rt` what `--verbose` says of a refusal.
 //! A new command is a line of the first and a text of the second, and a case of `Command`, of
-//! `command_of`, of `do_command`, and of `input_of` in `program.rt`.
+//! `command_of`, of `do_command`, and of `input_of` in `teller.rt`.
 #![tactic(auto)]
 
 mod answers;
@@ -16,17 +17,23 @@ mod limits;
 mod line;
 mod palettes;
 mod program;
+mod reasons;
+mod streams;
+mod teller;
 
 pub use answers::{CommandObserver, Refusal, answer};
 pub use commands::{
-    Command, command_of, do_command, question_of, search_question_of, settings_path_of,
+    Command, command_of, do_command, is_verbose, question_of, search_question_of, settings_path_of,
     timeline_question_of,
 };
-pub use jh_cli::{CheckQuestion, CliError, SearchQuestion, TimelineQuestion};
+pub use jh_cli::{
+    CheckQuestion, CliError, HistoryCounts, HistoryObserver, SearchQuestion, TimelineQuestion,
+};
 pub use jh_drive::{CallCounts, CallObserver, DriveError};
 pub use jh_lines::Streams;
 pub use jh_reports::REFUSED;
 pub use laws::argument_laws;
 pub use line::{parse, status_of_refusal};
 pub use palettes::palette_named;
-pub use program::{Terminals, status};
+pub use program::status;
+pub use teller::Terminals;

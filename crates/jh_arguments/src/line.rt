@@ -55,34 +55,47 @@ fn command_line<'a>(alloc: Global) -> Result<Command<'a>, Error>
 {
     let names = workloads();
     let models = models();
-    let env = Command::new(alloc, "env")
-        .about("Applies fault steps to an environment, both read from standard input as EDN")
-        .after_help(help::ENV);
-    let run = Command::new(alloc, "run")
-        .about(
-            "Runs a simulated cluster by settings, read from standard input as TOML, and judges its history",
-        )
-        .after_help(help::RUN);
-    let plot = Command::new(alloc, "plot")
-        .about(
-            "Writes a page that plots latencies and rates of a history, which is read from standard input as EDN",
-        )
-        .after_help(help::PLOT);
     let jeprun = Command::new(alloc, "jeprun")
         .about("A test harness for databases, over a simulated cluster under faults")
         .after_help(help::JEPRUN)
         .version(help::VERSION)
         .subcommand_required(true)
         .arg_required_else_help(true)
-        .subcommand(env)?
+        .subcommand(env_command(alloc)?)?
         .subcommand(check_command(alloc, names, models)?)?
-        .subcommand(run)?
+        .subcommand(run_command(alloc)?)?
         .subcommand(shrink_command(alloc)?)?
         .subcommand(search_command(alloc)?)?
         .subcommand(timeline_command(alloc, names, models)?)?
         .subcommand(drive_command(alloc)?)?
-        .subcommand(plot)?;
+        .subcommand(plot_command(alloc)?)?;
     Ok(jeprun)
+}
+
+/// The command `env`.
+fn env_command<'a>(alloc: Global) -> Result<Command<'a>, Error>
+    ensures env { IfOk result (λ env. app_of env ≡ text.without_options (codes "env")) }
+    ensures memory { IfErr result (λ e. kind_of e ≡ ErrorKind.OutOfMemory) }
+{
+    let env = Command::new(alloc, "env")
+        .about("Applies fault steps to an environment, both read from standard input as EDN")
+        .after_help(help::ENV)
+        .arg(verbose_option(alloc))?;
+    Ok(env)
+}
+
+/// The command `run`.
+fn run_command<'a>(alloc: Global) -> Result<Command<'a>, Error>
+    ensures run { IfOk result (λ run. app_of run ≡ text.without_options (codes "run")) }
+    ensures memory { IfErr result (λ e. kind_of e ≡ ErrorKind.OutOfMemory) }
+{
+    let run = Command::new(alloc, "run")
+        .about(
+            "Runs a simulated cluster by settings, read from standard input as TOML, and judges its history",
+        )
+        .after_help(help::RUN)
+        .arg(verbose_option(alloc))?;
+    Ok(run)
 }
 
 /// The command `check` and its options.
@@ -114,7 +127,9 @@ fn check_command<'a>(
         .arg(explain)?
         .arg(independent)?
         .arg(threads_option(alloc))?
-        .arg(at_least_option(alloc))?;
+        .arg(at_least_option(alloc))?
+        .arg(skip_unread_option(alloc))?
+        .arg(verbose_option(alloc))?;
     Ok(check)
 }
 
@@ -143,7 +158,9 @@ fn timeline_command<'a>(
         .arg(independent)?
         .arg(index_option(alloc, "from", "The first record that is shown, from 0"))?
         .arg(index_option(alloc, "to", "The record behind the last one that is shown"))?
-        .arg(schedule_option(alloc))?;
+        .arg(schedule_option(alloc))?
+        .arg(skip_unread_option(alloc))?
+        .arg(verbose_option(alloc))?;
     Ok(timeline)
 }
 
@@ -158,7 +175,8 @@ fn shrink_command<'a>(alloc: Global) -> Result<Command<'a>, Error>
             "Makes the schedule of a failing run small, whose settings are read from standard input as TOML",
         )
         .after_help(help::SHRINK)
-        .arg(budget)?;
+        .arg(budget)?
+        .arg(verbose_option(alloc))?;
     Ok(shrink)
 }
 
@@ -178,7 +196,8 @@ fn search_command<'a>(alloc: Global) -> Result<Command<'a>, Error>
         .arg(from_option(alloc))?
         .arg(given_threads_option(alloc))?
         .arg(show_option(alloc))?
-        .arg(spread_option(alloc))?;
+        .arg(spread_option(alloc))?
+        .arg(verbose_option(alloc))?;
     Ok(search)
 }
 
@@ -192,8 +211,24 @@ fn drive_command<'a>(alloc: Global) -> Result<Command<'a>, Error>
             "Conducts a test of a real database, whose settings are read from a file as TOML, by lines",
         )
         .after_help(help::DRIVE)
-        .arg(settings_argument(alloc))?;
+        .arg(settings_argument(alloc))?
+        .arg(verbose_option(alloc))?;
     Ok(drive)
+}
+
+/// The command `plot` and its options.
+fn plot_command<'a>(alloc: Global) -> Result<Command<'a>, Error>
+    ensures plot { IfOk result (λ plot. app_of plot ≡ text.plot) }
+    ensures memory { IfErr result (λ e. kind_of e ≡ ErrorKind.OutOfMemory) }
+{
+    let plot = Command::new(alloc, "plot")
+        .about(
+            "Writes a page that plots latencies and rates of a history, which is read from standard input as EDN",
+        )
+        .after_help(help::PLOT)
+        .arg(skip_unread_option(alloc))?
+        .arg(verbose_option(alloc))?;
+    Ok(plot)
 }
 
 /// The file with the settings of a test.
@@ -406,6 +441,30 @@ fn at_least_option<'a>(alloc: Global) -> Arg<'a>
         "at-least",
         "A history with fewer calls that ended :ok is not called valid",
         value_parser!(u64),
+    )
+}
+
+/// Whether keys that can't be read are left out.
+fn skip_unread_option<'a>(alloc: Global) -> Arg<'a>
+    ensures rule { rule_of result ≡ text.skip_unread }
+    ensures local { result.global ≡ false }
+{
+    flag_option(
+        alloc,
+        "skip-unread",
+        "Leaves out keys with floats and other tokens that can't be read, where no checker reads them",
+    )
+}
+
+/// Whether it is told where and why an input is refused.
+fn verbose_option<'a>(alloc: Global) -> Arg<'a>
+    ensures rule { rule_of result ≡ text.verbose }
+    ensures local { result.global ≡ false }
+{
+    flag_option(
+        alloc,
+        "verbose",
+        "Says on standard error where and why an input is refused",
     )
 }
 

@@ -34,4 +34,5 @@ returns-clause-parsed c =
       independent = c.flag_of.ensures;
       threads = c.in_ok-threads_of.ensures.parsed;
       at_least = c.index_of.ensures;
+      skips_unread = c.flag_of-2.ensures;
     }

@@ -9,7 +9,9 @@ returns-clause-check c =
     let top : app_of c.after_help.result ≡ new_app (codes "check") = search rules in
     let wanted : rule_of c.required.result ≡ needed_rule (workload c.args.names) = ap rule_of c.required.ensures ∙ ap needed_rule c.workload_option.ensures.rule in
     let local : c.required.result.global ≡ false = rw c.required.ensures c.workload_option.ensures.local in
-    c.in_ok-check.ensures.shape c.at_least_option.ensures.local ∙ ap₂ with_rule
+    c.in_ok-check.ensures.shape c.verbose_option.ensures.local ∙ ap₂ with_rule
+    (c.in_ok-arg-9.ensures.shape c.skip_unread_option.ensures.local ∙ ap₂ with_rule
+    (c.in_ok-arg-8.ensures.shape c.at_least_option.ensures.local ∙ ap₂ with_rule
     (c.in_ok-arg-7.ensures.shape c.threads_option.ensures.local ∙ ap₂ with_rule
     (c.in_ok-arg-6.ensures.shape c.flag_option-independent.ensures.local ∙ ap₂ with_rule
     (c.in_ok-arg-5.ensures.shape c.flag_option-explain.ensures.local ∙ ap₂ with_rule
@@ -18,5 +20,5 @@ returns-clause-check c =
     (c.in_ok-arg-2.ensures.shape c.initial_option.ensures.local ∙ ap₂ with_rule
     (c.in_ok-arg.ensures.shape local ∙ ap₂ with_rule top wanted)
     c.initial_option.ensures.rule) c.model_option.ensures.rule) c.judge_option.ensures.rule) c.flag_option-explain.ensures.rule)
-    c.flag_option-independent.ensures.rule) c.threads_option.ensures.rule)
-    c.at_least_option.ensures.rule
+    c.flag_option-independent.ensures.rule) c.threads_option.ensures.rule) c.at_least_option.ensures.rule) c.skip_unread_option.ensures.rule)
+    c.verbose_option.ensures.rule

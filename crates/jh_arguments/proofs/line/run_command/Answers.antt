@@ -1,0 +1,9 @@
+use Rattle.std.proofs.Common.{rules, ap₂, codes, ◌≡◌, ◌∙◌}
+use Rattle.clap.specs.Words.{app_of, new_app, with_rule}
+use Rattle.jh_arguments.proofs.line.run_command.Goals as goal
+
+pub returns-clause-run : goal.returns-clause-run
+returns-clause-run c =
+    let about : app_of c.about.result ≡ new_app (codes "run") = search rules in
+    let top : app_of c.after_help.result ≡ new_app (codes "run") = search rules in
+    c.in_ok-run.ensures.shape c.verbose_option.ensures.local ∙ ap₂ with_rule top c.verbose_option.ensures.rule
