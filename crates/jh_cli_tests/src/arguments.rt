@@ -2,8 +2,8 @@
 
 use crate::rows::{Texts, first_wrong};
 use jh_arguments::{
-    CallCounts, CallObserver, Command, CommandObserver, Streams, answer, command_of, parse,
-    status_of_refusal,
+    CallCounts, CallObserver, Command, CommandObserver, HistoryCounts, HistoryObserver, Streams,
+    answer, command_of, parse, status_of_refusal,
 };
 use jh_search::SearchObserver;
 use jh_shrink::Observer;
@@ -31,17 +31,19 @@ pub(crate) fn asked_once(alloc: Global, arguments: &str) -> Option<Vec<u8>> {
 fn asks_for_commands(rt: HostRuntime) {
     let rows = r#"jeprun env → Env
 § jeprun run → Run
-§ jeprun check --workload set → Check(CheckQuestion { judging: Judging { checker: Set, initial: None, budget: 100000, explain: false, model: None }, independent: false, threads: 1, at_least: None })
-§ jeprun check --workload=unique-ids --budget 0 → Check(CheckQuestion { judging: Judging { checker: Ids, initial: None, budget: 0, explain: false, model: None }, independent: false, threads: 1, at_least: None })
-§ jeprun check --workload register --initial=-5 → Check(CheckQuestion { judging: Judging { checker: Register, initial: Some(-5), budget: 100000, explain: false, model: None }, independent: false, threads: 1, at_least: None })
-§ jeprun check --workload set --independent → Check(CheckQuestion { judging: Judging { checker: Set, initial: None, budget: 100000, explain: false, model: None }, independent: true, threads: 1, at_least: None })
-§ jeprun check --independent --threads 16 --workload counter → Check(CheckQuestion { judging: Judging { checker: Counter, initial: None, budget: 100000, explain: false, model: None }, independent: true, threads: 16, at_least: None })
-§ jeprun check --explain --workload register → Check(CheckQuestion { judging: Judging { checker: Register, initial: None, budget: 100000, explain: true, model: None }, independent: false, threads: 1, at_least: None })
-§ jeprun check --workload list-append --model snapshot-isolation → Check(CheckQuestion { judging: Judging { checker: ListAppend, initial: None, budget: 100000, explain: false, model: Some(SnapshotIsolation) }, independent: false, threads: 1, at_least: None })
-§ jeprun check --workload list-append --model strict-serializable → Check(CheckQuestion { judging: Judging { checker: ListAppend, initial: None, budget: 100000, explain: false, model: Some(StrictSerializable) }, independent: false, threads: 1, at_least: None })
-§ jeprun check --workload set --budget 10000000 → Check(CheckQuestion { judging: Judging { checker: Set, initial: None, budget: 10000000, explain: false, model: None }, independent: false, threads: 1, at_least: None })
-§ jeprun check --workload set --at-least 18446744073709551615 → Check(CheckQuestion { judging: Judging { checker: Set, initial: None, budget: 100000, explain: false, model: None }, independent: false, threads: 1, at_least: Some(18446744073709551615) })
-§ jeprun plot → Plot
+§ jeprun check --workload set → Check(CheckQuestion { judging: Judging { checker: Set, initial: None, budget: 100000, explain: false, model: None }, independent: false, threads: 1, at_least: None, skips_unread: false })
+§ jeprun check --workload=unique-ids --budget 0 → Check(CheckQuestion { judging: Judging { checker: Ids, initial: None, budget: 0, explain: false, model: None }, independent: false, threads: 1, at_least: None, skips_unread: false })
+§ jeprun check --workload register --initial=-5 → Check(CheckQuestion { judging: Judging { checker: Register, initial: Some(-5), budget: 100000, explain: false, model: None }, independent: false, threads: 1, at_least: None, skips_unread: false })
+§ jeprun check --workload set --independent → Check(CheckQuestion { judging: Judging { checker: Set, initial: None, budget: 100000, explain: false, model: None }, independent: true, threads: 1, at_least: None, skips_unread: false })
+§ jeprun check --independent --threads 16 --workload counter → Check(CheckQuestion { judging: Judging { checker: Counter, initial: None, budget: 100000, explain: false, model: None }, independent: true, threads: 16, at_least: None, skips_unread: false })
+§ jeprun check --explain --workload register → Check(CheckQuestion { judging: Judging { checker: Register, initial: None, budget: 100000, explain: true, model: None }, independent: false, threads: 1, at_least: None, skips_unread: false })
+§ jeprun check --workload list-append --model snapshot-isolation → Check(CheckQuestion { judging: Judging { checker: ListAppend, initial: None, budget: 100000, explain: false, model: Some(SnapshotIsolation) }, independent: false, threads: 1, at_least: None, skips_unread: false })
+§ jeprun check --workload list-append --model strict-serializable → Check(CheckQuestion { judging: Judging { checker: ListAppend, initial: None, budget: 100000, explain: false, model: Some(StrictSerializable) }, independent: false, threads: 1, at_least: None, skips_unread: false })
+§ jeprun check --workload set --budget 10000000 → Check(CheckQuestion { judging: Judging { checker: Set, initial: None, budget: 10000000, explain: false, model: None }, independent: false, threads: 1, at_least: None, skips_unread: false })
+§ jeprun check --workload set --at-least 18446744073709551615 → Check(CheckQuestion { judging: Judging { checker: Set, initial: None, budget: 100000, explain: false, model: None }, independent: false, threads: 1, at_least: Some(18446744073709551615), skips_unread: false })
+§ jeprun plot → Plot(false)
+§ jeprun plot --skip-unread --verbose → Plot(true)
+§ jeprun check --workload set --skip-unread → Check(CheckQuestion { judging: Judging { checker: Set, initial: None, budget: 100000, explain: false, model: None }, independent: false, threads: 1, at_least: None, skips_unread: true })
 § jeprun shrink → Shrink(10000)
 § jeprun shrink --budget 10000000 → Shrink(10000000)
 § jeprun search → Search(SearchQuestion { from: 0, runs: 10000, faults: 8, palette: Some(Palette { cut: true, slow: true, loss: true, fix: true, pause: true, kill: true, bump: true }), threads: None, show: None })
@@ -50,12 +52,12 @@ fn asks_for_commands(rt: HostRuntime) {
 § jeprun search --show 0 --palette kill --ms 86400000 → Search(SearchQuestion { from: 0, runs: 10000, faults: 8, palette: Some(Palette { cut: false, slow: false, loss: false, fix: false, pause: false, kill: true, bump: false }), threads: None, show: Some(Show { number: 0, milliseconds: Some(86400000) }) })
 § jeprun search --ms 5 --palette x → Search(SearchQuestion { from: 0, runs: 10000, faults: 8, palette: None, threads: None, show: None })
 § jeprun search --palette cut,,bump → Search(SearchQuestion { from: 0, runs: 10000, faults: 8, palette: None, threads: None, show: None })
-§ jeprun timeline → Timeline(TimelineQuestion { judging: None, independent: false, choice: Choice { from: None, to: None } })
-§ jeprun timeline --workload register --initial 0 --budget 5 --from 7 --to 18446744073709551615 → Timeline(TimelineQuestion { judging: Some(Judging { checker: Register, initial: Some(0), budget: 5, explain: true, model: None }), independent: false, choice: Choice { from: Some(7), to: Some(18446744073709551615) } })
-§ jeprun timeline --workload set → Timeline(TimelineQuestion { judging: Some(Judging { checker: Set, initial: None, budget: 100000, explain: true, model: None }), independent: false, choice: Choice { from: None, to: None } })
-§ jeprun timeline --workload list-append --model serializable → Timeline(TimelineQuestion { judging: Some(Judging { checker: ListAppend, initial: None, budget: 100000, explain: true, model: Some(Serializable) }), independent: false, choice: Choice { from: None, to: None } })
-§ jeprun timeline --workload register --independent → Timeline(TimelineQuestion { judging: Some(Judging { checker: Register, initial: None, budget: 100000, explain: true, model: None }), independent: true, choice: Choice { from: None, to: None } })
-§ jeprun timeline --initial 3 → Timeline(TimelineQuestion { judging: None, independent: false, choice: Choice { from: None, to: None } })
+§ jeprun timeline → Timeline(TimelineQuestion { judging: None, independent: false, choice: Choice { from: None, to: None }, skips_unread: false })
+§ jeprun timeline --workload register --initial 0 --budget 5 --from 7 --to 18446744073709551615 → Timeline(TimelineQuestion { judging: Some(Judging { checker: Register, initial: Some(0), budget: 5, explain: true, model: None }), independent: false, choice: Choice { from: Some(7), to: Some(18446744073709551615) }, skips_unread: false })
+§ jeprun timeline --workload set → Timeline(TimelineQuestion { judging: Some(Judging { checker: Set, initial: None, budget: 100000, explain: true, model: None }), independent: false, choice: Choice { from: None, to: None }, skips_unread: false })
+§ jeprun timeline --workload list-append --model serializable → Timeline(TimelineQuestion { judging: Some(Judging { checker: ListAppend, initial: None, budget: 100000, explain: true, model: Some(Serializable) }), independent: false, choice: Choice { from: None, to: None }, skips_unread: false })
+§ jeprun timeline --workload register --independent → Timeline(TimelineQuestion { judging: Some(Judging { checker: Register, initial: None, budget: 100000, explain: true, model: None }), independent: true, choice: Choice { from: None, to: None }, skips_unread: false })
+§ jeprun timeline --initial 3 → Timeline(TimelineQuestion { judging: None, independent: false, choice: Choice { from: None, to: None }, skips_unread: false })
 § jeprun timeline --from -1 → 3
 error: unexpected argument '-1' found
 
@@ -178,7 +180,7 @@ For more information, try '--help'.
 § jeprun run extra → 3
 error: unexpected argument 'extra' found
 
-Usage: jeprun run
+Usage: jeprun run [OPTIONS]
 
 For more information, try '--help'.
 § jeprun shrink extra → 3
@@ -196,7 +198,7 @@ For more information, try '--help'.
 § jeprun env extra → 3
 error: unexpected argument 'extra' found
 
-Usage: jeprun env
+Usage: jeprun env [OPTIONS]
 
 For more information, try '--help'.
 § jeprun help → 0
@@ -239,6 +241,8 @@ Options:
       --from <INDEX>     The first record that is shown, from 0
       --to <INDEX>       The record behind the last one that is shown
       --settings <FILE>  The settings of the run that is shown, to name its steps
+      --skip-unread      Leaves out keys with floats and other tokens that can't be read, where no checker reads them
+      --verbose          Says on standard error where and why an input is refused
   -h, --help             Print help
 
 It writes an HTML page: each operation as a bar, each fault as a shade, and with --workload what
@@ -257,10 +261,12 @@ Examples:
 § jeprun plot --help → 0
 Writes a page that plots latencies and rates of a history, which is read from standard input as EDN
 
-Usage: jeprun plot
+Usage: jeprun plot [OPTIONS]
 
 Options:
-  -h, --help  Print help
+      --skip-unread  Leaves out keys with floats and other tokens that can't be read, where no checker reads them
+      --verbose      Says on standard error where and why an input is refused
+  -h, --help         Print help
 
 It writes an HTML page: for each function the latency of each call over time, percentiles of the
 latencies, and how many calls a second ended in each way; and when which fault was active. Each
@@ -276,10 +282,11 @@ Examples:
 § jeprun run --help → 0
 Runs a simulated cluster by settings, read from standard input as TOML, and judges its history
 
-Usage: jeprun run
+Usage: jeprun run [OPTIONS]
 
 Options:
-  -h, --help  Print help
+      --verbose  Says on standard error where and why an input is refused
+  -h, --help     Print help
 
 It writes the history, the ids of the faults that are active at the end, the environment,
 and the verdict.
@@ -297,6 +304,7 @@ Usage: jeprun shrink [OPTIONS]
 
 Options:
       --budget <N>  How many runs may be made [default: 10000]
+      --verbose     Says on standard error where and why an input is refused
   -h, --help        Print help
 
 It writes :minimal, :budget or :not-failing, and then the entries that are left.
@@ -320,6 +328,7 @@ Options:
       --threads <N>      How many threads try candidates; as many as there are processors where it is left out
       --show <N>         Writes the schedule of this candidate, and runs none
       --ms <N>           With --show: spreads the schedule over so many milliseconds, for drive
+      --verbose          Says on standard error where and why an input is refused
   -h, --help             Print help
 
 Each candidate is a run of the settings with another seed, and with random faults of KINDS
@@ -349,6 +358,8 @@ Options:
       --independent      Judges each key by itself; values are tuples of a key and a value
       --threads <N>      How many threads judge keys [default: 1]
       --at-least <N>     A history with fewer calls that ended :ok is not called valid
+      --skip-unread      Leaves out keys with floats and other tokens that can't be read, where no checker reads them
+      --verbose          Says on standard error where and why an input is refused
   -h, --help             Print help
 
 It writes the verdict, and what it stands on. Of a register that is not valid, --explain
@@ -395,10 +406,11 @@ Examples:
 § jeprun env --help → 0
 Applies fault steps to an environment, both read from standard input as EDN
 
-Usage: jeprun env
+Usage: jeprun env [OPTIONS]
 
 Options:
-  -h, --help  Print help
+      --verbose  Says on standard error where and why an input is refused
+  -h, --help     Print help
 
 It writes the answer to each step, the ids of the active faults, and the environment.
 
@@ -434,6 +446,10 @@ impl Observer for Seen {
 
 impl SearchObserver for Seen {
     fn see_tried(&mut self, _tried: u64, _unknown: u64) {}
+}
+
+impl HistoryObserver for Seen {
+    fn see_history(&mut self, _counts: HistoryCounts) {}
 }
 
 impl CallObserver for Seen {

@@ -197,6 +197,25 @@ fn wants_enough_calls_of_all_keys(rt: HostRuntime) {
     assert_eq!(rt; first_wrong(&rt, rt.alloc(), texts, rows), None);
 }
 
+/// What can't be read under other keys is left out, and only where that is asked for.
+#[test]
+fn unread_keys_are_skipped(rt: HostRuntime) {
+    let floats = r#"{:type :invoke, :f :add, :value 1, :process 0, :latency 1.5}
+{:type :ok, :f :add, :value 1, :process 0, :time 99999999999999999999}
+{:type :invoke, :f :read, :process 0, :node #object[Node 0x1f "n1"]} {:type :ok, :f :read, :value [1], :process 0}
+→ 0
+{:valid? true, :ok [1], :lost [], :unexpected [], :recovered []}
+§ {:type :invoke, :f :add, :value 1.5, :process 0} → 3 line 1: float unsupported
+§ {:type :invoke, :f :add, :value 1, :process 0, :a [1.5} → 3 line 1: float unsupported
+"#;
+    let texts = Texts::Inputs("jeprun check --workload set --skip-unread");
+    assert_eq!(rt; first_wrong(&rt, rt.alloc(), texts, floats), None);
+    let refused =
+        "{:type :invoke, :f :add, :value 1, :process 0, :latency 1.5} → 3 line 1: float unsupported\n";
+    let texts = Texts::Inputs("jeprun check --workload set");
+    assert_eq!(rt; first_wrong(&rt, rt.alloc(), texts, refused), None);
+}
+
 #[test]
 fn a_register_starts_with_nil(rt: HostRuntime) {
     let rows =

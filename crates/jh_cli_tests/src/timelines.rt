@@ -40,6 +40,7 @@ fn question_of(pieces: &str) -> Option<TimelineQuestion> {
             to: pieces.next()?.parse().ok(),
         },
         independent: pieces.next() == Some("keys"),
+        skips_unread: false,
     })
 }
 

@@ -4,7 +4,7 @@ use jh_check::{Verdict, check_set};
 use jh_checkers::{Checker, Judging};
 use jh_histories::history_in;
 use jh_independent::{check_keys_serial, verdict_of_all};
-use jh_linear::{LinVerdict, check, reg_ops};
+use jh_linear::{LinVerdict, Outcome, RegCall, RegOp, check, reg_op, reg_ops};
 use jh_ops::{Op, Pair, pair};
 use std::alloc::Global;
 
@@ -77,6 +77,39 @@ fn a_write_that_nobody_saw_end_may_have_happened(rt: HostRuntime) {
     let alloc = rt.alloc();
     let verdict = || verdict_on(alloc, &operations_of(alloc, REGISTER)?);
     assert!(rt; matches!(verdict().or_else(verdict), Some(LinVerdict::Valid(_))));
+}
+
+/// The operation of a register that a pair of a history stands for.
+fn operation_of(alloc: Global, pair: Pair) -> Option<Option<RegOp>> {
+    Some(reg_op(&operations_of(alloc, REGISTER)?, pair))
+}
+
+/// A read that answered 5, and a pair behind the end of the history.
+#[test]
+fn a_pair_stands_for_an_operation(rt: HostRuntime) {
+    let alloc = rt.alloc();
+    let read = || operation_of(
+        alloc,
+        Pair {
+            invoke: 1,
+            outcome: Some(2),
+        },
+    );
+    let wanted = RegOp {
+        invoked: 1,
+        ended: Some(2),
+        outcome: Outcome::Done,
+        call: RegCall::Read(Some(5)),
+    };
+    assert_eq!(rt; read().or_else(read), Some(Some(wanted)));
+    let beyond = || operation_of(
+        alloc,
+        Pair {
+            invoke: 3,
+            outcome: None,
+        },
+    );
+    assert_eq!(rt; beyond().or_else(beyond), Some(None));
 }
 
 /// The verdict on all keys of a history of registers.
