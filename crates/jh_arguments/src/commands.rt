@@ -59,9 +59,8 @@ pub enum Command {
     Search(SearchQuestion),
     /// A page that shows a history.
     Timeline(TimelineQuestion),
-    /// A page that shows the latencies and rates of a history, without keys that can't be read where
-    /// that is asked for.
-    Plot(bool),
+    /// A page that shows the latencies and rates of a history.
+    Plot,
 }
 
 /// The command that the arguments ask for. `parse` has seen to it that there is one.
@@ -78,7 +77,7 @@ pub fn command_of(matches: &ArgMatches<'_>) -> Option<Command>
         ("shrink", options) => Some(Command::Shrink(number_of(options, "budget")?)),
         ("search", options) => Some(Command::Search(search_question_of(options)?)),
         ("timeline", options) => Some(Command::Timeline(timeline_question_of(options)?)),
-        ("plot", options) => Some(Command::Plot(flag_of(options, "skip-unread"))),
+        ("plot", _) => Some(Command::Plot),
         _ => None,
     }
 }
@@ -366,6 +365,6 @@ where
         Command::Shrink(budget) => shrink_run_observed(alloc, reader, writer, budget, observer),
         Command::Search(question) => search_run(rt, alloc, reader, writer, question, observer),
         Command::Timeline(question) => timeline_run(alloc, reader, writer, question, steps),
-        Command::Plot(skips_unread) => plot_run(alloc, reader, writer, skips_unread),
+        Command::Plot => plot_run(alloc, reader, writer, false),
     }
 }

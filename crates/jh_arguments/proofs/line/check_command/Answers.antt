@@ -1,12 +1,13 @@
-use Rattle.std.proofs.Common.{rules, ap, ap₂, codes, false, ◌≡◌, ◌∙◌}
+use Rattle.std.proofs.Common.{ap, ap₂, codes, false, ◌≡◌, ◌∙◌}
 use Rattle.clap.specs.Words.{app_of, new_app, rule_of, with_rule}
+use Rattle.clap.specs.Simple.{app_of_fields}
 use Rattle.jh_arguments.specs.Line.{needed_rule, workload}
 use Rattle.jh_arguments.proofs.line.check_command.Goals as goal
 
 pub returns-clause-check : goal.returns-clause-check
 returns-clause-check c =
-    let about : app_of c.about.result ≡ new_app (codes "check") = search rules in
-    let top : app_of c.after_help.result ≡ new_app (codes "check") = search rules in
+    let top : app_of c.after_help.result ≡ new_app (codes "check") = ap app_of_fields c.after_help.ensures
+    ∙ (ap app_of_fields c.about.ensures ∙ c.new.ensures.app) in
     let wanted : rule_of c.required.result ≡ needed_rule (workload c.args.names) = ap rule_of c.required.ensures ∙ ap needed_rule c.workload_option.ensures.rule in
     let local : c.required.result.global ≡ false = rw c.required.ensures c.workload_option.ensures.local in
     c.in_ok-check.ensures.shape c.verbose_option.ensures.local ∙ ap₂ with_rule

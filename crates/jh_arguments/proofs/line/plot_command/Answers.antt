@@ -6,6 +6,4 @@ pub returns-clause-plot : goal.returns-clause-plot
 returns-clause-plot c =
     let about : app_of c.about.result ≡ new_app (codes "plot") = search rules in
     let top : app_of c.after_help.result ≡ new_app (codes "plot") = search rules in
-    c.in_ok-plot.ensures.shape c.verbose_option.ensures.local ∙ ap₂ with_rule
-    (c.in_ok-arg.ensures.shape c.skip_unread_option.ensures.local ∙ ap₂ with_rule top c.skip_unread_option.ensures.rule)
-    c.verbose_option.ensures.rule
+    c.in_ok-plot.ensures.shape c.verbose_option.ensures.local ∙ ap₂ with_rule top c.verbose_option.ensures.rule
