@@ -12,7 +12,7 @@ use std::alloc::Global;
 fn answer_once(alloc: Global, input: &str) -> Option<Vec<u8>> {
     let mut reader = input.as_bytes();
     let mut page = Vec::new(alloc);
-    match plot_run(alloc, &mut reader, &mut page) {
+    match plot_run(alloc, &mut reader, &mut page, false) {
         Ok(status) => with_status(alloc, status, &page),
         Err(CliError::OutOfMemory | CliError::Write) => None,
         Err(error) => {
