@@ -200,8 +200,9 @@ module _ (names models : Bor (List (Bor Text))) (all : map (λ s. s.now) names.n
   judging_in : (c : List Rule) (rows : List Row) → HoldsOf c rows
       → option_map read_of (arg_by_id c (codes "initial")) ≡ Some (false, vp.Signed (negsuc 9223372036854775807) (pos 9223372036854775807), false)
       → option_map read_of (arg_by_id c (codes "budget")) ≡ Some (false, vp.Unsigned 0 10000000, true)
-      → (explain : Bool) (checker : Checker) → (judging : Judging) × IsJudgingBy rows (checker_name checker) judging × (judging.explain ≡ explain) × (judging.checker ≡ checker)
-  judging_in c rows holds initial budget explain checker =
+      → (explain : Bool) (checker : Checker) → first_of (codes "workload") rows ≡ Some (checker_name checker)
+      → (judging : Judging) × IsJudgingBy rows judging × (judging.explain ≡ explain)
+  judging_in c rows holds initial budget explain checker named =
       let first = initial_in rows (option_gives c rows holds (codes "initial") false (vp.Signed (negsuc 9223372036854775807) (pos 9223372036854775807)) false initial) in
       let most = number_in rows (codes "budget") 0 10000000 (needed_gives c rows holds (codes "budget") false (vp.Unsigned 0 10000000) budget) in (
         record {
@@ -211,8 +212,7 @@ module _ (names models : Bor (List (Bor Text))) (all : map (λ s. s.now) names.n
           explain = explain;
           model = option_and_then model_named (first_of (codes "model") rows);
         },
-        record { workload = refl; initial = first.1; model = refl; budget = most.1.0 },
-        refl,
+        record { workload = named; initial = first.1; model = refl; budget = most.1.0 },
         refl,
       )
 
@@ -246,13 +246,10 @@ module _ (names models : Bor (List (Bor Text))) (all : map (λ s. s.now) names.n
       let independent = flag_in (one_of (codes "independent") rows) in
       let threads = number_in rows (codes "threads") 1 16 (needed_gives _ rows holds (codes "threads") false (vp.Unsigned 1 16) refl) in
       let least = index_in rows (codes "at-least") (option_gives _ rows holds (codes "at-least") false (vp.Unsigned 0 18446744073709551615) false refl) in
-      let by = judging_in _ rows holds refl refl explain.0 checker.0 in
+      let by = judging_in _ rows holds refl refl explain.0 checker.0 checker.1 in
       let skips = flag_in (one_of (codes "skip-unread") rows) in
       let asks : AsksCheck rows (record { judging = by.0; independent = independent.0; threads = threads.0; at_least = least.0; skips_unread = skips.0 }) = record {
-        workload = checker.1 ∙ ap (λ c. Some (checker_name c)) (sym by.3);
-        initial = by.1.initial;
-        model = by.1.model;
-        budget = by.1.budget;
+        judging = by.1;
         explain = subst (IsFlag (one_of (codes "explain") rows)) (sym by.2) explain.1;
         independent = independent.1;
         threads = threads.1;
@@ -288,8 +285,8 @@ module _ (names models : Bor (List (Bor Text))) (all : map (λ s. s.now) names.n
   page_in rows holds (inl none) = (None, none.1.first)
   page_in rows holds (inr t) =
       let checker = checker_in names all rows t in
-      let by = judging_in _ rows holds refl refl true checker.0 in
-      (Some by.0, (checker_name checker.0, checker.1, by.1, by.2))
+      let by = judging_in _ rows holds refl refl true checker.0 checker.1 in
+      (Some by.0, (by.1, by.2))
 
   timeline_asks : Leads SubcommandIsAny (leaf (timeline names models))
   timeline_asks name rest named other fault =

@@ -1,5 +1,5 @@
 -- Arguments that `clap` takes ask for one command at most.
-use Rattle.std.proofs.Common.{◌≡◌, ◌∙◌, ◌||◌, ◌+◌, ◌*◌, ◌⊎◌, inl, inr, ℕ, ℤ, Bool, codes, true, false, refl, sym, ap, subst, arith, List, [], ◌∷◌, Option, Some, None, true≢false}
+use Rattle.std.proofs.Common.{◌≡◌, ◌∙◌, ◌||◌, ◌+◌, ◌*◌, ◌⊎◌, inl, inr, ℕ, ℤ, Bool, codes, true, false, refl, sym, ap, arith, List, [], ◌∷◌, Option, Some, None, true≢false}
 use Rattle.std.specs.Str.{bytes_eq}
 use Rattle.std.proofs.lemmas.Slice.Eq.{bytes_eq-Decides}
 use Rattle.clap.specs.Words.{Row, Text, one_of}
@@ -76,9 +76,9 @@ show_once rows (Some m) (Some n) a b =
 abbrev pub FlagOnce : List Row → Text → Type 0
 FlagOnce rows id = (a b : Bool) → IsFlag (one_of id rows) a → IsFlag (one_of id rows) b → a ≡ b
 
-judging_once : (rows : List Row) (name : Text) (m n : Judging) → IsJudgingBy rows name m → IsJudgingBy rows name n → m.explain ≡ n.explain → m ≡ n
-judging_once rows name m n a b explain =
-    let checker = checker_once m.checker n.checker (sym a.workload ∙ b.workload) in
+judging_once : (rows : List Row) (m n : Judging) → IsJudgingBy rows m → IsJudgingBy rows n → m.explain ≡ n.explain → m ≡ n
+judging_once rows m n a b explain =
+    let checker = checker_once m.checker n.checker (some_same _ _ (sym a.workload ∙ b.workload)) in
     let initial = initial_once (one_of (codes "initial") rows) m.initial n.initial a.initial b.initial in
     let budget = number_one (one_of (codes "budget") rows) m.budget n.budget a.budget b.budget in
     let model = a.model ∙ sym b.model in
@@ -86,17 +86,13 @@ judging_once rows name m n a b explain =
 
 check_once : (rows : List Row) → FlagOnce rows (codes "explain") → FlagOnce rows (codes "independent") → FlagOnce rows (codes "skip-unread") → (m n : CheckQuestion) → AsksCheck rows m → AsksCheck rows n → m ≡ n
 check_once rows explained split skipped m n a b =
-    let checker = checker_once m.judging.checker n.judging.checker (some_same _ _ (sym a.workload ∙ b.workload)) in
-    let initial = initial_once (one_of (codes "initial") rows) m.judging.initial n.judging.initial a.initial b.initial in
-    let budget = number_one (one_of (codes "budget") rows) m.judging.budget n.judging.budget a.budget b.budget in
-    let model = a.model ∙ sym b.model in
-    let explain = explained m.judging.explain n.judging.explain a.explain b.explain in
+    let judging = judging_once rows m.judging n.judging a.judging b.judging (explained m.judging.explain n.judging.explain a.explain b.explain) in
     let independent = split m.independent n.independent a.independent b.independent in
     let threads = number_one (one_of (codes "threads") rows) m.threads n.threads a.threads.0 b.threads.0 in
     let least = index_once (one_of (codes "at-least") rows) m.at_least n.at_least a.at_least b.at_least in
     let skips = skipped m.skips_unread n.skips_unread a.skips_unread b.skips_unread in
     λ i. record {
-      judging = record { checker = checker i; initial = initial i; budget = budget i; explain = explain i; model = model i };
+      judging = judging i;
       independent = independent i;
       threads = threads i;
       at_least = least i;
@@ -115,11 +111,9 @@ search_once rows m n a b =
 
 page_once : (rows : List Row) (m n : Option Judging) → IsJudging rows m → IsJudging rows n → m ≡ n
 page_once rows None None a b = refl
-page_once rows None (Some n) a b = let bad : Some b.0 ≡ None = sym b.1 ∙ a in cc
-page_once rows (Some m) None a b = let bad : Some a.0 ≡ None = sym a.1 ∙ b in cc
-page_once rows (Some m) (Some n) a b =
-    let name : a.0 ≡ b.0 = some_same a.0 b.0 (sym a.1 ∙ b.1) in
-    ap Some (judging_once rows b.0 m n (subst (λ t. IsJudgingBy rows t m) name a.2) b.2 (a.3 ∙ sym b.3))
+page_once rows None (Some n) a b = let bad : Some (checker_name n.checker) ≡ None = sym b.0.workload ∙ a in cc
+page_once rows (Some m) None a b = let bad : Some (checker_name m.checker) ≡ None = sym a.0.workload ∙ b in cc
+page_once rows (Some m) (Some n) a b = ap Some (judging_once rows m n a.0 b.0 (a.1 ∙ sym b.1))
 
 timeline_once : (rows : List Row) → FlagOnce rows (codes "independent") → FlagOnce rows (codes "skip-unread") → (m n : TimelineQuestion) → AsksTimeline rows m → AsksTimeline rows n → m ≡ n
 timeline_once rows split skipped m n a b =

@@ -1,5 +1,5 @@
 -- What the options of commands read as, from what `clap`'s getters give.
-use Rattle.std.proofs.Common.{◌≡◌, ◌∙◌, refl, sym, ap, subst, codes, List, ℕ, ℤ, Bool, true, false, Option, Some, None}
+use Rattle.std.proofs.Common.{◌≡◌, ◌∙◌, refl, sym, ap, codes, List, ℕ, ℤ, Bool, true, false, Option, Some, None}
 use Rattle.std.specs.Prelude.{Result, option_map, IfSome, IsNone, ◌≤◌}
 use Rattle.std.specs.Borrow.{Bor}
 use mir.Syntax.{w64}
@@ -63,14 +63,11 @@ index_read f id r none some = go (one_of id (rows_of f)) r (one_text-rows f id) 
     go (Some t) (Some n) is none some = (some t is).0
     go (Some t) None is none some = (some t is).1.0
 
--- the name of a workload is given, and judged by it is nothing that asks for another
+-- the name of a workload is given, and nothing is judged by it
 pub judging_unread : (options : List Row) (name : Text) (judging : Option Judging) → first_of (codes "workload") options ≡ Some name
-    → ((by : Judging) → IsJudgingBy options name by → ⊥) → IsJudging options judging → ⊥
+    → ((by : Judging) → IsJudgingBy options by → ⊥) → IsJudging options judging → ⊥
 judging_unread options name None given none is = let bad : Some name ≡ None = sym given ∙ is in cc
-judging_unread options name (Some by) given none (other, is, asks, explained) =
-    let both : Some other ≡ Some name = sym is ∙ given in
-    let same : other ≡ name = cc in
-    none by (subst (λ n. IsJudgingBy options n by) same asks)
+judging_unread options name (Some by) given none is = none by is.0
 
 -- one text writes one number
 pub number_one : (o : Option Text) (m n : ℕ) → IsNumber o m → IsNumber o n → m ≡ n

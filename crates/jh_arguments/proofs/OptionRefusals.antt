@@ -1,8 +1,7 @@
 -- What commands say of their options, as one rule for all commands.
-use Rattle.std.proofs.Common.{◌≡◌, ◌↔◌, ℕ, None}
+use Rattle.std.proofs.Common.{◌≡◌, ◌↔◌, ℕ, None, Some}
 use Rattle.std.specs.Prelude.{Result, IsErrOf}
-use Rattle.jh_cli.specs.CheckText.{TakesInitial, TakesModel}
-use Rattle.jh_cli.specs.TimelineText.{TakesInitialBy, TakesModelBy}
+use Rattle.jh_cli.specs.JudgingOptions.{RefusesJudgingOptions}
 use Rattle.jh_cli.specs.declared.check_command.CheckQuestion.{CheckQuestion}
 use Rattle.jh_cli.specs.declared.error.CliError.{CliError}
 use Rattle.jh_cli.specs.declared.error.CliError.TheVariants.{OnlyForRegister, OnlyForListAppend, BadPalette}
@@ -21,8 +20,8 @@ is_of_options (Timeline question) OnlyForListAppend refuses = tt
 is_of_options (Search question) BadPalette refuses = tt
 is_of_options _ _ refuses = absurd refuses
 
-pub check_options : (question : CheckQuestion) (r : Result ℕ CliError) → IsErrOf r OnlyForRegister ↔ (TakesInitial question.judging.checker question.judging.initial → ⊥)
-    → IsErrOf r OnlyForListAppend ↔ (TakesInitial question.judging.checker question.judging.initial × (TakesModel question.judging.checker question.judging.model → ⊥))
+pub check_options : (question : CheckQuestion) (r : Result ℕ CliError) → IsErrOf r OnlyForRegister ↔ RefusesJudgingOptions (Some question.judging) OnlyForRegister
+    → IsErrOf r OnlyForListAppend ↔ RefusesJudgingOptions (Some question.judging) OnlyForListAppend
     → (e : CliError) → IsOfOptions (Check question) e → IsErrOf r e ↔ RefusesOptions (Check question) e
 check_options question r initial model OnlyForRegister of = initial
 check_options question r initial model OnlyForListAppend of = model
@@ -34,8 +33,8 @@ check_unread question r old new initial model OnlyForRegister of = initial
 check_unread question r old new initial model OnlyForListAppend of = model
 check_unread question r old new initial model _ of = absurd of
 
-pub timeline_options : (question : TimelineQuestion) (r : Result ℕ CliError) → IsErrOf r OnlyForRegister ↔ (TakesInitialBy question.judging → ⊥)
-    → IsErrOf r OnlyForListAppend ↔ (TakesInitialBy question.judging × (TakesModelBy question.judging → ⊥))
+pub timeline_options : (question : TimelineQuestion) (r : Result ℕ CliError) → IsErrOf r OnlyForRegister ↔ RefusesJudgingOptions question.judging OnlyForRegister
+    → IsErrOf r OnlyForListAppend ↔ RefusesJudgingOptions question.judging OnlyForListAppend
     → (e : CliError) → IsOfOptions (Timeline question) e → IsErrOf r e ↔ RefusesOptions (Timeline question) e
 timeline_options question r initial model OnlyForRegister of = initial
 timeline_options question r initial model OnlyForListAppend of = model

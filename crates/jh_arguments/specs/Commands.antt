@@ -8,11 +8,12 @@ use Rattle.std.specs.Str.Parse.{without_leading_sign}
 use Rattle.clap.specs.Words.{Row, Text, first_of, one_of}
 use Rattle.jh_edn.specs.Edn.{Edn}
 use Rattle.jh_cli.specs.EnvText.{IsEnvTextOf}
-use Rattle.jh_cli.specs.CheckText.{IsCheckTextOf, TakesInitial, TakesModel}
+use Rattle.jh_cli.specs.CheckText.{IsCheckTextOf}
+use Rattle.jh_cli.specs.JudgingOptions.{RefusesJudgingOptions}
 use Rattle.jh_cli.specs.RunText.{IsRunTextOf}
 use Rattle.jh_cli.specs.ShrinkText.{IsShrinkTextOf}
 use Rattle.jh_cli.specs.SearchText.{IsSearchTextOf}
-use Rattle.jh_cli.specs.TimelineText.{IsTimelineTextOf, TakesInitialBy, TakesModelBy}
+use Rattle.jh_cli.specs.TimelineText.{IsTimelineTextOf}
 use Rattle.jh_cli.specs.PlotText.{IsPlotTextOf}
 use Rattle.jh_cli.specs.EnvRefusals.{RefusesEnv}
 use Rattle.jh_cli.specs.CheckRefusals.{RefusesCheck}
@@ -32,7 +33,8 @@ use Rattle.jh_arguments.specs.declared.commands.Command.{Command}
 use Rattle.jh_arguments.specs.declared.commands.Command.TheVariants.{Env, Check, Run, Shrink}
 use Rattle.jh_arguments.specs.declared.commands.Command.TheVariants.{Search, Timeline, Plot}
 use Rattle.jh_checkers.specs.Models.{model_named}
-use Rattle.jh_arguments.specs.Limits.{max_candidates, max_faults, max_spread_ms, max_threads}
+use Rattle.jh_arguments.specs.Limits.{max_candidates, max_faults, max_spread_ms}
+use Rattle.jh_tasks.specs.Threads.{IsThreadCount, max_threads}
 use Rattle.jh_arguments.specs.Palettes.{palette_named}
 use Rattle.jh_checkers.specs.Checkers.{checker_name}
 use Rattle.jh_checkers.specs.declared.finding.Judging.{Judging}
@@ -78,36 +80,30 @@ IsFlag (Some text) given =
 -- the index, or the least number, that an option gives, if it is there
 abbrev pub IsIndex : Option Text → Option ℕ → Type 0
 IsIndex None index = index ≡ None
-IsIndex (Some text) (Some number) =
-    WritesUnsigned text × (number ≡ digits_value 10 (without_leading_plus text))
+IsIndex (Some text) (Some number) = IsNumber (Some text) number
 IsIndex (Some text) None = WritesUnsigned text → ⊥
+
+-- a history is judged so, by the checker of the workload that is named
+pub record IsJudgingBy (options : List Row) (judging : Judging) : Type 0 where
+  pub workload : first_of (codes "workload") options ≡ Some (checker_name judging.checker)
+  pub initial : IsInitial (one_of (codes "initial") options) judging.initial
+  pub model : judging.model ≡ option_and_then model_named (first_of (codes "model") options)
+  pub budget : IsNumber (one_of (codes "budget") options) judging.budget
 
 -- the options of `check` ask this
 pub record AsksCheck (options : List Row) (question : CheckQuestion) : Type 0 where
-  pub workload : first_of (codes "workload") options
-      ≡ Some (checker_name question.judging.checker)
-  pub initial : IsInitial (one_of (codes "initial") options) question.judging.initial
-  pub model : question.judging.model ≡ option_and_then model_named (first_of (codes "model") options)
-  pub budget : IsNumber (one_of (codes "budget") options) question.judging.budget
+  pub judging : IsJudgingBy options question.judging
   pub explain : IsFlag (one_of (codes "explain") options) question.judging.explain
   pub independent : IsFlag (one_of (codes "independent") options) question.independent
   pub threads : IsThreads (one_of (codes "threads") options) question.threads
   pub at_least : IsIndex (one_of (codes "at-least") options) question.at_least
   pub skips_unread : IsFlag (one_of (codes "skip-unread") options) question.skips_unread
 
--- by the checker of the workload of this name a history is judged so
-pub record IsJudgingBy (options : List Row) (name : Text) (judging : Judging) : Type 0 where
-  pub workload : name ≡ checker_name judging.checker
-  pub initial : IsInitial (one_of (codes "initial") options) judging.initial
-  pub model : judging.model ≡ option_and_then model_named (first_of (codes "model") options)
-  pub budget : IsNumber (one_of (codes "budget") options) judging.budget
-
 -- what the history of a page is judged by, where it is; a no is explained
 abbrev pub IsJudging : List Row → Option Judging → Type 0
 IsJudging options None = first_of (codes "workload") options ≡ None
 IsJudging options (Some judging) =
-    (name : Text) × (first_of (codes "workload") options ≡ Some name)
-    × IsJudgingBy options name judging × (judging.explain ≡ true)
+    IsJudgingBy options judging × (judging.explain ≡ true)
 
 -- the options of `timeline` ask this
 pub record AsksTimeline (options : List Row) (question : TimelineQuestion) : Type 0 where
@@ -182,10 +178,10 @@ SubcommandIsAny found =
 
 -- its number of threads is one of those that there may be, and each candidate has a number
 abbrev pub HasNumbersInRange : Command → Type 0
-HasNumbersInRange (Check question) = (1 ≤ question.threads) × (question.threads ≤ 16)
+HasNumbersInRange (Check question) = IsThreadCount question.threads
 HasNumbersInRange (Search question) =
     (question.from + question.runs < 2 ^ 64)
-    × IfSome question.threads (λ threads. (1 ≤ threads) × (threads ≤ 16))
+    × IfSome question.threads (λ threads. IsThreadCount threads)
 HasNumbersInRange _ = Unit {0}
 
 -- what it writes for an input, with the exit status, where a page names steps by these
@@ -210,14 +206,8 @@ IsOfOptions command e = ⊥
 
 -- Its options do not go with one another, or name no kinds of faults, and this says so.
 abbrev pub RefusesOptions : Command → CliError → Type 0
-RefusesOptions (Check question) OnlyForRegister =
-    TakesInitial question.judging.checker question.judging.initial → ⊥
-RefusesOptions (Check question) OnlyForListAppend =
-    TakesInitial question.judging.checker question.judging.initial
-    × (TakesModel question.judging.checker question.judging.model → ⊥)
-RefusesOptions (Timeline question) OnlyForRegister = TakesInitialBy question.judging → ⊥
-RefusesOptions (Timeline question) OnlyForListAppend =
-    TakesInitialBy question.judging × (TakesModelBy question.judging → ⊥)
+RefusesOptions (Check question) e = RefusesJudgingOptions (Some question.judging) e
+RefusesOptions (Timeline question) e = RefusesJudgingOptions question.judging e
 RefusesOptions (Search question) BadPalette = question.palette ≡ None
 RefusesOptions command e = ⊥
 

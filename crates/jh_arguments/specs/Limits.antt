@@ -13,10 +13,6 @@ max_faults = 256
 abbrev pub max_spread_ms : ℕ
 max_spread_ms = 86400000
 
--- how many threads judge keys or try candidates
-abbrev pub max_threads : ℕ
-max_threads = 16
-
 -- how much a judge or `shrink` may do: configurations, or runs
 abbrev pub max_budget : ℕ
 max_budget = 10000000

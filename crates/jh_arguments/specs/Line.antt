@@ -16,7 +16,7 @@ use Rattle.clap.specs.declared.parser.matches.ArgMatches.{ArgMatches}
 use Rattle.jh_checkers.specs.Checkers.{checker_names}
 use Rattle.jh_checkers.specs.Models.{model_names}
 use Rattle.jh_arguments.specs.Limits.{max_budget, max_candidates, max_faults, max_spread_ms}
-use Rattle.jh_arguments.specs.Limits.{max_threads}
+use Rattle.jh_tasks.specs.Threads.{max_threads}
 
 -- an option that takes one value
 abbrev pub option : Text → Rule

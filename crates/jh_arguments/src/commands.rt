@@ -202,12 +202,14 @@ fn judging_of(options: &ArgMatches<'_>) -> Option<Option<Judging>>
     }
 }
 
-/// What a history is judged by, with the checker of the workload of this name.
+/// What a history is judged by, with the checker of the workload of this name, which options give.
 fn judging_by(options: &ArgMatches<'_>, name: &str, explain: bool) -> Option<Judging>
-    ensures parsed { IfSome result (IsJudgingBy (rows_of (found_of options.now)) name.now) }
+    ensures parsed { first_of (codes "workload") (rows_of (found_of options.now)) ≡ Some name.now
+        → IfSome result (IsJudgingBy (rows_of (found_of options.now))) }
     ensures explained { IfSome result (λ judging. judging.explain ≡ explain) }
-    ensures taken { IsNone result → (judging : Judging)
-        → IsJudgingBy (rows_of (found_of options.now)) name.now judging → ⊥ }
+    ensures taken { first_of (codes "workload") (rows_of (found_of options.now)) ≡ Some name.now
+        → IsNone result → (judging : Judging)
+        → IsJudgingBy (rows_of (found_of options.now)) judging → ⊥ }
 {
     Some(Judging {
         checker: Checker::named(name)?,

@@ -198,7 +198,7 @@ impl<P: Eprint> Teller<'_, P> {
         };
         if self.is_heard() {
             let _ = eprintln!(self.rt;
-                "jeprun: {judged} operations are judged; {others} of clients have other functions"
+                "jeprun: operations: {judged} judged, {others} with other functions"
             );
         }
     }

@@ -3,16 +3,17 @@
 -- whose histories it judges.
 use Rattle.std.specs.Prelude.{ℕ, List, [], ◌∷◌, map, codes, if◌then◌else◌, Option, Some, None}
 use Rattle.std.specs.Str.{bytes_eq}
+use Rattle.jh_ops.specs.Requests.{workload_name}
 use Rattle.jh_ops.specs.declared.call.Workload.{Workload}
 use Rattle.jh_checkers.specs.declared.checker.Checker.{Checker}
 use Rattle.jh_checkers.specs.declared.checker.Checker.TheVariants.{Register, Set, Counter, Ids}
 use Rattle.jh_checkers.specs.declared.checker.Checker.TheVariants.{ListAppend}
 
 abbrev pub checker_name : Checker → List ℕ
-checker_name Register = codes "register"
-checker_name Set = codes "set"
-checker_name Counter = codes "counter"
-checker_name Ids = codes "unique-ids"
+checker_name Register = workload_name Workload.Register
+checker_name Set = workload_name Workload.Set
+checker_name Counter = workload_name Workload.Counter
+checker_name Ids = workload_name Workload.Ids
 checker_name ListAppend = codes "list-append"
 
 -- the names of all, in the order of help

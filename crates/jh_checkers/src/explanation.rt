@@ -3,13 +3,13 @@
 
 ghost use Rattle.std.specs.Prelude.{◌≡◌, ◌<◌, IfOk, length};
 ghost use Rattle.jh_ops.specs.Operation.{operations};
-ghost use Rattle.jh_linear.specs.Stuck.{op_end};
+ghost use Rattle.jh_linear.specs.Stuck as stuck;
 ghost use Rattle.jh_linear.specs.declared.verdict.LinVerdict.TheVariants.{Invalid};
 ghost use Rattle.jh_linear.specs.declared.verdict.Stuck.{Stuck};
 ghost use Rattle.jh_checkers.specs.Explanations as rule;
 ghost use Rattle.jh_checkers.specs.Explanations.{Explains, IsExplained};
 
-use jh_linear::{LinVerdict, Outcome, RegOp};
+use jh_linear::{LinVerdict, Outcome, RegOp, op_end};
 use jh_ops::Op;
 use std::alloc::{AllocError, Global};
 
@@ -24,19 +24,12 @@ pub struct Explanation {
     pub pending: Vec<usize>,
 }
 
-/// Where an operation ended; one with no such place ends after all others.
-fn end_of(call: RegOp) -> usize
-    ensures { result ≡ op_end call }
-{
-    call.ended.unwrap_or(usize::MAX)
-}
-
 /// Whether an operation is still open at a place of the history.
 fn is_open_at(place: usize, call: RegOp) -> bool
-    ensures { result ≡ rule.is_open_at place call.outcome (op_end call) }
+    ensures { result ≡ rule.is_open_at place call.outcome (stuck.op_end call) }
 {
     match call.outcome {
-        Outcome::Done => place <= end_of(call),
+        Outcome::Done => place <= op_end(call),
         Outcome::Failed => false,
         Outcome::Unsure => true,
     }

@@ -1,6 +1,6 @@
 -- Why `jeprun check` refuses an input (this project's own): what is no text of values, no history,
 -- or a history that the checker cannot judge. Each is looked at only where all before it is right.
-use Rattle.std.specs.Prelude.{◌≡◌, ◌≢◌, ℕ, Bool, true, false, List}
+use Rattle.std.specs.Prelude.{◌≡◌, ◌≢◌, ℕ, Bool, true, false, List, Some}
 use Rattle.jh_histories.specs.declared.error.ReadHistoryError.TheVariants as reading
 use Rattle.jh_ops.specs.Operation.{Operation}
 use Rattle.jh_check.specs.declared.error.CheckError.{CheckError}
@@ -11,7 +11,8 @@ use Rattle.jh_checkers.specs.declared.checker.Checker.{Checker}
 use Rattle.jh_checkers.specs.declared.finding.Judging.{Judging}
 use Rattle.jh_reports.specs.Judged.{RefusesLine}
 use Rattle.jh_cli.specs.HistoryInput.{IsHistoryInput, RefusesHistoryInput}
-use Rattle.jh_cli.specs.CheckText.{TakesInitial, TakesModel, IsCheckTextOf}
+use Rattle.jh_cli.specs.CheckText.{IsCheckTextOf}
+use Rattle.jh_cli.specs.JudgingOptions.{RefusesJudgingOptions}
 use Rattle.jh_cli.specs.Status.{check_error, keys_error, IsInputError, IsHistoryError}
 use Rattle.jh_cli.specs.declared.check_command.CheckQuestion.{CheckQuestion}
 use Rattle.jh_cli.specs.declared.error.CliError.{CliError}
@@ -45,10 +46,9 @@ RefusesJudging question history e =
 -- memory may come with any input; a failed write comes only where there is something to write.
 abbrev pub RefusesCheck : CheckQuestion → List ℕ → CliError → Type 0
 RefusesCheck question input OnlyForRegister =
-    TakesInitial question.judging.checker question.judging.initial → ⊥
+    RefusesJudgingOptions (Some question.judging) OnlyForRegister
 RefusesCheck question input OnlyForListAppend =
-    TakesInitial question.judging.checker question.judging.initial
-    × (TakesModel question.judging.checker question.judging.model → ⊥)
+    RefusesJudgingOptions (Some question.judging) OnlyForListAppend
 RefusesCheck question input (Input error) =
     IsInputError error × RefusesHistoryInput question.skips_unread input (reading.Text error)
 RefusesCheck question input (History error) =

@@ -5,6 +5,7 @@ pub mod EnvRefusals
 pub mod Enough
 pub mod Counts
 pub mod HistoryInput
+pub mod JudgingOptions
 pub mod CheckText
 pub mod CheckRefusals
 pub mod RunText

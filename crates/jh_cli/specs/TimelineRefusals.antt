@@ -13,7 +13,8 @@ use Rattle.jh_ops.specs.Operation.{Operation}
 use Rattle.jh_cli.specs.HistoryInput.{IsHistoryInput, RefusesHistoryInput}
 use Rattle.jh_cli.specs.CheckRefusals.{RefusesWhole}
 use Rattle.jh_cli.specs.Status.{IsInputError, IsHistoryError, keys_error}
-use Rattle.jh_cli.specs.TimelineText.{IsTimelineTextOf, TakesInitialBy, TakesModelBy}
+use Rattle.jh_cli.specs.JudgingOptions.{RefusesJudgingOptions}
+use Rattle.jh_cli.specs.TimelineText.{IsTimelineTextOf}
 use Rattle.jh_cli.specs.declared.error.CliError.{CliError}
 use Rattle.jh_cli.specs.declared.error.CliError.TheVariants.{Input, History, OnlyForRegister}
 use Rattle.jh_cli.specs.declared.error.CliError.TheVariants.{OnlyForListAppend, Read, Write}
@@ -51,9 +52,10 @@ RefusesPage question history e = RefusesShowing question.independent question.ju
 -- Why an input is refused, where for its text then as its parts are. A failed read and out of
 -- memory may come with any input; a failed write comes only where there is something to write.
 abbrev pub RefusesTimeline : TimelineQuestion → List Edn → List ℕ → CliError → Type 0
-RefusesTimeline question steps input OnlyForRegister = TakesInitialBy question.judging → ⊥
+RefusesTimeline question steps input OnlyForRegister =
+    RefusesJudgingOptions question.judging OnlyForRegister
 RefusesTimeline question steps input OnlyForListAppend =
-    TakesInitialBy question.judging × (TakesModelBy question.judging → ⊥)
+    RefusesJudgingOptions question.judging OnlyForListAppend
 RefusesTimeline question steps input (Input error) =
     IsInputError error × RefusesHistoryInput question.skips_unread input (reading.Text error)
 RefusesTimeline question steps input (History error) =

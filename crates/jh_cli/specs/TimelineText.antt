@@ -20,20 +20,9 @@ use Rattle.jh_timeline_sections.specs.SaidVerdicts.{said_verdict}
 use Rattle.jh_timeline_sections.specs.Sections.{IsSectionOf}
 use Rattle.jh_timeline_sections.specs.Titles.{history_title, keys_title}
 use Rattle.jh_timeline_sections.specs.declared.window.Choice.{Choice}
-use Rattle.jh_cli.specs.CheckText.{TakesInitial, TakesModel}
 use Rattle.jh_cli.specs.Notices.{notice_of}
 use Rattle.jh_reports.specs.Reports.{verdict_status}
 use Rattle.jh_cli.specs.declared.timeline_command.TimelineQuestion.{TimelineQuestion}
-
--- An initial value is for a register alone.
-abbrev pub TakesInitialBy : Option Judging → Type 0
-TakesInitialBy None = Unit {0}
-TakesInitialBy (Some judging) = TakesInitial judging.checker judging.initial
-
--- A consistency model is for transactions over lists alone.
-abbrev pub TakesModelBy : Option Judging → Type 0
-TakesModelBy None = Unit {0}
-TakesModelBy (Some judging) = TakesModel judging.checker judging.model
 
 -- What is found in a history, if it is judged. More than one may be right on a register and on
 -- transactions, as `check` has it.

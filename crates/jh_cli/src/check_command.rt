@@ -4,15 +4,16 @@
 //! why a history is refused in `specs/CheckRefusals.antt`; a new checker is a row of the table in
 //! `jh_checkers`, and a case of `is_judged` in `enough.rt`.
 
-ghost use Rattle.std.specs.Prelude.{◌≡◌, ◌≢◌, ◌↔◌, ◌≤◌, IfOk, IfErr, IsErrOf, IsTrue};
-ghost use Rattle.std.specs.Prelude.{MatchResult};
+ghost use Rattle.std.specs.Prelude.{◌≡◌, ◌≢◌, ◌↔◌, IfOk, IfErr, IsErrOf, IsTrue};
+ghost use Rattle.std.specs.Prelude.{MatchResult, Some};
 ghost use Rattle.jh_ops.specs.Operation.{operations};
 ghost use Rattle.jh_cli.specs.CheckRefusals.{RefusesByKeys, RefusesCheck, RefusesJudging};
 ghost use Rattle.jh_cli.specs.CheckRefusals.{RefusesWhole};
 ghost use Rattle.jh_cli.specs.CheckText.{IsCheckTextOf, IsCheckLine};
-ghost use Rattle.jh_cli.specs.CheckText.{TakesInitial, TakesModel};
+ghost use Rattle.jh_cli.specs.JudgingOptions.{RefusesJudgingOptions, TakesInitial, TakesModel};
 ghost use Rattle.jh_cli.specs.Outputs.{OnInput, WritesOutput};
 ghost use Rattle.jh_reports.specs.Judged.{IsKeysText, IsTextBy, IsWholeText};
+ghost use Rattle.jh_tasks.specs.Threads.{IsThreadCount};
 
 use crate::counts::{HistoryObserver, history_counts};
 use crate::enough::answer_where_enough;
@@ -69,15 +70,14 @@ pub fn check_run<T: Threads + Wait + Sync, R: Read, W: Write, O: HistoryObserver
     question: CheckQuestion,
     observer: &mut O,
 ) -> Result<u8, CliError>
-    requires { (1 ≤ question.threads) × (question.threads ≤ 16) }
+    requires { IsThreadCount question.threads }
     ensures written { IfOk result (λ status. WritesOutput (R.remaining reader.old)
         (IsCheckTextOf question) status (W.contents writer.old) (W.contents writer.new)) }
     ensures asked { IsErrOf result CliError.OnlyForRegister
-        ↔ (TakesInitial question.judging.checker question.judging.initial → ⊥) }
+        ↔ RefusesJudgingOptions (Some question.judging) CliError.OnlyForRegister }
     ensures unread { IsErrOf result CliError.OnlyForRegister → reader.new ≡ reader.old }
     ensures asked_model { IsErrOf result CliError.OnlyForListAppend
-        ↔ (TakesInitial question.judging.checker question.judging.initial
-        × (TakesModel question.judging.checker question.judging.model → ⊥)) }
+        ↔ RefusesJudgingOptions (Some question.judging) CliError.OnlyForListAppend }
     ensures unread_model { IsErrOf result CliError.OnlyForListAppend → reader.new ≡ reader.old }
     ensures refused { IfErr result (λ e. OnInput (R.remaining reader.old)
         (λ input. RefusesCheck question input e)) }
@@ -116,7 +116,7 @@ fn judge_history<T: Threads + Wait + Sync>(
     history: &[Op],
     question: CheckQuestion,
 ) -> Result<Output, CliError>
-    requires { (1 ≤ question.threads) × (question.threads ≤ 16) }
+    requires { IsThreadCount question.threads }
     ensures { MatchResult result
         (λ output. IsCheckLine question (operations history.now)
         output.status output.text.items)
@@ -133,7 +133,7 @@ fn judge_by<T: Threads + Wait + Sync>(
     history: &[Op],
     question: CheckQuestion,
 ) -> Result<Output, CliError>
-    requires { (1 ≤ question.threads) × (question.threads ≤ 16) }
+    requires { IsThreadCount question.threads }
     ensures { MatchResult result
         (λ output. IsTextBy question.independent question.judging (operations history.now)
         output.status output.text.items)
@@ -163,7 +163,7 @@ fn judge_keys_on_threads<T: Threads + Wait + Sync>(
     judging: Judging,
     threads: u32,
 ) -> Result<Output, CliError>
-    requires { (1 ≤ threads) × (threads ≤ 16) }
+    requires { IsThreadCount threads }
     ensures { MatchResult result
         (λ output. IsKeysText judging (operations history.now) output.status output.text.items)
         (RefusesByKeys judging threads (operations history.now)) }

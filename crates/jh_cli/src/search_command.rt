@@ -7,6 +7,7 @@ ghost use Rattle.std.specs.Prelude.{◌≡◌, ◌≢◌, ◌↔◌, ◌≤◌, 
 ghost use Rattle.std.specs.Prelude.{IsErrOf, MatchResult, None, Some, string_bytes};
 ghost use Rattle.jh_settings_texts.specs.Comments.{IsComment};
 ghost use Rattle.jh_settings_texts.specs.SettingsWritten.{CanBeWritten};
+ghost use Rattle.jh_tasks.specs.Threads.{IsThreadCount};
 ghost use Rattle.jh_cli.specs.Outputs.{OnInput, WritesOutput};
 ghost use Rattle.jh_cli.specs.SearchRefusals.{RefusesSearch, RefusesSearchBytes};
 ghost use Rattle.jh_cli.specs.SearchText as text;
@@ -90,7 +91,7 @@ pub fn search_run<T: Threads + Wait + Sync, R: Read, W: Write, O: SearchObserver
     observer: &mut O,
 ) -> Result<u8, CliError>
     requires few { question.from + question.runs < 2 ^ 64 }
-    requires threads { IfSome question.threads (λ threads. (1 ≤ threads) × (threads ≤ 16)) }
+    requires threads { IfSome question.threads (λ threads. IsThreadCount threads) }
     ensures written { IfOk result (λ status. WritesOutput (R.remaining reader.old)
         (IsSearchTextOf question) status (W.contents writer.old) (W.contents writer.new)) }
     ensures asked { IsErrOf result CliError.BadPalette ↔ (question.palette ≡ None) }
@@ -109,9 +110,9 @@ pub fn search_run<T: Threads + Wait + Sync, R: Read, W: Write, O: SearchObserver
 
 /// How many threads: as many as are given, or as there are processors, at most 16.
 fn threads_wanted<T: Threads>(rt: &T, given: Option<u32>) -> u32
-    requires { IfSome given (λ threads. (1 ≤ threads) × (threads ≤ 16)) }
+    requires { IfSome given (λ threads. IsThreadCount threads) }
     ensures given { IfSome given (λ threads. result ≡ threads) }
-    ensures within { (1 ≤ result) × (result ≤ 16) }
+    ensures within { IsThreadCount result }
 {
     match given {
         Some(threads) => threads,
@@ -121,7 +122,7 @@ fn threads_wanted<T: Threads>(rt: &T, given: Option<u32>) -> u32
 
 /// How many processors there are, at most 16, and one where that can't be known.
 fn processors<T: Threads>(rt: &T) -> u32
-    ensures { (1 ≤ result) × (result ≤ 16) }
+    ensures { IsThreadCount result }
 {
     match thread::available_parallelism(rt) {
         Ok(count) => count.get().min(16) as u32,
@@ -153,7 +154,7 @@ fn search_bytes<T: Threads + Wait + Sync, O: SearchObserver>(
 ) -> Result<Output, CliError>
     requires palette { question.palette ≡ Some palette }
     requires few { question.from + question.runs < 2 ^ 64 }
-    requires threads { IfSome question.threads (λ threads. (1 ≤ threads) × (threads ≤ 16)) }
+    requires threads { IfSome question.threads (λ threads. IsThreadCount threads) }
     ensures { MatchResult result
         (λ output. IsSearchTextOf question input.now output.status output.text.items)
         (RefusesSearchBytes question input.now) }
@@ -184,7 +185,7 @@ fn search_or_show<T: Threads + Wait + Sync, O: SearchObserver>(
     requires writable { CanBeWritten plan.now }
     requires budget { options.now.budget ≤ 10000000 }
     requires few { options.now.from + options.now.runs < 2 ^ 64 }
-    requires threads { (1 ≤ threads) × (threads ≤ 16) }
+    requires threads { IsThreadCount threads }
     ensures written { IfOk result
         (λ output. IsAnswerText show plan.now options.now output.status output.text.items) }
     ensures wanted { IsErrOf result SearchError.Thread → (show ≡ None) × (threads ≢ 1) }
@@ -239,7 +240,7 @@ fn search_plan<T: Threads + Wait + Sync, O: SearchObserver>(
     requires writable { CanBeWritten plan.now }
     requires budget { options.now.budget ≤ 10000000 }
     requires few { options.now.from + options.now.runs < 2 ^ 64 }
-    requires threads { (1 ≤ threads) × (threads ≤ 16) }
+    requires threads { IsThreadCount threads }
     ensures written { IfOk result
         (λ output. IsSearchedText plan.now options.now output.status output.text.items) }
     ensures wanted { IsErrOf result SearchError.Thread → threads ≢ 1 }

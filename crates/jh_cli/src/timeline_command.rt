@@ -15,7 +15,7 @@ ghost use Rattle.jh_cli.specs.TimelineRefusals.{RefusesTimeline};
 ghost use Rattle.jh_cli.specs.TimelineText as text;
 ghost use Rattle.jh_cli.specs.TimelineText.{IsFoundBy, IsPage, IsTimelineTextOf, Shows};
 ghost use Rattle.jh_cli.specs.TimelineText.{ShowsKeys, ShowsWhole};
-ghost use Rattle.jh_cli.specs.TimelineText.{TakesInitialBy, TakesModelBy};
+ghost use Rattle.jh_cli.specs.JudgingOptions.{RefusesJudgingOptions, TakesInitialBy, TakesModelBy};
 
 use crate::check_command::{takes_initial, takes_model};
 use crate::error::CliError;
@@ -91,10 +91,10 @@ pub fn timeline_run<R: Read, W: Write>(
     ensures written { IfOk result (λ status. WritesOutput (R.remaining reader.old)
         (IsTimelineTextOf question (views steps.now)) status (W.contents writer.old) (W.contents writer.new)) }
     ensures asked { IsErrOf result CliError.OnlyForRegister
-        ↔ (TakesInitialBy question.judging → ⊥) }
+        ↔ RefusesJudgingOptions question.judging CliError.OnlyForRegister }
     ensures unread { IsErrOf result CliError.OnlyForRegister → reader.new ≡ reader.old }
     ensures asked_model { IsErrOf result CliError.OnlyForListAppend
-        ↔ (TakesInitialBy question.judging × (TakesModelBy question.judging → ⊥)) }
+        ↔ RefusesJudgingOptions question.judging CliError.OnlyForListAppend }
     ensures unread_model { IsErrOf result CliError.OnlyForListAppend → reader.new ≡ reader.old }
     ensures refused { IfErr result (λ e. OnInput (R.remaining reader.old)
         (λ input. RefusesTimeline question (views steps.now) input e)) }

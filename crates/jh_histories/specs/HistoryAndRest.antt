@@ -17,11 +17,11 @@ use Rattle.jh_ops.specs.declared.history.HistoryError.TheVariants.{OutOfMemory}
 abbrev pub HasAt : List ℕ → List ℕ → ℕ → Type 0
 HasAt bytes text at = (behind : List ℕ) × (drop at text ≡ bytes ++ behind)
 
--- what the first line behind a history begins with
+-- what the first line behind a history begins with, which jh_reports writes as `active_line`
 abbrev pub active : List ℕ
 active = codes ":active"
 
--- the line behind a conversation
+-- the line behind a conversation, which jh_conversation writes as `end_line`
 abbrev pub conversation_end : List ℕ
 conversation_end = codes ":end\n"
 

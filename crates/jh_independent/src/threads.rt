@@ -1,9 +1,10 @@
 //! The keys of a history judged on several threads. What is found is what `check_keys_serial` may
 //! find: `specs/Refusals.antt` has the rule of both.
 
-ghost use Rattle.std.specs.Prelude.{◌≡◌, ◌≤◌, ℕ, false, is_err, IfOk, IsErrOf, MatchResult};
+ghost use Rattle.std.specs.Prelude.{◌≡◌, ℕ, false, is_err, IfOk, IsErrOf, MatchResult};
 ghost use Rattle.jh_ops.specs.Operation.{operations};
 ghost use Rattle.jh_tasks.specs.Answers.{AreDone};
+ghost use Rattle.jh_tasks.specs.Threads.{IsThreadCount};
 ghost use Rattle.jh_independent.specs.AnswersInside.{AreAnswers, AreKeysAsked, IsAnswerThrough, keys_count};
 ghost use Rattle.jh_independent.specs.AnswersInside.{RefusesSome};
 ghost use Rattle.jh_independent.specs.Keys.{AreTuples};
@@ -109,7 +110,7 @@ fn answers_of<Q: Asking + Send + Sync, G: Gate + Sync, R: Threads + Wait + Sync>
     keys: &Keys<'_, Q, G>,
     threads: u32,
 ) -> Result<TaskAnswers<Answer>, AllocError>
-    requires { (1 ≤ threads) × (threads ≤ 16) }
+    requires { IsThreadCount threads }
     ensures right { IfOk result (λ answers. AreAnswers Q.asked G.may_refuse answers.of_each.items) }
     ensures done { IfOk result
         (λ answers. answers.lost_thread ≡ false → AreDone is_err answers.of_each.items) }
@@ -161,7 +162,7 @@ fn judged<Q: Asking + Send + Sync, G: Gate + Sync, R: Threads + Wait + Sync>(
     requires asks { keys_question judging (operations history.now) ≡ Q.asked }
     requires tuples { AreTuples (operations history.now) }
     requires groups { view_groups groups.items ≡ groups_of (operations history.now) }
-    requires threads { (1 ≤ threads) × (threads ≤ 16) }
+    requires threads { IsThreadCount threads }
     ensures found { MatchResult result
         (λ found. AreFindings (keys_question judging (operations history.now)) found.items)
         (RefusesKeys (keys_question judging (operations history.now))) }
@@ -201,7 +202,7 @@ pub fn check_keys_at<G: Gate + Sync, R: Threads + Wait + Sync>(
     threads: u32,
     gate: &G,
 ) -> Result<Vec<KeyFinding>, KeysError>
-    requires { (1 ≤ threads) × (threads ≤ 16) }
+    requires { IsThreadCount threads }
     ensures found { MatchResult result
         (λ found. AreFindings (keys_question judging (operations history.now)) found.items)
         (RefusesKeys (keys_question judging (operations history.now))) }
@@ -223,7 +224,7 @@ pub fn check_keys<R: Threads + Wait + Sync>(
     judging: Judging,
     threads: u32,
 ) -> Result<Vec<KeyFinding>, KeysError>
-    requires { (1 ≤ threads) × (threads ≤ 16) }
+    requires { IsThreadCount threads }
     ensures found { MatchResult result
         (λ found. AreFindings (keys_question judging (operations history.now)) found.items)
         (RefusesKeys (keys_question judging (operations history.now))) }

@@ -4,7 +4,7 @@ use jh_check::{Verdict, check_set};
 use jh_checkers::{Checker, Judging};
 use jh_histories::history_in;
 use jh_independent::{check_keys_serial, verdict_of_all};
-use jh_linear::{LinVerdict, Outcome, RegCall, RegOp, check, reg_op, reg_ops};
+use jh_linear::{LinVerdict, Outcome, RegCall, RegOp, check, op_end, reg_op, reg_ops};
 use jh_ops::{Op, Pair, pair};
 use std::alloc::Global;
 
@@ -102,6 +102,7 @@ fn a_pair_stands_for_an_operation(rt: HostRuntime) {
         call: RegCall::Read(Some(5)),
     };
     assert_eq!(rt; read().or_else(read), Some(Some(wanted)));
+    assert_eq!(rt; op_end(wanted), 2);
     let beyond = || operation_of(
         alloc,
         Pair {

@@ -8,7 +8,7 @@ use Rattle.jh_linear.specs.declared.register.RegOp.{RegOp}
 use Rattle.jh_linear.specs.declared.history.Class.{Class}
 use Rattle.jh_linear.specs.declared.history.Stage.{Stage}
 use Rattle.jh_linear.specs.Order.{op_at, has, IsDone, Precedes, EndsBefore}
-use Rattle.jh_linear.specs.SearchInside.{AreClasses, ArePlaceEntries, AreClassesUpTo, AreStages, AreTwins, DoNotFall, GoTogether, IsHistory, IsOfClass, IsUnsureChange, arrival_entry, class_at, end_at, end_entry, invocation_at, no_call, no_class, no_entry, stage_at, unknown_place, unknown_entry}
+use Rattle.jh_linear.specs.SearchInside.{AreClasses, ArePlaceEntries, AreClassesUpTo, AreStages, AreTwins, DoNotFall, AreTwinEntries, IsHistory, IsOfClass, IsUnsureChange, arrival_entry, class_at, end_at, end_entry, invocation_at, no_call, no_class, no_entry, stage_at, unknown_place, unknown_entry}
 use Rattle.jh_linear.proofs.PlaceSetLemmas.{has_here, place_of}
 use Rattle.jh_linear.proofs.StageLemmas.{done_there, end_before, possible_there, unknown_possible}
 
@@ -137,20 +137,20 @@ are_classes ops entries classes e runs =
 
 -- one more entry belongs to the class that is not closed yet
 abbrev pub AreTogether : List (RegCall × ℕ × ℕ) → ℕ → ℕ → Type 0
-AreTogether entries from upto = (i j : ℕ) → from ≤ i → i ≤ j → j < upto → GoTogether (get_or entries i no_call) (get_or entries j no_call)
+AreTogether entries from upto = (i j : ℕ) → from ≤ i → i ≤ j → j < upto → AreTwinEntries (get_or entries i no_call) (get_or entries j no_call)
 
 pub together_one : (entries : List (RegCall × ℕ × ℕ)) (from : ℕ) → AreTogether entries from (from + 1)
-together_one entries from i j low le lt = let is : i ≡ j = omega (arith, low, le, lt) in subst (λ k. GoTogether (get_or entries i no_call) (get_or entries k no_call)) is (refl, omega arith)
+together_one entries from i j low le lt = let is : i ≡ j = omega (arith, low, le, lt) in subst (λ k. AreTwinEntries (get_or entries i no_call) (get_or entries k no_call)) is (refl, omega arith)
 
-pub together_more : (entries : List (RegCall × ℕ × ℕ)) (from upto : ℕ) → from < upto → AreTogether entries from upto → GoTogether (get_or entries (upto - 1) no_call) (get_or entries upto no_call) → AreTogether entries from (upto + 1)
-together_more entries from upto some before next i j low le lt = elim (cases_lt j upto) as (λ _. GoTogether (get_or entries i no_call) (get_or entries j no_call)) [
+pub together_more : (entries : List (RegCall × ℕ × ℕ)) (from upto : ℕ) → from < upto → AreTogether entries from upto → AreTwinEntries (get_or entries (upto - 1) no_call) (get_or entries upto no_call) → AreTogether entries from (upto + 1)
+together_more entries from upto some before next i j low le lt = elim (cases_lt j upto) as (λ _. AreTwinEntries (get_or entries i no_call) (get_or entries j no_call)) [
   | inl old ↦ before i j low le old
   | inr new ↦
       let at : upto ≡ j = omega (arith, lt, new) in
-      subst (λ k. GoTogether (get_or entries i no_call) (get_or entries k no_call)) at
-      (elim (cases_lt i upto) as (λ _. GoTogether (get_or entries i no_call) (get_or entries upto no_call)) [
+      subst (λ k. AreTwinEntries (get_or entries i no_call) (get_or entries k no_call)) at
+      (elim (cases_lt i upto) as (λ _. AreTwinEntries (get_or entries i no_call) (get_or entries upto no_call)) [
         | inl inside ↦ let first = before i (upto - 1) low (omega (arith, inside)) (omega (arith, some)) in (first.0 ∙ next.0, omega (arith, first.1, next.1))
-        | inr end ↦ let is : upto ≡ i = omega (arith, le, end, at) in subst (λ k. GoTogether (get_or entries k no_call) (get_or entries upto no_call)) is (refl, omega arith)
+        | inr end ↦ let is : upto ≡ i = omega (arith, le, end, at) in subst (λ k. AreTwinEntries (get_or entries k no_call) (get_or entries upto no_call)) is (refl, omega arith)
       ])
 ]
 
@@ -182,7 +182,7 @@ runs_push entries classes from upto some runs together =
             let b = new l (omega (arith, lt, high, size)) in
             omega (arith, ap (λ (c : Class). c.upto) a, ap (λ (c : Class). c.from) b, (runs.bounded k inside).1)
       ];
-      together = λ k i j lt in' jn le. elim (cases_lt k (length classes)) as (λ _. GoTogether (get_or entries i no_call) (get_or entries j no_call)) [
+      together = λ k i j lt in' jn le. elim (cases_lt k (length classes)) as (λ _. AreTwinEntries (get_or entries i no_call) (get_or entries j no_call)) [
         | inl low ↦ runs.together k i j low (subst (λ (c : Class). (c.from ≤ i) × (i < c.upto)) (old k low) in') (subst (λ (c : Class). (c.from ≤ j) × (j < c.upto)) (old k low) jn) le
         | inr high ↦
             let is = new k (omega (arith, lt, high, size)) in

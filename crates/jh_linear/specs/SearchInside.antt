@@ -10,6 +10,7 @@ use Rattle.jh_linear.specs.declared.register.Outcome.TheVariants.{Done, Failed, 
 use Rattle.jh_linear.specs.declared.register.RegCall.{RegCall}
 use Rattle.jh_linear.specs.declared.register.RegCall.TheVariants.{Read, Write, Cas}
 use Rattle.jh_linear.specs.declared.register.RegOp.{RegOp}
+use Rattle.jh_linear.specs.Stuck.{op_end}
 use Rattle.jh_linear.specs.declared.history.Stage.{Stage}
 use Rattle.jh_linear.specs.declared.history.Class.{Class}
 use Rattle.jh_linear.specs.declared.history.Problem.{Problem}
@@ -89,7 +90,7 @@ invocation_at ops place = (op_at ops place).invoked
 
 -- where an operation ended; one with no such place ends after all others
 abbrev pub end_at : List RegOp → ℕ → ℕ
-end_at ops place = unwrap_or (op_at ops place).ended (2 ^ 64 - 1)
+end_at ops place = op_end (op_at ops place)
 
 -- what stands past the end of a list of stages
 abbrev pub no_stage : Stage
@@ -125,11 +126,17 @@ pub record IsHistory (ops : List RegOp) (arrivals : List ℕ) (stages : List Sta
       → (Precedes ops (stage_at stages k).place place → ⊥)
       → has (arrivals_by arrivals stages k) place ≡ true
 
--- Two operations have the same call, and the first is not invoked after the second.
+-- an operation of unknown outcome as an entry, sorted by its call and then by its invocation
+abbrev pub unknown_entry : List RegOp → ℕ → RegCall × ℕ × ℕ
+unknown_entry ops place = ((op_at ops place).call, invocation_at ops place, place)
+
+-- Two entries have the same call, and the first is not invoked after the second.
+abbrev pub AreTwinEntries : RegCall × ℕ × ℕ → RegCall × ℕ × ℕ → Type 0
+AreTwinEntries first second = (first.0 ≡ second.0) × (first.1 ≤ second.1)
+
+-- that of two operations
 abbrev pub AreTwins : List RegOp → ℕ → ℕ → Type 0
-AreTwins ops first second =
-    ((op_at ops first).call ≡ (op_at ops second).call)
-    × (invocation_at ops first ≤ invocation_at ops second)
+AreTwins ops first second = AreTwinEntries (unknown_entry ops first) (unknown_entry ops second)
 
 -- what stands past the end of a list of classes
 abbrev pub no_class : Class
@@ -656,16 +663,12 @@ pub record ArePlaceEntries {X : Type 0} (Kept : ℕ → Type 0) (entry : ℕ →
   pub all : (p : ℕ) → p < bound → Kept p → Contains entries (entry p)
   pub distinct : IsDistinct ◌==◌ (map place entries)
 
--- the place of an operation behind that of its invocation, behind that of its end, or behind its
--- call and the place of its invocation
+-- the place of an operation behind that of its invocation, or behind that of its end
 abbrev pub arrival_entry : List RegOp → ℕ → ℕ × ℕ
 arrival_entry ops place = (invocation_at ops place, place)
 
 abbrev pub end_entry : List RegOp → ℕ → ℕ × ℕ
 end_entry ops place = (end_at ops place, place)
-
-abbrev pub unknown_entry : List RegOp → ℕ → RegCall × ℕ × ℕ
-unknown_entry ops place = ((op_at ops place).call, invocation_at ops place, place)
 
 -- The first numbers of the pairs do not fall.
 abbrev pub DoNotFall : List (ℕ × ℕ) → Type 0
@@ -690,10 +693,6 @@ pub record AreStages (invocations ends : List (ℕ × ℕ)) (stages : List Stage
       < (slice_index_or invocations (stage_at stages k).arrived no_entry).0)
       × ((slice_index_or ends k no_entry).0 < 2 ^ 64 - 1)
 
--- Two entries have the same call, and the first is not invoked after the second.
-abbrev pub GoTogether : RegCall × ℕ × ℕ → RegCall × ℕ × ℕ → Type 0
-GoTogether first second = (first.0 ≡ second.0) × (first.1 ≤ second.1)
-
 -- what stands past the end of a list of entries with calls
 abbrev pub no_call : RegCall × ℕ × ℕ
 no_call = (Read None, 0, 0)
@@ -709,4 +708,4 @@ pub record AreClassesUpTo (entries : List (RegCall × ℕ × ℕ)) (classes : Li
       → (class_at classes k).upto ≤ (class_at classes l).from
   pub together : (k i j : ℕ) → k < length classes → IsOfClass classes k i → IsOfClass classes k j
       → i ≤ j
-      → GoTogether (slice_index_or entries i no_call) (slice_index_or entries j no_call)
+      → AreTwinEntries (slice_index_or entries i no_call) (slice_index_or entries j no_call)

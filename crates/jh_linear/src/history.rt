@@ -7,14 +7,13 @@ ghost use Rattle.std.specs.Prelude.{◌≡◌, ℕ, ◌<◌, ◌≤◌, ◌-◌,
 ghost use Rattle.std.specs.Prelude.{true};
 ghost use Rattle.jh_linear.specs.SearchInside.{IsHistory, AreClasses, ArePlaceEntries, DoNotFall};
 ghost use Rattle.jh_linear.specs.SearchInside.{AreStages, AreClassesUpTo, IsUnsureChange};
-ghost use Rattle.jh_linear.specs.SearchInside.{GoTogether, arrival_entry, end_entry, unknown_entry};
+ghost use Rattle.jh_linear.specs.SearchInside.{AreTwinEntries, arrival_entry, end_entry, unknown_entry};
 ghost use Rattle.jh_linear.specs.SearchInside.{no_entry};
 ghost use Rattle.jh_linear.specs.SearchInside.{no_call};
 ghost use Rattle.jh_linear.specs.Order.{IsDone};
-ghost use Rattle.jh_linear.specs.CheckingInside.{is_outcome_done};
 ghost use Rattle.std.specs.Prelude.{false};
 
-use crate::register::{Outcome, RegCall, RegOp, is_same, is_unknown};
+use crate::register::{RegCall, RegOp, is_done, is_same, is_unknown, op_end};
 use std::alloc::{AllocError, Global};
 
 /// A stage of the search. There is one for each operation that is known to have happened, in the
@@ -60,16 +59,6 @@ pub(crate) struct Problem<'a> {
     pub(crate) budget: u64,
 }
 
-/// Whether an operation is known to have happened.
-fn is_done(op: RegOp) -> bool
-    ensures { result ≡ is_outcome_done op.outcome }
-{
-    match op.outcome {
-        Outcome::Done => true,
-        _ => false,
-    }
-}
-
 /// The places of the operations that are known to have happened, each behind the place of its
 /// invocation, and sorted by that.
 fn arrivals_of(alloc: Global, ops: &[RegOp]) -> Result<Vec<(usize, usize)>, AllocError>
@@ -99,7 +88,7 @@ fn ends_of(alloc: Global, ops: &[RegOp]) -> Result<Vec<(usize, usize)>, AllocErr
     let mut ends = Vec::new(alloc);
     for (place, op) in ops.iter().enumerate() {
         if is_done(*op) {
-            ends.push((op.ended.unwrap_or(usize::MAX), place))?;
+            ends.push((op_end(*op), place))?;
         }
     }
     ends.sort()?;
@@ -125,8 +114,8 @@ fn unknown_of(alloc: Global, ops: &[RegOp]) -> Result<Vec<(RegCall, usize, usize
 }
 
 /// Whether the second of two neighbouring entries belongs to the class of the first.
-fn go_together(first: (RegCall, usize, usize), second: (RegCall, usize, usize)) -> bool
-    ensures { result ≡ true → GoTogether first second }
+fn are_twins(first: (RegCall, usize, usize), second: (RegCall, usize, usize)) -> bool
+    ensures { result ≡ true → AreTwinEntries first second }
 {
     is_same(first.0, second.0) && first.1 <= second.1
 }
@@ -135,10 +124,10 @@ fn go_together(first: (RegCall, usize, usize), second: (RegCall, usize, usize)) 
 fn ends_at(entries: &[(RegCall, usize, usize)], index: usize) -> bool
     requires { 0 < index }
     ensures { result ≡ false → (index < length entries.now)
-        × GoTogether (slice_index_or entries.now (index - 1) no_call)
+        × AreTwinEntries (slice_index_or entries.now (index - 1) no_call)
         (slice_index_or entries.now index no_call) }
 {
-    index >= entries.len() || !go_together(entries[index - 1], entries[index])
+    index >= entries.len() || !are_twins(entries[index - 1], entries[index])
 }
 
 /// The classes of sorted entries.

@@ -31,5 +31,5 @@ mod wanted;
 pub use judge::check;
 pub use operations::{RegOpsError, reg_op, reg_ops};
 pub use order_check::{OrderFault, check_order};
-pub use register::{Outcome, RegCall, RegOp};
+pub use register::{Outcome, RegCall, RegOp, op_end};
 pub use verdict::{LinVerdict, Linearization, Reached, Step, Stuck};

@@ -13,7 +13,7 @@ ghost use Rattle.jh_linear.specs.Order as rule;
 ghost use Rattle.jh_linear.specs.Verdict.{RefusesOrder};
 ghost use Rattle.jh_linear.specs.declared.register.Outcome.TheVariants.{Done};
 
-use crate::register::{Outcome, RegCall, RegOp, after};
+use crate::register::{Outcome, RegCall, RegOp, after, is_done};
 use thiserror::Error;
 
 /// Why a list of places is no order. The first of these that applies is given.
@@ -116,13 +116,10 @@ fn are_possible(ops: &[RegOp], order: &[usize]) -> bool
 }
 
 /// Whether the operation at a place is known to have happened.
-fn is_done(ops: &[RegOp], place: usize) -> bool
+fn is_done_at(ops: &[RegOp], place: usize) -> bool
     ensures { result ≡ is_op_done ops.now place }
 {
-    match op_at(ops, place).outcome {
-        Outcome::Done => true,
-        _ => false,
-    }
+    is_done(op_at(ops, place))
 }
 
 /// How many of the places are those of operations that are known to have happened.
@@ -131,7 +128,7 @@ fn count_done(ops: &[RegOp], order: &[usize]) -> usize
 {
     let mut count = 0;
     for place in order {
-        if is_done(ops, *place) {
+        if is_done_at(ops, *place) {
             count += 1;
         }
     }
@@ -144,7 +141,7 @@ fn count_all_done(ops: &[RegOp]) -> usize
 {
     let mut count = 0;
     for place in 0..ops.len() {
-        if is_done(ops, place) {
+        if is_done_at(ops, place) {
             count += 1;
         }
     }

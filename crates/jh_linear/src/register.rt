@@ -5,9 +5,11 @@
 //! places at once (`IsSettled`).
 
 ghost use Rattle.std.specs.Prelude.{◌≡◌, ℤ, Option, Some, IfSome, IsTrue, ◌↔◌, true};
+ghost use Rattle.jh_linear.specs.CheckingInside.{is_outcome_done};
 ghost use Rattle.jh_linear.specs.Order.{Allows};
 ghost use Rattle.jh_linear.specs.SearchInside as rule;
 ghost use Rattle.jh_linear.specs.SearchInside.{IsSettled, Needs};
+ghost use Rattle.jh_linear.specs.Stuck as stuck;
 ghost use Rattle.std.specs.Prelude.{false, None};
 ghost use Rattle.jh_linear.specs.declared.register.Outcome.TheVariants.{Done};
 ghost use Rattle.jh_linear.specs.declared.register.RegCall.TheVariants.{Read};
@@ -36,14 +38,32 @@ pub enum RegCall {
     Cas(i64, i64),
 }
 
-/// One operation: an invocation with its outcome, and the places in the history where it was
-/// invoked and where it ended.
+/// One operation: an invocation with its outcome.
 #[derive(Clone, Copy, Debug, PartialEq, Eq)]
 pub struct RegOp {
+    /// The place of its invocation in the history, `invoke` of a pair of `jh_ops`.
     pub invoked: usize,
+    /// The place of its completion there, where it has one: `outcome` of a pair of `jh_ops`.
     pub ended: Option<usize>,
     pub outcome: Outcome,
     pub call: RegCall,
+}
+
+/// The place where an operation ended. One that has none ends behind all others.
+pub fn op_end(op: RegOp) -> usize
+    ensures { result ≡ stuck.op_end op }
+{
+    op.ended.unwrap_or(usize::MAX)
+}
+
+/// Whether an operation is known to have happened.
+pub(crate) fn is_done(op: RegOp) -> bool
+    ensures { result ≡ is_outcome_done op.outcome }
+{
+    match op.outcome {
+        Outcome::Done => true,
+        _ => false,
+    }
 }
 
 /// The value of the register after a call, or nothing where its value before does not allow the

@@ -12,7 +12,7 @@ ghost use Rattle.jh_linear.specs.StuckInside.{IsKnownUntil};
 
 use crate::history::Problem;
 use crate::order_check::op_at;
-use crate::register::{Outcome, RegOp, after};
+use crate::register::{Outcome, RegOp, after, op_end};
 use crate::search::Search;
 use crate::verdict::{Linearization, Step, Stuck};
 use std::alloc::{AllocError, Global};
@@ -45,19 +45,12 @@ fn push_reversed(order: &mut Vec<usize>, placed: &[usize]) -> Result<(), AllocEr
     Ok(())
 }
 
-/// The place where an operation ended. One with no such place ends after all others.
-fn end_of(op: RegOp) -> usize
-    ensures { result ≡ rule.op_end op }
-{
-    op.ended.unwrap_or(usize::MAX)
-}
-
 /// Whether an operation is known to have happened by a history that is cut right before a place.
 fn is_known(op: RegOp, cut: usize) -> bool
     ensures { result ≡ inside.is_known op cut }
 {
     match op.outcome {
-        Outcome::Done => end_of(op) < cut,
+        Outcome::Done => op_end(op) < cut,
         _ => false,
     }
 }
@@ -102,7 +95,7 @@ pub(crate) fn stuck_of(
     let furthest = &search.furthest;
     let mut order = order_of(alloc, search.steps.as_slice(), furthest.step.parent)?;
     order.extend_from_slice(furthest.step.placed.as_slice())?;
-    let end = end_of(op_at(problem.ops, problem.history.stages[furthest.stage].place));
+    let end = op_end(op_at(problem.ops, problem.history.stages[furthest.stage].place));
     order.truncate(known_until(problem.ops, order.as_slice(), end));
     let value = value_after(problem.ops, problem.initial, order.as_slice());
     Ok(Stuck {

@@ -69,6 +69,18 @@ impl Workload {
         }
     }
 
+    /// Its name, as `named` takes it.
+    pub fn name(self) -> &'static str
+        ensures { result.now ≡ workload_name self }
+    {
+        match self {
+            Workload::Register => "register",
+            Workload::Counter => "counter",
+            Workload::Set => "set",
+            Workload::Ids => "unique-ids",
+        }
+    }
+
     /// How many calls a run may make: 10,000, and 1,000 for a set, of which each read gives all
     /// elements.
     pub fn max_calls(self) -> u32

@@ -3,6 +3,7 @@
 
 ghost use Rattle.std.specs.Prelude.{◌≡◌, ◌<◌, ◌≤◌, ◌+◌, ◌^◌, ℕ, false, IfOk, IsErrOf, length};
 ghost use Rattle.jh_tasks.specs.Answers.{AreDone, AreTaskAnswers};
+ghost use Rattle.jh_tasks.specs.Threads.{IsThreadCount};
 ghost use Rattle.jh_search.specs.Search.{ComesOf, IsSearched};
 ghost use Rattle.jh_search.specs.SearchInside.{AreTries, HasTried, LeadsToNext, ends_search};
 ghost use Rattle.jh_check.specs.declared.verdict.Verdict.{Verdict};
@@ -128,7 +129,7 @@ fn tried<Q: Tries + Send + Sync, R: Threads + Wait + Sync>(
 ) -> Result<TaskAnswers<Answer>, AllocError>
     requires tries { AreTries plan.now options.now from Q.count Q.comes }
     requires count { count ≡ Q.count }
-    requires threads { (1 ≤ threads) × (threads ≤ 16) }
+    requires threads { IsThreadCount threads }
     ensures right { IfOk result
         (λ answers. AreTaskAnswers Q.count
         (λ index answer. IfOk answer (Q.comes index)) answers.of_each.items) }
@@ -157,7 +158,7 @@ fn block<R: Threads + Wait + Sync>(
     threads: u32,
 ) -> Result<TaskAnswers<Answer>, AllocError>
     requires few { from + count < 2 ^ 64 }
-    requires threads { (1 ≤ threads) × (threads ≤ 16) }
+    requires threads { IsThreadCount threads }
     ensures right { IfOk result (λ answers. AreTaskAnswers count
         (λ index answer. IfOk answer (ComesOf plan.now options.now (from + index)))
         answers.of_each.items) }
@@ -243,7 +244,7 @@ pub fn search<R: Threads + Wait + Sync>(
     threads: u32,
 ) -> Result<Searched, SearchError>
     requires range { options.now.from + options.now.runs < 2 ^ 64 }
-    requires threads { (1 ≤ threads) × (threads ≤ 16) }
+    requires threads { IsThreadCount threads }
     ensures found { IfOk result (IsSearched plan.now options.now) }
     ensures alone { threads ≡ 1 → IsErrOf result SearchError.Thread → ⊥ }
 {
@@ -262,7 +263,7 @@ pub fn search_observed<R: Threads + Wait + Sync, O: SearchObserver>(
     observer: &mut O,
 ) -> Result<Searched, SearchError>
     requires range { options.now.from + options.now.runs < 2 ^ 64 }
-    requires threads { (1 ≤ threads) × (threads ≤ 16) }
+    requires threads { IsThreadCount threads }
     ensures found { IfOk result (IsSearched plan.now options.now) }
     ensures alone { threads ≡ 1 → IsErrOf result SearchError.Thread → ⊥ }
 {

@@ -9,7 +9,6 @@ ghost use Rattle.jh_edn.specs.Spelling.{depth_limit};
 ghost use Rattle.jh_env.specs.Names.{AreNodeNames};
 ghost use Rattle.jh_env.specs.TextLaws.{CanStart};
 ghost use Rattle.jh_nemesis.specs.Steps.{FitsNodes};
-ghost use Rattle.jh_ops.specs.Requests as ops;
 ghost use Rattle.jh_gen.specs.GeneratorText.{parsed_generator};
 ghost use Rattle.jh_gen_texts.specs.GeneratorWritten.{text_of_generator};
 ghost use Rattle.jh_simnode.specs.Plans.{IsKeptPlan};
@@ -23,23 +22,10 @@ ghost use Rattle.jh_settings_texts.specs.TableInside.{IsWhollyKnown, put_key};
 use crate::printing::{entry_text, generator_text, start_text};
 use crate::schedule::Spread;
 use jh_env::Nodes;
-use jh_ops::Workload;
 use jh_settings::Key;
 use jh_simnode::{Entry, Plan};
 use std::alloc::{AllocError, Global};
 use toml::{Table, Value};
-
-/// The name of a workload, as settings have it.
-fn workload_name(workload: Workload) -> &'static str
-    ensures { result.now ≡ ops.workload_name workload }
-{
-    match workload {
-        Workload::Register => "register",
-        Workload::Counter => "counter",
-        Workload::Set => "set",
-        Workload::Ids => "unique-ids",
-    }
-}
 
 /// Puts a value under a key.
 fn put(alloc: Global, table: &mut Table, key: Key, value: Value) -> Result<(), AllocError>
@@ -86,7 +72,7 @@ fn put_cluster(alloc: Global, table: &mut Table, plan: &Plan) -> Result<(), Allo
     let generator = generator_text(alloc, plan.generator())?;
     put(alloc, table, Key::Generator, Value::from(generator))?;
     put_text(alloc, table, Key::Store, plan.store().name())?;
-    put_text(alloc, table, Key::Workload, workload_name(plan.workload()))
+    put_text(alloc, table, Key::Workload, plan.workload().name())
 }
 
 /// Puts what stands under `initial`, if anything.

@@ -1,9 +1,10 @@
 //! Tasks on several threads.
 
-ghost use Rattle.std.specs.Prelude.{◌≡◌, ◌<◌, ◌≤◌, ℕ, Bool, false, IfOk};
+ghost use Rattle.std.specs.Prelude.{◌≡◌, ◌<◌, ℕ, Bool, false, IfOk};
 ghost use Rattle.std.specs.Option.{option_map_or};
 ghost use Rattle.std.specs.Thread.{IsSync};
 ghost use Rattle.jh_tasks.specs.Answers.{AreDone, AreTaskAnswers};
+ghost use Rattle.jh_tasks.specs.Threads.{IsThreadCount};
 
 use crate::board::Board;
 use std::alloc::{AllocError, Global};
@@ -161,7 +162,7 @@ pub fn answer_tasks<A: Send + Drop, T: Task<A> + Send + Sync, R: Threads + Wait 
     threads: u32,
 ) -> Result<TaskAnswers<A>, AllocError>
     requires count { count ≡ T.count }
-    requires threads { (1 ≤ threads) × (threads ≤ 16) }
+    requires threads { IsThreadCount threads }
     ensures right { IfOk result
         (λ answers. AreTaskAnswers T.count T.is_right answers.of_each.items) }
     ensures done { IfOk result

@@ -34,6 +34,10 @@ fn workloads_have_checkers(rt: HostRuntime) {
             Workload::named(name).map(Checker::of) == Checker::named(name),
             "{name}"
         );
+        assert!(rt;
+            Workload::named(name).is_some_and(|w| w.name() == name),
+            "{name}"
+        );
     }
 }
 

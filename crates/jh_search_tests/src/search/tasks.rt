@@ -1,6 +1,7 @@
 //! Tasks that threads share, and the first call that the README of `jh_tasks` shows.
 
-ghost use Rattle.std.specs.Prelude.{◌≡◌, ◌≤◌, ◌%◌, ◌==◌, false};
+ghost use Rattle.std.specs.Prelude.{◌≡◌, ◌%◌, ◌==◌, false};
+ghost use Rattle.jh_tasks.specs.Threads.{IsThreadCount};
 
 use jh_tasks::{Task, answer_tasks};
 use std::alloc::Global;
@@ -28,7 +29,7 @@ impl Task<bool> for Evens {
 
 /// How many of them are even, by so many threads. None: memory was refused, or a thread.
 fn count_evens<R: Threads + Wait + Sync>(rt: &R, alloc: Global, threads: u32) -> Option<usize>
-    requires { (1 ≤ threads) × (threads ≤ 16) }
+    requires { IsThreadCount threads }
 {
     let answers = answer_tasks(rt, alloc, &Evens, 1_000, threads).ok()?;
     let mut evens = 0usize;

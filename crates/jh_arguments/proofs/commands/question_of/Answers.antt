@@ -1,4 +1,4 @@
-use Rattle.std.proofs.Common.{codes, rules, sym, subst, ap, ◌≡◌, ◌∙◌, Some, None}
+use Rattle.std.proofs.Common.{codes, rules, sym, subst, ◌≡◌, ◌∙◌, Some, None}
 use Rattle.clap.specs.Words.{found_of, one_of, rows_of}
 use Rattle.jh_checkers.specs.Checkers.{checker_name}
 use Rattle.jh_arguments.specs.Commands.{IsFlag}
@@ -8,15 +8,13 @@ use Rattle.jh_arguments.proofs.commands.question_of.Goals as goal
 pub returns-in_err-name-clause-taken : goal.returns-in_err-name-clause-taken
 returns-in_err-name-clause-taken c = λ none question asks.
     let given = text_given (found_of c.args.options.now) (codes "workload") c.get_str.result None (search rules) (search rules) in
-    let bad : Some (checker_name question.judging.checker) ≡ None = sym asks.workload ∙ given in
+    let bad : Some (checker_name question.judging.checker) ≡ None = sym asks.judging.workload ∙ given in
     cc
 
 pub returns-in_err-judging_by-clause-taken : goal.returns-in_err-judging_by-clause-taken
 returns-in_err-judging_by-clause-taken c = λ none question asks.
     let given = text_given (found_of c.args.options.now) (codes "workload") c.get_str.result (Some c.in_ok-name.name.now) (search rules) (search rules) in
-    let both : Some c.in_ok-name.name.now ≡ Some (checker_name question.judging.checker) = sym given ∙ asks.workload in
-    let same : c.in_ok-name.name.now ≡ checker_name question.judging.checker = cc in
-    c.judging_by.ensures.taken (search rules) question.judging (record { workload = same; initial = asks.initial; model = asks.model; budget = asks.budget })
+    c.judging_by.ensures.taken given (search rules) question.judging asks.judging
 
 pub returns-in_err-threads_of-clause-taken : goal.returns-in_err-threads_of-clause-taken
 returns-in_err-threads_of-clause-taken c = λ none question asks. c.threads_of.ensures.taken (search rules) question.threads asks.threads
@@ -26,10 +24,7 @@ returns-clause-parsed c =
     let given = text_given (found_of c.args.options.now) (codes "workload") c.get_str.result (Some c.in_ok-name.name.now) (search rules) (search rules) in
     let judged = c.in_ok-judging_by.ensures in
     record {
-      workload = given ∙ ap Some judged.parsed.workload;
-      initial = judged.parsed.initial;
-      model = judged.parsed.model;
-      budget = judged.parsed.budget;
+      judging = judged.parsed given;
       explain = subst (IsFlag (one_of (codes "explain") (rows_of (found_of c.args.options.now)))) (sym judged.explained) c.flag_of-explain.ensures;
       independent = c.flag_of.ensures;
       threads = c.in_ok-threads_of.ensures.parsed;

@@ -23,7 +23,7 @@ loop-place-preserved c =
     let parsed = c.is_done.ensures ∙ ap (λ (o : RegOp). is_outcome_done o.outcome) at in
     elim c.if-is_done.branch [
       | then-is_done+in_ok-push w ↦ subst Entries (sym (ap (λ v. v.items) w.ends-is ∙ w.in_ok-push.ensures.items))
-          (entries_push (IsDone ops) (end_entry ops) (λ x. x.1) l.place l.ends.items _ refl (ap (λ (o : RegOp). (unwrap_or o.ended (2 ^ 64 - 1), l.place)) (sym at) ∙ ap (λ e. (e, l.place)) (sym w.unwrap_or.ensures)) (done_test _ (sym parsed ∙ w.if-is_done.true)) l.invariant)
+          (entries_push (IsDone ops) (end_entry ops) (λ x. x.1) l.place l.ends.items _ refl (ap (λ (o : RegOp). (unwrap_or o.ended (2 ^ 64 - 1), l.place)) (sym at) ∙ ap (λ e. (e, l.place)) (sym w.op_end.ensures)) (done_test _ (sym parsed ∙ w.if-is_done.true)) l.invariant)
       | else-is_done w ↦ subst Entries (sym (ap (λ v. v.items) w.ends-is))
           (entries_skip (IsDone ops) (end_entry ops) (λ x. x.1) l.place l.ends.items (λ kept. not_true _ (is_done_if ops l.place kept) (sym parsed ∙ w.if-is_done.false)) l.invariant)
     ]
