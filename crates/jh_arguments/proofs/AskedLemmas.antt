@@ -25,7 +25,7 @@ use Rattle.jh_arguments.proofs.SameWalk.{subcommand_same}
 use Rattle.jh_checkers.specs.Checkers.{checker_name, checker_names}
 use Rattle.jh_checkers.specs.Models.{model_named}
 use Rattle.jh_arguments.specs.Palettes.{palette_named}
-use Rattle.jh_arguments.specs.Line.{IsCommandLine, check, drive, jeprun, search, shrink, timeline, without_options}
+use Rattle.jh_arguments.specs.Line.{IsCommandLine, check, drive, jeprun, plot, search, shrink, timeline, without_options}
 use Rattle.jh_arguments.specs.Commands.{SubcommandIsAny, AsksCheck, SubcommandIsDrive, SubcommandIs, AsksSearch, AsksTimeline, IsFlag, IsGivenWithin, IsIndex, IsInitial, IsJudging, IsJudgingBy, IsNumberWithin, IsShow}
 use Rattle.jh_arguments.specs.Limits.{max_candidates, max_spread_ms}
 use Rattle.jh_checkers.specs.declared.checker.Checker.{Checker}
@@ -117,8 +117,14 @@ module _ (names models : Bor (List (Bor Text))) (all : map (λ s. s.now) names.n
   run_asks : Leads SubcommandIsAny (leaf (without_options (codes "run")))
   run_asks name rest named other fault = inl (Run, refl)
 
-  plot_asks : Leads SubcommandIsAny (leaf (without_options (codes "plot")))
-  plot_asks name rest named other fault = inl (Plot, refl)
+  plot_asks : Leads SubcommandIsAny (leaf plot)
+  plot_asks name rest named other fault =
+      let rows = rows_after (leaf plot).rules [] rest in
+      let skips = flag_in (one_of (codes "skip-unread") rows) in
+      inl (Plot skips.0, (refl, skips.1))
+
+  plot_rules : Each (IsOwn (leaf plot).rules) (leaf plot).rules
+  plot_rules = (flag_valued _ _ refl (omega arith), (flag_valued _ _ refl (omega arith), (request _ _ refl refl, tt)))
 
   help_asks : Leads SubcommandIsAny (built_leaf help_shape)
   help_asks name rest named other fault =
@@ -305,9 +311,9 @@ module _ (names models : Bor (List (Bor Text))) (all : map (λ s. s.now) names.n
   other_name : (a b : Text) → bytes_eq a b ≡ false → a ≡ b → ⊥
   other_name a b differ same = true≢false (sym ((bytes_eq-Decides a b).1 same) ∙ differ)
 
-  once_of : (a : App) → bytes_eq (leaf a).name (codes "check") ≡ false → bytes_eq (leaf a).name (codes "timeline") ≡ false → Leads Once (leaf a)
-  once_of a first second name rest named other fault =
-      asked_once ((leaf a).name, rows_after (leaf a).rules [] rest) (λ e. absurd (other_name _ _ first e)) (λ e. absurd (other_name _ _ second e))
+  once_of : (a : App) → bytes_eq (leaf a).name (codes "check") ≡ false → bytes_eq (leaf a).name (codes "timeline") ≡ false → bytes_eq (leaf a).name (codes "plot") ≡ false → Leads Once (leaf a)
+  once_of a first second third name rest named other fault =
+      asked_once ((leaf a).name, rows_after (leaf a).rules [] rest) (λ e. absurd (other_name _ _ first e)) (λ e. absurd (other_name _ _ second e)) (λ e. absurd (other_name _ _ third e))
 
   check_once : Leads Once (leaf (check names models))
   check_once name rest named other fault =
@@ -319,7 +325,7 @@ module _ (names models : Bor (List (Bor Text))) (all : map (λ s. s.now) names.n
         flag_once rows (codes "independent") (option_gives _ rows holds (codes "independent") false vp.Bool true refl),
         flag_once rows (codes "skip-unread") (option_gives _ rows holds (codes "skip-unread") false vp.Bool true refl),
       ))
-      (λ e. absurd (other_name (codes "check") (codes "timeline") refl e))
+      (λ e. absurd (other_name (codes "check") (codes "timeline") refl e)) (λ e. absurd (other_name (codes "check") (codes "plot") refl e))
 
   timeline_once : Leads Once (leaf (timeline names models))
   timeline_once name rest named other fault =
@@ -330,11 +336,19 @@ module _ (names models : Bor (List (Bor Text))) (all : map (λ s. s.now) names.n
         flag_once rows (codes "independent") (option_gives _ rows holds (codes "independent") false vp.Bool true refl),
         flag_once rows (codes "skip-unread") (option_gives _ rows holds (codes "skip-unread") false vp.Bool true refl),
       ))
+      (λ e. absurd (other_name (codes "timeline") (codes "plot") refl e))
+
+  plot_once : Leads Once (leaf plot)
+  plot_once name rest named other fault =
+      let holds = level_holds (leaf plot) [] rest plot_rules fault in
+      let rows = rows_after (leaf plot).rules [] rest in
+      asked_once (codes "plot", rows) (λ e. absurd (other_name (codes "plot") (codes "check") refl e)) (λ e. absurd (other_name (codes "plot") (codes "timeline") refl e))
+      (λ e. flag_once rows (codes "skip-unread") (option_gives _ rows holds (codes "skip-unread") false vp.Bool true refl))
 
   help_once : Leads Once (built_leaf help_shape)
   help_once name rest named other fault =
       asked_once (codes "help", rows_after (built_leaf help_shape).rules [] rest) (λ e. absurd (other_name (codes "help") (codes "check") refl e))
-      (λ e. absurd (other_name (codes "help") (codes "timeline") refl e))
+      (λ e. absurd (other_name (codes "help") (codes "timeline") refl e)) (λ e. absurd (other_name (codes "help") (codes "plot") refl e))
 
   line_asks : (words : List Text) → fault_of (jeprun names models) words ≡ [] → SubcommandIsAny (subcommand_of (jeprun names models) words)
   line_asks words fault =
@@ -344,15 +358,12 @@ module _ (names models : Bor (List (Bor Text))) (all : map (λ s. s.now) names.n
   line_once : (words : List Text) → fault_of (jeprun names models) words ≡ [] → Once (subcommand_of (jeprun names models) words)
   line_once words fault =
       entered_leads Once (built (jeprun names models)) (argument_words (jeprun names models) words) (
-        once_of (without_options (codes "env")) refl refl,
+        once_of (without_options (codes "env")) refl refl refl,
         (
           check_once,
           (
-            once_of (without_options (codes "run")) refl refl,
-            (
-              once_of shrink refl refl,
-              (once_of search refl refl, (timeline_once, (once_of drive refl refl, (once_of (without_options (codes "plot")) refl refl, (help_once, tt))))),
-            ),
+            once_of (without_options (codes "run")) refl refl refl,
+            (once_of shrink refl refl refl, (once_of search refl refl refl, (timeline_once, (once_of drive refl refl refl, (plot_once, (help_once, tt)))))),
           ),
         ),
       ) refl refl fault

@@ -133,7 +133,7 @@ command_name Run = codes "run"
 command_name (Shrink budget) = codes "shrink"
 command_name (Search question) = codes "search"
 command_name (Timeline question) = codes "timeline"
-command_name Plot = codes "plot"
+command_name (Plot skips_unread) = codes "plot"
 
 -- a number for each name
 abbrev mark_of : Text → ℕ
@@ -147,7 +147,7 @@ named found Run asks = asks
 named found (Shrink budget) asks = asks.0
 named found (Search question) asks = asks.0
 named found (Timeline question) asks = asks.0
-named found Plot asks = asks
+named found (Plot skips_unread) asks = asks.0
 
 -- none is called drive
 pub no_drive : (c : Command) → command_name c ≡ codes "drive" → ⊥
@@ -160,15 +160,16 @@ no_drive c e = go c (ap mark_of e)
     go (Shrink budget) e = omega (arith, e)
     go (Search question) e = omega (arith, e)
     go (Timeline question) e = omega (arith, e)
-    go Plot e = omega (arith, e)
+    go (Plot skips_unread) e = omega (arith, e)
 
 abbrev pub Once : Option (Text × List Row) → Type 0
 Once found = (c d : Command) → SubcommandIs found c → SubcommandIs found d → c ≡ d
 
 pub asked_once : (found : Text × List Row)
     → (found.0 ≡ codes "check" → FlagOnce found.1 (codes "explain") × FlagOnce found.1 (codes "independent") × FlagOnce found.1 (codes "skip-unread"))
-    → (found.0 ≡ codes "timeline" → FlagOnce found.1 (codes "independent") × FlagOnce found.1 (codes "skip-unread")) → Once (Some found)
-asked_once found of_check of_timeline c d asks also = go c d asks also (ap mark_of (sym (named found c asks) ∙ named found d also))
+    → (found.0 ≡ codes "timeline" → FlagOnce found.1 (codes "independent") × FlagOnce found.1 (codes "skip-unread"))
+    → (found.0 ≡ codes "plot" → FlagOnce found.1 (codes "skip-unread")) → Once (Some found)
+asked_once found of_check of_timeline of_plot c d asks also = go c d asks also (ap mark_of (sym (named found c asks) ∙ named found d also))
   where
     go : (c d : Command) → SubcommandIs (Some found) c → SubcommandIs (Some found) d → mark_of (command_name c) ≡ mark_of (command_name d) → c ≡ d
     go Env Env a b e = refl
@@ -177,7 +178,7 @@ asked_once found of_check of_timeline c d asks also = go c d asks also (ap mark_
     go (Check m) (Check n) a b e = ap Check (check_once found.1 (of_check a.0).0 (of_check a.0).1 (of_check a.0).2 m n a.1 b.1)
     go (Search m) (Search n) a b e = ap Search (search_once found.1 m n a.1 b.1)
     go (Timeline m) (Timeline n) a b e = ap Timeline (timeline_once found.1 (of_timeline a.0).0 (of_timeline a.0).1 m n a.1 b.1)
-    go Plot Plot a b e = refl
+    go (Plot m) (Plot n) a b e = ap Plot (of_plot a.0 m n a.1 b.1)
     go _ _ a b e = absurd (omega (arith, e))
 
 -- ---- and so do arguments

@@ -113,6 +113,10 @@ pub record AsksTimeline (options : List Row) (question : TimelineQuestion) : Typ
   pub to : IsIndex (one_of (codes "to") options) question.choice.to
   pub skips_unread : IsFlag (one_of (codes "skip-unread") options) question.skips_unread
 
+-- the options of `plot` ask that keys which can't be read are left out, or do not
+abbrev pub AsksPlot : List Row → Bool → Type 0
+AsksPlot options skips_unread = IsFlag (one_of (codes "skip-unread") options) skips_unread
+
 -- the number from the least to the most that an option gives, if it is there
 abbrev pub IsGivenWithin : ℕ → ℕ → Option Text → Option ℕ → Type 0
 IsGivenWithin least most None number = number ≡ None
@@ -162,7 +166,8 @@ SubcommandIs (Some found) (Search question) =
     (found.0 ≡ codes "search") × AsksSearch found.1 question
 SubcommandIs (Some found) (Timeline question) =
     (found.0 ≡ codes "timeline") × AsksTimeline found.1 question
-SubcommandIs (Some found) Plot = found.0 ≡ codes "plot"
+SubcommandIs (Some found) (Plot skips_unread) =
+    (found.0 ≡ codes "plot") × AsksPlot found.1 skips_unread
 
 -- A subcommand with its options asks to be told where and why an input is refused, or does not.
 abbrev pub SubcommandIsVerbose : Option (Text × List Row) → Bool → Type 0
@@ -193,7 +198,8 @@ IsOutputOf (Shrink runs) steps input status output = IsShrinkTextOf runs input s
 IsOutputOf (Search question) steps input status output = IsSearchTextOf question input status output
 IsOutputOf (Timeline question) steps input status output =
     IsTimelineTextOf question steps input status output
-IsOutputOf Plot steps input status output = IsPlotTextOf false input status output
+IsOutputOf (Plot skips_unread) steps input status output =
+    IsPlotTextOf skips_unread input status output
 
 -- The command may end with this error for its options alone.
 abbrev pub IsOfOptions : Command → CliError → Type 0
@@ -219,4 +225,4 @@ RefusesCommand Run steps input e = RefusesRun input e
 RefusesCommand (Shrink runs) steps input e = RefusesShrinking runs input e
 RefusesCommand (Search question) steps input e = RefusesSearch question input e
 RefusesCommand (Timeline question) steps input e = RefusesTimeline question steps input e
-RefusesCommand Plot steps input e = RefusesPlot false input e
+RefusesCommand (Plot skips_unread) steps input e = RefusesPlot skips_unread input e

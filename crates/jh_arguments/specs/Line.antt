@@ -134,6 +134,9 @@ settings_file = needed_rule (record (new_rule (codes "settings")) { value_names 
 abbrev pub drive : App
 drive = with_rule (with_rule (new_app (codes "drive")) settings_file) verbose
 
+abbrev pub plot : App
+plot = with_rule (with_rule (new_app (codes "plot")) skip_unread) verbose
+
 abbrev pub jeprun : Bor (List (Bor Text)) → Bor (List (Bor Text)) → App
 jeprun names models = with_subcommand (with_subcommand (with_subcommand (with_subcommand
     (with_subcommand (with_subcommand (with_subcommand (with_subcommand
@@ -141,7 +144,7 @@ jeprun names models = with_subcommand (with_subcommand (with_subcommand (with_su
     record s { has_version = true; subcommand_required = true; arg_required_else_help = true })
     (new_app (codes "jeprun")))
     (without_options (codes "env")).top) (check names models).top) (without_options (codes "run")).top)
-    shrink.top) search.top) (timeline names models).top) drive.top) (without_options (codes "plot")).top
+    shrink.top) search.top) (timeline names models).top) drive.top) plot.top
 
 -- the command line, with the names of the workloads that there are checkers for, and those of the
 -- consistency models

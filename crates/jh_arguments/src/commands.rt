@@ -10,7 +10,8 @@ ghost use Rattle.jh_checkers.specs.declared.finding.Judging.{Judging};
 ghost use Rattle.jh_cli.specs.Outputs.{OnInput, WritesOutput};
 ghost use Rattle.jh_cli.specs.declared.error.CliError.{CliError as CliErrorData};
 ghost use Rattle.jh_cli.specs.declared.error.CliError.TheVariants as CliError;
-ghost use Rattle.jh_arguments.specs.Commands.{AsksCheck, SubcommandHasSchedule, SubcommandIs};
+ghost use Rattle.jh_arguments.specs.Commands.{AsksCheck, AsksPlot, SubcommandHasSchedule};
+ghost use Rattle.jh_arguments.specs.Commands.{SubcommandIs};
 ghost use Rattle.jh_arguments.specs.Commands.{SubcommandIsDrive, SubcommandIsVerbose, IsGivenWithin};
 ghost use Rattle.jh_arguments.specs.Commands.{AsksSearch, IsShow};
 ghost use Rattle.jh_arguments.specs.Commands.{AsksTimeline, HasNumbersInRange, IsFlag, IsIndex};
@@ -59,8 +60,9 @@ pub enum Command {
     Search(SearchQuestion),
     /// A page that shows a history.
     Timeline(TimelineQuestion),
-    /// A page that shows the latencies and rates of a history.
-    Plot,
+    /// A page that shows the latencies and rates of a history, without keys that can't be read where
+    /// that is asked for.
+    Plot(bool),
 }
 
 /// The command that the arguments ask for. `parse` has seen to it that there is one.
@@ -77,7 +79,7 @@ pub fn command_of(matches: &ArgMatches<'_>) -> Option<Command>
         ("shrink", options) => Some(Command::Shrink(number_of(options, "budget")?)),
         ("search", options) => Some(Command::Search(search_question_of(options)?)),
         ("timeline", options) => Some(Command::Timeline(timeline_question_of(options)?)),
-        ("plot", _) => Some(Command::Plot),
+        ("plot", options) => Some(Command::Plot(plot_skips_unread(options))),
         _ => None,
     }
 }
@@ -188,6 +190,13 @@ pub fn timeline_question_of(options: &ArgMatches<'_>) -> Option<TimelineQuestion
         },
         skips_unread: flag_of(options, "skip-unread"),
     })
+}
+
+/// Whether the options of `plot` ask that keys which can't be read are left out.
+fn plot_skips_unread(options: &ArgMatches<'_>) -> bool
+    ensures { AsksPlot (rows_of (found_of options.now)) result }
+{
+    flag_of(options, "skip-unread")
 }
 
 /// What a history is judged by, if options give a workload. A no is explained.
@@ -367,6 +376,6 @@ where
         Command::Shrink(budget) => shrink_run_observed(alloc, reader, writer, budget, observer),
         Command::Search(question) => search_run(rt, alloc, reader, writer, question, observer),
         Command::Timeline(question) => timeline_run(alloc, reader, writer, question, steps),
-        Command::Plot => plot_run(alloc, reader, writer, false),
+        Command::Plot(skips_unread) => plot_run(alloc, reader, writer, skips_unread),
     }
 }

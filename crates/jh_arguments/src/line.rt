@@ -216,9 +216,9 @@ fn drive_command<'a>(alloc: Global) -> Result<Command<'a>, Error>
     Ok(drive)
 }
 
-/// The command `plot`.
+/// The command `plot` and its options.
 fn plot_command<'a>(alloc: Global) -> Result<Command<'a>, Error>
-    ensures plot { IfOk result (λ plot. app_of plot ≡ text.without_options (codes "plot")) }
+    ensures plot { IfOk result (λ plot. app_of plot ≡ text.plot) }
     ensures memory { IfErr result (λ e. kind_of e ≡ ErrorKind.OutOfMemory) }
 {
     let plot = Command::new(alloc, "plot")
@@ -226,6 +226,7 @@ fn plot_command<'a>(alloc: Global) -> Result<Command<'a>, Error>
             "Writes a page that plots latencies and rates of a history, which is read from standard input as EDN",
         )
         .after_help(help::PLOT)
+        .arg(skip_unread_option(alloc))?
         .arg(verbose_option(alloc))?;
     Ok(plot)
 }

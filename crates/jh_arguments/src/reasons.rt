@@ -43,7 +43,7 @@ pub(crate) fn warnings_in(alloc: Global, settings: &[u8]) -> Result<Vec<Warning>
 /// What a command reads its input as.
 fn kind_of(command: Option<Command>) -> InputKind {
     match command {
-        Some(Command::Check(_)) | Some(Command::Timeline(_)) | Some(Command::Plot) => {
+        Some(Command::Check(_)) | Some(Command::Timeline(_)) | Some(Command::Plot(_)) => {
             InputKind::History
         }
         _ => InputKind::Values,
@@ -55,6 +55,7 @@ fn skips_unread(command: Option<Command>) -> bool {
     match command {
         Some(Command::Check(question)) => question.skips_unread,
         Some(Command::Timeline(question)) => question.skips_unread,
+        Some(Command::Plot(skips_unread)) => skips_unread,
         _ => false,
     }
 }

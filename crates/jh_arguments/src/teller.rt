@@ -221,7 +221,7 @@ impl<P: Eprint> Teller<'_, P> {
 fn input_of(command: Command) -> &'static str {
     match command {
         Command::Env => "an environment and steps",
-        Command::Check(_) | Command::Timeline(_) | Command::Plot => "a history",
+        Command::Check(_) | Command::Timeline(_) | Command::Plot(_) => "a history",
         Command::Run | Command::Shrink(_) | Command::Search(_) => "settings",
     }
 }

@@ -41,7 +41,8 @@ fn asks_for_commands(rt: HostRuntime) {
 § jeprun check --workload list-append --model strict-serializable → Check(CheckQuestion { judging: Judging { checker: ListAppend, initial: None, budget: 100000, explain: false, model: Some(StrictSerializable) }, independent: false, threads: 1, at_least: None, skips_unread: false })
 § jeprun check --workload set --budget 10000000 → Check(CheckQuestion { judging: Judging { checker: Set, initial: None, budget: 10000000, explain: false, model: None }, independent: false, threads: 1, at_least: None, skips_unread: false })
 § jeprun check --workload set --at-least 18446744073709551615 → Check(CheckQuestion { judging: Judging { checker: Set, initial: None, budget: 100000, explain: false, model: None }, independent: false, threads: 1, at_least: Some(18446744073709551615), skips_unread: false })
-§ jeprun plot --verbose → Plot
+§ jeprun plot → Plot(false)
+§ jeprun plot --skip-unread --verbose → Plot(true)
 § jeprun check --workload set --skip-unread → Check(CheckQuestion { judging: Judging { checker: Set, initial: None, budget: 100000, explain: false, model: None }, independent: false, threads: 1, at_least: None, skips_unread: true })
 § jeprun shrink → Shrink(10000)
 § jeprun shrink --budget 10000000 → Shrink(10000000)
@@ -263,8 +264,9 @@ Writes a page that plots latencies and rates of a history, which is read from st
 Usage: jeprun plot [OPTIONS]
 
 Options:
-      --verbose  Says on standard error where and why an input is refused
-  -h, --help     Print help
+      --skip-unread  Leaves out keys with floats and other tokens that can't be read, where no checker reads them
+      --verbose      Says on standard error where and why an input is refused
+  -h, --help         Print help
 
 It writes an HTML page: for each function the latency of each call over time, percentiles of the
 latencies, and how many calls a second ended in each way; and when which fault was active. Each

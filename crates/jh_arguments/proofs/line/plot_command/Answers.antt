@@ -1,9 +1,12 @@
-use Rattle.std.proofs.Common.{rules, ap₂, codes, ◌≡◌, ◌∙◌}
+use Rattle.std.proofs.Common.{ap, ap₂, codes, ◌≡◌, ◌∙◌}
 use Rattle.clap.specs.Words.{app_of, new_app, with_rule}
+use Rattle.clap.specs.Simple.{app_of_fields}
 use Rattle.jh_arguments.proofs.line.plot_command.Goals as goal
 
 pub returns-clause-plot : goal.returns-clause-plot
 returns-clause-plot c =
-    let about : app_of c.about.result ≡ new_app (codes "plot") = search rules in
-    let top : app_of c.after_help.result ≡ new_app (codes "plot") = search rules in
-    c.in_ok-plot.ensures.shape c.verbose_option.ensures.local ∙ ap₂ with_rule top c.verbose_option.ensures.rule
+    let top : app_of c.after_help.result ≡ new_app (codes "plot") = ap app_of_fields c.after_help.ensures
+    ∙ (ap app_of_fields c.about.ensures ∙ c.new.ensures.app) in
+    c.in_ok-plot.ensures.shape c.verbose_option.ensures.local ∙ ap₂ with_rule
+    (c.in_ok-arg.ensures.shape c.skip_unread_option.ensures.local ∙ ap₂ with_rule top c.skip_unread_option.ensures.rule)
+    c.verbose_option.ensures.rule
