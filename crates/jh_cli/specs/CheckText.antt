@@ -5,7 +5,7 @@ use Rattle.std.specs.Prelude.{◌≡◌, ℕ, List}
 use Rattle.jh_ops.specs.Operation.{Operation}
 use Rattle.jh_reports.specs.Judged.{IsTextBy}
 use Rattle.jh_cli.specs.HistoryInput.{IsHistoryInput}
-use Rattle.jh_cli.specs.Enough.{answer_where_enough, count_ok_calls}
+use Rattle.jh_cli.specs.Enough.{answer_where_enough, count_ok_operations}
 use Rattle.jh_cli.specs.declared.check_command.CheckQuestion.{CheckQuestion}
 
 -- What is written for a history, with the exit status.
@@ -14,7 +14,7 @@ IsCheckLine question history status output =
     (verdict : ℕ) × (found : List ℕ)
     × IsTextBy question.independent question.judging history verdict found
     × ((status, output)
-    ≡ answer_where_enough question.at_least (count_ok_calls question.judging.checker history) verdict found)
+    ≡ answer_where_enough question.at_least (count_ok_operations question.judging.checker history) verdict found)
 
 -- That for an input: the history that it is, or, of what `run` or `drive` printed, the one in it
 abbrev pub IsCheckTextOf : CheckQuestion → List ℕ → ℕ → List ℕ → Type 0

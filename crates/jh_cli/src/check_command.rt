@@ -1,6 +1,6 @@
 //! The command `check`: reads a history, or all that `run` or `drive` printed, and writes the one line
 //! that a checker finds, in the history or in that of each of its keys; or that the history has too few
-//! calls to be called valid, which `enough.rt` counts. What is written stands in `specs/CheckText.antt`,
+//! operations to be called valid, which `enough.rt` counts. What is written stands in `specs/CheckText.antt`,
 //! why a history is refused in `specs/CheckRefusals.antt`; a new checker is a row of the table in
 //! `jh_checkers`, and a case of `is_judged` in `enough.rt`.
 
@@ -37,26 +37,27 @@ pub struct CheckQuestion {
     pub independent: bool,
     /// By how many threads keys are judged, from 1 to 16.
     pub threads: u32,
-    /// A history with fewer calls that ended `:ok` is not called valid; counted are clients' calls
-    /// of the functions that the checker judges, in all keys. None: any number is enough.
+    /// A history with fewer operations that ended `:ok` is not called valid; counted are those of
+    /// clients, of the functions that the checker judges, in all keys. None: any number is enough.
     pub at_least: Option<usize>,
     /// Whether keys that no checker reads are left out where they can't be read.
     pub skips_unread: bool,
 }
 
 /// Reads a history as `jh_histories::read_history_and_rest` does, also out of what `run` or `drive`
-/// printed, without its unread keys where that is asked for, judges it as `jh_checkers::check_history` does, and writes one line with what is found.
-/// The answer is the exit status: 0 where the history is valid, 1 where it is not, 2 where that is not known. All is read
+/// printed, without its unread keys where that is asked for, judges it as
+/// `jh_checkers::check_history` does, and writes one line with what is found. The answer is the exit
+/// status: 0 where the history is valid, 1 where it is not, 2 where that is not known. All is read
 /// and judged before the first byte is written.
 ///
 /// Where its keys are independent, each is judged by itself with the whole budget, on so many
 /// threads, as `jh_independent::check_keys` does. Then the call may wait, and promises only if it
 /// returns. Otherwise the threads mean nothing.
 ///
-/// A history with fewer calls than the question wants is not called valid: where it would be, the
+/// A history with fewer operations than the question wants is not called valid: where it would be, the
 /// line is `{:valid? :unknown, :error "K of at least N operations"}`, and the status 2.
 ///
-/// The observer is told, once the history is read, how many of its calls are judged.
+/// The observer is told, once the history is read, how many of its operations are judged.
 ///
 /// Errors: `OnlyForRegister` where there is an initial value and no register, `OnlyForListAppend`
 /// where there is a consistency model and no transactions over lists, both before anything is read;

@@ -1,4 +1,4 @@
-//! How many calls of a history its checker judges. `specs/Counts.antt` has the rule.
+//! How many operations of a history its checker judges. `specs/Counts.antt` has the rule.
 
 ghost use Rattle.std.specs.Prelude.{◌≡◌, count_by};
 ghost use Rattle.jh_ops.specs.Operation.{operation, operations};
@@ -11,7 +11,7 @@ use jh_checkers::Checker;
 use jh_ops::{Kind, Op};
 use jh_shrink::Nobody;
 
-/// How many clients' calls a history has, by their invocations.
+/// How many operations of clients a history has, by their invocations.
 #[derive(Clone, Copy, Debug, PartialEq, Eq)]
 pub struct HistoryCounts {
     /// Those of the functions that the checker judges.
@@ -22,7 +22,7 @@ pub struct HistoryCounts {
 
 /// Who is told what a history holds before it is judged.
 pub trait HistoryObserver {
-    /// A history with so many calls is judged next.
+    /// A history with so many operations is judged next.
     fn see_history(&mut self, counts: HistoryCounts);
 }
 
@@ -30,40 +30,40 @@ impl HistoryObserver for Nobody {
     fn see_history(&mut self, _counts: HistoryCounts) {}
 }
 
-/// Whether an operation is a client's call of a function that the checker does not judge.
-fn is_other_call(checker: Checker, op: &Op) -> bool
-    ensures { result ≡ rule.is_other_call checker (operation op.now) }
+/// Whether a record is a client's invocation of a function that the checker does not judge.
+fn is_other_invocation(checker: Checker, op: &Op) -> bool
+    ensures { result ≡ rule.is_other_invocation checker (operation op.now) }
 {
     op.process.is_client() && Kind::Invoke.is(op.kind) && !is_judged(checker, Kind::Invoke, op)
 }
 
-/// How many calls of a history the checker judges.
+/// How many operations of a history the checker judges.
 fn count_judged(checker: Checker, history: &[Op]) -> usize
     ensures { result ≡ count_by (is_judged_of checker KindData.Invoke) (operations history.now) }
 {
-    let mut calls = 0;
+    let mut count = 0;
     for op in history {
         if is_judged(checker, Kind::Invoke, op) {
-            calls += 1;
+            count += 1;
         }
     }
-    calls
+    count
 }
 
-/// How many calls of a history are of functions that the checker does not judge.
+/// How many operations of a history are of functions that the checker does not judge.
 fn count_others(checker: Checker, history: &[Op]) -> usize
-    ensures { result ≡ count_by (rule.is_other_call checker) (operations history.now) }
+    ensures { result ≡ count_by (rule.is_other_invocation checker) (operations history.now) }
 {
-    let mut calls = 0;
+    let mut count = 0;
     for op in history {
-        if is_other_call(checker, op) {
-            calls += 1;
+        if is_other_invocation(checker, op) {
+            count += 1;
         }
     }
-    calls
+    count
 }
 
-/// How many calls of a history the checker judges, and how many are of other functions.
+/// How many operations of a history the checker judges, and how many are of other functions.
 pub fn history_counts(checker: Checker, history: &[Op]) -> HistoryCounts
     ensures { result ≡ rule.history_counts checker (operations history.now) }
 {

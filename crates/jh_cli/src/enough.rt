@@ -1,4 +1,4 @@
-//! Whether a history has enough calls to be called valid. `specs/Enough.antt` has the rule.
+//! Whether a history has enough operations to be called valid. `specs/Enough.antt` has the rule.
 
 ghost use Rattle.std.specs.Prelude.{◌≡◌, IfOk, map};
 ghost use Rattle.jh_ops.specs.Operation.{operation, operations};
@@ -19,7 +19,7 @@ static IDS: [&str; 1] = ["generate"];
 
 static TRANSACTIONS: [&str; 1] = ["txn"];
 
-/// The names of the functions whose calls a checker judges.
+/// The names of the functions whose operations a checker judges.
 pub fn functions_of(checker: Checker) -> &'static [&'static str]
     ensures { map (λ name. name.now) result.now ≡ rule.functions_of checker }
 {
@@ -31,7 +31,7 @@ pub fn functions_of(checker: Checker) -> &'static [&'static str]
     }
 }
 
-/// Whether a client's operation of this kind is one of a function that the checker judges.
+/// Whether a record is a client's, of this kind and of a function that the checker judges.
 pub(crate) fn is_judged(checker: Checker, kind: Kind, op: &Op) -> bool
     ensures { result ≡ rule.is_judged checker kind (operation op.now) }
 {
@@ -45,9 +45,9 @@ pub(crate) fn is_judged(checker: Checker, kind: Kind, op: &Op) -> bool
     }
 }
 
-/// How many calls that the checker judges ended `:ok`.
-fn count_ok_calls(checker: Checker, history: &[Op]) -> usize
-    ensures { result ≡ rule.count_ok_calls checker (operations history.now) }
+/// How many operations that the checker judges ended `:ok`.
+fn count_ok_operations(checker: Checker, history: &[Op]) -> usize
+    ensures { result ≡ rule.count_ok_operations checker (operations history.now) }
 {
     let mut done = 0;
     for op in history {
@@ -58,7 +58,7 @@ fn count_ok_calls(checker: Checker, history: &[Op]) -> usize
     done
 }
 
-/// What is found, or that it stands on too few calls.
+/// What is found, or that it stands on too few operations.
 pub(crate) fn answer_where_enough(
     alloc: Global,
     history: &[Op],
@@ -67,13 +67,13 @@ pub(crate) fn answer_where_enough(
 ) -> Result<Output, AllocError>
     ensures { IfOk result (λ output. (output.status, output.text.items)
         ≡ rule.answer_where_enough question.at_least
-        (rule.count_ok_calls question.judging.checker (operations history.now))
+        (rule.count_ok_operations question.judging.checker (operations history.now))
         found.status found.text.items) }
 {
     let Some(wanted) = question.at_least else {
         return Ok(found);
     };
-    let done = count_ok_calls(question.judging.checker, history);
+    let done = count_ok_operations(question.judging.checker, history);
     if found.status != DONE || done >= wanted {
         return Ok(found);
     }
@@ -83,7 +83,7 @@ pub(crate) fn answer_where_enough(
     })
 }
 
-/// The line where fewer calls were done than are wanted.
+/// The line where fewer operations were done than are wanted.
 fn few_line(alloc: Global, done: usize, wanted: usize) -> Result<Vec<u8>, AllocError>
     ensures { IfOk result (λ line. line.items ≡ rule.few_line done wanted) }
 {

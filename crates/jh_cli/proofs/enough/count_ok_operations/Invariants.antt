@@ -3,8 +3,8 @@ use Rattle.std.specs.Prelude.{count_by}
 use Rattle.jh_ops.specs.Operation.{operations}
 use Rattle.jh_ops.specs.declared.operation.Kind.{Kind}
 use Rattle.jh_cli.specs.Enough.{is_judged}
-use Rattle.jh_cli.proofs.enough.count_ok_calls.Given as goal
+use Rattle.jh_cli.proofs.enough.count_ok_operations.Given as goal
 
--- the calls so far were counted
+-- the operations so far were counted
 abbrev pub invariant-loop-op : goal.invariant-loop-op
 invariant-loop-op l = l.done ≡ count_by (is_judged l.fn.checker Kind.Ok) (operations (take l.op-index l.history))
