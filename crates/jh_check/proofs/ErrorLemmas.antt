@@ -1,4 +1,4 @@
--- The first of the errors, one call after another.
+-- The first of the errors, one operation after another.
 use Rattle.std.proofs.Common.{◌≡◌, ℕ, ◌+◌, ◌<◌, ◌≤◌, true, false, cond, nat_lt, List, [], ◌∷◌, ◌++◌, length, take, get_or, refl, sym, ap, subst, ◌∙◌, arith}
 use Rattle.std.specs.Prelude.{Option, Some, None, IfSome}
 use Rattle.std.specs.List.{cons_option}
@@ -7,7 +7,7 @@ use Rattle.std.proofs.lemmas.List.Elements.{All-push, All-weaker, All-nil, Conta
 use Rattle.std.proofs.lemmas.Bool.{ltb-true, ltb-false}
 use Rattle.jh_ops.specs.Operation.{Operation}
 use Rattle.jh_ops.specs.declared.pairs.Pair.{Pair}
-use Rattle.jh_check.specs.CounterResults.{IsEarliest, place_of_error, call_error, errors_in}
+use Rattle.jh_check.specs.CounterResults.{IsEarliest, place_of_error, value_error, errors_in}
 use Rattle.jh_check.specs.CounterInside.{IsFirstOf, IsValueError, earlier_error}
 use Rattle.jh_check.specs.declared.error.CheckError.{CheckError}
 
@@ -33,8 +33,8 @@ first_more (Some first) (Some next) errors h v =
       lower : nat_lt (place_of_error next) (place_of_error first) ≡ true → place_of_error next < place_of_error first
       lower e = ltb-true (place_of_error next) (place_of_error first) e
 
-pub errors_more : (history : List Operation) (calls : List Pair) (i : ℕ) (d : Pair) → i < length calls
-    → errors_in history (take (i + 1) calls) ≡ errors_in history (take i calls) ++ cons_option (call_error history (get_or calls i d)) []
-errors_more history calls i d less =
-    ap (errors_in history) (take_more calls i d less)
-    ∙ filter_map-append (call_error history) (take i calls) (get_or calls i d ∷ [])
+pub errors_more : (history : List Operation) (pairs : List Pair) (i : ℕ) (d : Pair) → i < length pairs
+    → errors_in history (take (i + 1) pairs) ≡ errors_in history (take i pairs) ++ cons_option (value_error history (get_or pairs i d)) []
+errors_more history pairs i d less =
+    ap (errors_in history) (take_more pairs i d less)
+    ∙ filter_map-append (value_error history) (take i pairs) (get_or pairs i d ∷ [])

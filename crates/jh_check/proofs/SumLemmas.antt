@@ -42,28 +42,28 @@ sum_whole (x ∷ xs) (suc at) d a less =
     sum-cons x (set xs at (get_or xs at d + a)) ∙ ap (λ n. x + n) (sum_whole xs at d a (omega arith)) ∙ other ∙ ap (λ n. n + a) (sym (sum-cons x xs))
 
 -- the sum of those that pass two tests, with one more that may pass
-sum_more : (f : Pair → ℕ) (p q : Pair → Bool) (calls : List Pair) (call : Pair)
-    → sum_by f (filter (λ c. p c && q c) (calls ++ call ∷ [])) ≡ sum_by f (filter (λ c. p c && q c) calls) + cond (p call) (cond (q call) (f call) 0) 0
-sum_more f p q calls call =
+sum_more : (f : Pair → ℕ) (p q : Pair → Bool) (pairs : List Pair) (pair : Pair)
+    → sum_by f (filter (λ c. p c && q c) (pairs ++ pair ∷ [])) ≡ sum_by f (filter (λ c. p c && q c) pairs) + cond (p pair) (cond (q pair) (f pair) 0) 0
+sum_more f p q pairs pair =
     let both = λ (c : Pair). p c && q c in
-    ap (sum_by f) (filter-append both calls (call ∷ [])) ∙ sum_by-append f (filter both calls) (filter both (call ∷ []))
-    ∙ ap (λ n. sum_by f (filter both calls) + n) (one (p call) (q call)) where
-      one : (b c : Bool) → sum_by f (cond (b && c) (call ∷ []) []) ≡ cond b (cond c (f call) 0) 0
+    ap (sum_by f) (filter-append both pairs (pair ∷ [])) ∙ sum_by-append f (filter both pairs) (filter both (pair ∷ []))
+    ∙ ap (λ n. sum_by f (filter both pairs) + n) (one (p pair) (q pair)) where
+      one : (b c : Bool) → sum_by f (cond (b && c) (pair ∷ []) []) ≡ cond b (cond c (f pair) 0) 0
       one true true = omega arith
       one true false = refl
       one false c = refl
 
-pub bound_more : (side : Bound) (history : List Operation) (calls : List Pair) (call : Pair) (place : ℕ)
-    → bound_before side history (calls ++ call ∷ []) place ≡ bound_before side history calls place + increase_before place (increase_of side history call)
-bound_more Lower history calls call place =
-    sum_more (amount history) (is_surely_added history) (λ c. nat_lt (end_place c) place) calls call
-    ∙ ap (λ n. bound_before Lower history calls place + n) (one (is_surely_added history call)) where
-      one : (b : Bool) → cond b (cond (nat_lt (end_place call) place) (amount history call) 0) 0 ≡ increase_before place (cond b (Some (record { place = end_place call; amount = amount history call })) None)
+pub bound_more : (side : Bound) (history : List Operation) (pairs : List Pair) (pair : Pair) (place : ℕ)
+    → bound_before side history (pairs ++ pair ∷ []) place ≡ bound_before side history pairs place + increase_before place (increase_of side history pair)
+bound_more Lower history pairs pair place =
+    sum_more (amount history) (is_surely_added history) (λ c. nat_lt (end_place c) place) pairs pair
+    ∙ ap (λ n. bound_before Lower history pairs place + n) (one (is_surely_added history pair)) where
+      one : (b : Bool) → cond b (cond (nat_lt (end_place pair) place) (amount history pair) 0) 0 ≡ increase_before place (cond b (Some (record { place = end_place pair; amount = amount history pair })) None)
       one true = refl
       one false = refl
-bound_more Upper history calls call place =
-    sum_more (amount history) (may_be_added history) (λ c. nat_lt c.invoke place) calls call
-    ∙ ap (λ n. bound_before Upper history calls place + n) (one (may_be_added history call)) where
-      one : (b : Bool) → cond b (cond (nat_lt call.invoke place) (amount history call) 0) 0 ≡ increase_before place (cond b (Some (record { place = call.invoke; amount = amount history call })) None)
+bound_more Upper history pairs pair place =
+    sum_more (amount history) (may_be_added history) (λ c. nat_lt c.invoke place) pairs pair
+    ∙ ap (λ n. bound_before Upper history pairs place + n) (one (may_be_added history pair)) where
+      one : (b : Bool) → cond b (cond (nat_lt pair.invoke place) (amount history pair) 0) 0 ≡ increase_before place (cond b (Some (record { place = pair.invoke; amount = amount history pair })) None)
       one true = refl
       one false = refl

@@ -32,14 +32,14 @@ earlier_error (Some first) None = Some first
 earlier_error (Some first) (Some next) =
     if nat_lt (place_of_error next) (place_of_error first) then Some next else Some first
 
--- what a call adds to a bound, and from which place on
+-- what an operation adds to a bound, and from which place on
 abbrev pub increase_of : Bound → List Operation → Pair → Option Increase
-increase_of Lower history call =
-    if is_surely_added history call
-    then Some (record { place = end_place call; amount = amount history call }) else None
-increase_of Upper history call =
-    if may_be_added history call
-    then Some (record { place = call.invoke; amount = amount history call }) else None
+increase_of Lower history pair =
+    if is_surely_added history pair
+    then Some (record { place = end_place pair; amount = amount history pair }) else None
+increase_of Upper history pair =
+    if may_be_added history pair
+    then Some (record { place = pair.invoke; amount = amount history pair }) else None
 
 -- what it adds before a place
 abbrev pub increase_before : ℕ → Option Increase → ℕ
@@ -48,15 +48,15 @@ increase_before place (Some increase) = if nat_lt increase.place place then incr
 
 -- the bound at a place
 abbrev pub bound_before : Bound → List Operation → List Pair → ℕ → ℕ
-bound_before Lower history calls place = sure_sum_before history calls place
-bound_before Upper history calls place = possible_sum_before history calls place
+bound_before Lower history pairs place = sure_sum_before history pairs place
+bound_before Upper history pairs place = possible_sum_before history pairs place
 
 -- the bound at each place of the history and behind it
-pub record AreBounds (side : Bound) (history : List Operation) (calls : List Pair)
+pub record AreBounds (side : Bound) (history : List Operation) (pairs : List Pair)
     (totals : List ℕ) : Type 0 where
   pub long : length totals ≡ length history + 1
   pub at : (place : ℕ) → place ≤ length history
-      → slice_index totals place ≡ bound_before side history calls place
+      → slice_index totals place ≡ bound_before side history pairs place
   pub fits : (place : ℕ) → slice_index totals place < 2 ^ 127
 
 -- a read with its bounds, by what these are at each place

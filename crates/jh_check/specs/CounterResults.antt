@@ -1,6 +1,6 @@
 -- What the counter checker finds (jepsen.checker, `counter`): each read lies between the sum of
 -- what was surely added before it began and the sum of what may have been added before it ended.
--- The two sums are this project's own reading of that page. Calls are the pairs of a history;
+-- The two sums are this project's own reading of that page. An operation is a pair of a history;
 -- places are those of the whole history.
 use Rattle.std.specs.Prelude.{◌≡◌, ℕ, ◌≤◌, ◌==◌, ◌&&◌, ◌⊎◌, Bool, false, not, nat_lt, int_le, ℤ}
 use Rattle.std.specs.Prelude.{pos, negsuc, List, [], map, filter, length, slice_get, codes, sum_by}
@@ -24,22 +24,22 @@ use Rattle.jh_check.specs.declared.error.CheckError.TheVariants.{Pair as Unpaire
 use Rattle.jh_check.specs.declared.error.CheckError.TheVariants.{NegativeAdd, RepeatedAppend}
 use Rattle.jh_check.specs.declared.error.CheckError.TheVariants.{OutOfMemory}
 
--- ---- calls
+-- ---- operations
 
--- what the call asks for is the function of this name
+-- what the operation asks for is the function of this name
 abbrev pub asks : List ℕ → List Operation → Pair → Bool
-asks name history call =
-    option_map_or (λ op. is_keyword name op.f) (slice_get history call.invoke) false
+asks name history pair =
+    option_map_or (λ op. is_keyword name op.f) (slice_get history pair.invoke) false
 
--- the call has an outcome, of this kind
+-- the operation has an outcome, of this kind
 abbrev pub has_ended : Kind → List Operation → Pair → Bool
-has_ended kind history call =
+has_ended kind history pair =
     option_map_or (λ op. is_kind kind op.kind)
-    (option_and_then (slice_get history) call.outcome) false
+    (option_and_then (slice_get history) pair.outcome) false
 
--- the place of the call's outcome, or where there is none that of its invocation
+-- the place of the operation's outcome, or where there is none that of its invocation
 abbrev pub end_place : Pair → ℕ
-end_place call = unwrap_or call.outcome call.invoke
+end_place pair = unwrap_or pair.outcome pair.invoke
 
 abbrev pub value_at : List Operation → ℕ → Option Edn
 value_at history place = option_map (λ op. op.value) (slice_get history place)
@@ -58,44 +58,44 @@ integer _ = pos 0
 
 -- an add's amount is the value of its invocation
 abbrev pub amount : List Operation → Pair → ℕ
-amount history call = natural (value_at history call.invoke)
+amount history pair = natural (value_at history pair.invoke)
 
 -- an add that is known to have happened
 abbrev pub is_surely_added : List Operation → Pair → Bool
-is_surely_added history call = asks (codes "add") history call && has_ended Kind.Ok history call
+is_surely_added history pair = asks (codes "add") history pair && has_ended Kind.Ok history pair
 
 -- an add that is not known not to have happened
 abbrev pub may_be_added : List Operation → Pair → Bool
-may_be_added history call =
-    asks (codes "add") history call && not (has_ended Kind.Fail history call)
+may_be_added history pair =
+    asks (codes "add") history pair && not (has_ended Kind.Fail history pair)
 
 -- the sum of the amounts of the adds that had completed ok before a place
 abbrev pub sure_sum_before : List Operation → List Pair → ℕ → ℕ
-sure_sum_before history calls place =
+sure_sum_before history pairs place =
     sum_by (amount history)
-    (filter (λ call. is_surely_added history call && nat_lt (end_place call) place) calls)
+    (filter (λ pair. is_surely_added history pair && nat_lt (end_place pair) place) pairs)
 
 -- the sum of the amounts of the adds that were invoked before a place and do not fail, there or
 -- later
 abbrev pub possible_sum_before : List Operation → List Pair → ℕ → ℕ
-possible_sum_before history calls place =
+possible_sum_before history pairs place =
     sum_by (amount history)
-    (filter (λ call. may_be_added history call && nat_lt call.invoke place) calls)
+    (filter (λ pair. may_be_added history pair && nat_lt pair.invoke place) pairs)
 
 -- ---- reads
 
 -- a read that happened
 abbrev pub is_ok_read : List Operation → Pair → Bool
-is_ok_read history call = asks (codes "read") history call && has_ended Kind.Ok history call
+is_ok_read history pair = asks (codes "read") history pair && has_ended Kind.Ok history pair
 
 -- a read with its bounds: what was surely added before it was invoked, what may have been added
 -- before it completed
 abbrev pub bounds_of : List Operation → List Pair → Pair → ReadBounds
-bounds_of history calls read =
+bounds_of history pairs read =
     record {
-      lower = pos (sure_sum_before history calls read.invoke);
+      lower = pos (sure_sum_before history pairs read.invoke);
       value = integer (value_at history (end_place read));
-      upper = pos (possible_sum_before history calls (end_place read));
+      upper = pos (possible_sum_before history pairs (end_place read));
     }
 
 abbrev pub ends_before : Pair → Pair → Bool
@@ -103,11 +103,11 @@ ends_before a b = nat_lt (end_place a) (end_place b)
 
 -- the reads that happened, in the order of their completions
 abbrev pub reads_in : List Operation → List Pair → List Pair
-reads_in history calls = in_order ends_before (filter (is_ok_read history) calls)
+reads_in history pairs = in_order ends_before (filter (is_ok_read history) pairs)
 
 -- where they are completed, in order: the bounds of reads stand in the same
 abbrev pub read_ends : List Operation → List Pair → List ℕ
-read_ends history calls = map end_place (reads_in history calls)
+read_ends history pairs = map end_place (reads_in history pairs)
 
 -- the value lies between the bounds, both included
 abbrev pub is_in_bounds : ReadBounds → Bool
@@ -119,7 +119,7 @@ result_from reads =
     record { verdict = verdict_of (length errors == 0); reads = reads; errors = errors }
 
 abbrev pub result_of : List Operation → List Pair → CounterResult
-result_of history calls = result_from (map (bounds_of history calls) (reads_in history calls))
+result_of history pairs = result_from (map (bounds_of history pairs) (reads_in history pairs))
 
 -- the result of a history
 abbrev pub counter_result : List Operation → CounterResult
@@ -138,17 +138,17 @@ abbrev pub read_error : ℕ → Option Edn → Option CheckError
 read_error place (Some (int z)) = None
 read_error place _ = Some (BadValue place)
 
--- what is wrong with the values of a call: of an add at its invocation, whatever its outcome, of a
+-- what is wrong with the values of an operation: of an add at its invocation, whatever its outcome, of a
 -- read that happened at its completion
-abbrev pub call_error : List Operation → Pair → Option CheckError
-call_error history call =
-    if asks (codes "add") history call then add_error call.invoke (value_at history call.invoke)
-    else if is_ok_read history call
-    then read_error (end_place call) (value_at history (end_place call))
+abbrev pub value_error : List Operation → Pair → Option CheckError
+value_error history pair =
+    if asks (codes "add") history pair then add_error pair.invoke (value_at history pair.invoke)
+    else if is_ok_read history pair
+    then read_error (end_place pair) (value_at history (end_place pair))
     else None
 
 abbrev pub errors_in : List Operation → List Pair → List CheckError
-errors_in history calls = filter_map (call_error history) calls
+errors_in history pairs = filter_map (value_error history) pairs
 
 abbrev pub place_of_error : CheckError → ℕ
 place_of_error (Unpaired error) = 0
@@ -162,7 +162,7 @@ abbrev pub IsEarliest : CheckError → List CheckError → Type 0
 IsEarliest error errors =
     Contains errors error × All (λ other. place_of_error error ≤ place_of_error other) errors
 
--- its calls can be parsed and have the values that they need
+-- its operations can be parsed and have the values that they need
 abbrev pub IsCountable : List Operation → Type 0
 IsCountable history = IsWellFormed history × (errors_in history (history_pairs history) ≡ [])
 

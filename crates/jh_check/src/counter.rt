@@ -11,8 +11,8 @@ ghost use Rattle.jh_check.specs.CounterResults.{IsCountable, RefusesCounter, cou
 ghost use Rattle.jh_check.specs.CounterResults.{ends_before, reads_in};
 ghost use Rattle.jh_check.specs.CounterResults.{result_of};
 
-use crate::calls::{end_of, first_error, is_ok_read, value_read};
 use crate::error::CheckError;
+use crate::pairs::{end_of, first_error, is_ok_read, value_read};
 use crate::totals::{Bound, bounds};
 use crate::verdict::{Verdict, verdict_of};
 use jh_ops::{Op, Pair, pair};
@@ -81,7 +81,7 @@ pub struct CounterResult {
     pub errors: Reads,
 }
 
-/// How two calls compare by the places of their ends.
+/// How two operations compare by the places of their ends.
 fn compare_ends(a: &Pair, b: &Pair) -> Ordering
     ensures { is_lt result ≡ ends_before a.now b.now }
 {
@@ -89,33 +89,33 @@ fn compare_ends(a: &Pair, b: &Pair) -> Ordering
 }
 
 /// The reads that happened, in the order of their completions.
-fn sorted_reads(alloc: Global, history: &[Op], calls: &[Pair]) -> Result<Vec<Pair>, AllocError>
+fn sorted_reads(alloc: Global, history: &[Op], pairs: &[Pair]) -> Result<Vec<Pair>, AllocError>
     ensures reads { IfOk result
-        (λ reads. reads.items ≡ reads_in (operations history.now) calls.now) }
-    ensures within { All (IsPairWithin (length history.now)) calls.now
+        (λ reads. reads.items ≡ reads_in (operations history.now) pairs.now) }
+    ensures within { All (IsPairWithin (length history.now)) pairs.now
         → IfOk result (λ reads. All (IsPairWithin (length history.now)) reads.items) }
 {
     let mut reads = Vec::new(alloc);
-    for call in calls {
-        if is_ok_read(history, *call) {
-            reads.push(*call)?;
+    for pair in pairs {
+        if is_ok_read(history, *pair) {
+            reads.push(*pair)?;
         }
     }
     reads.sort_by(compare_ends)?;
     Ok(reads)
 }
 
-/// Where those of these calls of a history end that are reads which happened, in order: where these
-/// are the calls that `check_counter` judges, in the order of the reads of its result.
+/// Where those of these operations of a history end that are reads which happened, in order: where
+/// these are the operations that `check_counter` judges, in the order of the reads of its result.
 ///
 /// Errors: where memory runs out.
 ///
-/// Takes O(n log n) for n calls.
-pub fn read_ends(alloc: Global, history: &[Op], calls: &[Pair]) -> Result<Vec<usize>, AllocError>
+/// Takes O(n log n) for n operations.
+pub fn read_ends(alloc: Global, history: &[Op], pairs: &[Pair]) -> Result<Vec<usize>, AllocError>
     ensures { IfOk result
-        (λ ends. ends.items ≡ rule.read_ends (operations history.now) calls.now) }
+        (λ ends. ends.items ≡ rule.read_ends (operations history.now) pairs.now) }
 {
-    let reads = sorted_reads(alloc, history, calls)?;
+    let reads = sorted_reads(alloc, history, pairs)?;
     let mut ends = Vec::new(alloc);
     for read in &reads {
         ends.push(end_of(*read))?;
@@ -143,16 +143,16 @@ fn bounds_of(history: &[Op], read: Pair, lower: &[u128], upper: &[u128]) -> Read
 fn bounded_reads(
     alloc: Global,
     history: &[Op],
-    calls: &[Pair],
+    pairs: &[Pair],
 ) -> Result<Vec<ReadBounds>, AllocError>
-    requires { All (IsPairWithin (length history.now)) calls.now }
+    requires { All (IsPairWithin (length history.now)) pairs.now }
     ensures { IfOk result (λ bounded. bounded.items
-        ≡ map (rule.bounds_of (operations history.now) calls.now)
-        (reads_in (operations history.now) calls.now)) }
+        ≡ map (rule.bounds_of (operations history.now) pairs.now)
+        (reads_in (operations history.now) pairs.now)) }
 {
-    let lower = bounds(alloc, Bound::Lower, history, calls)?;
-    let upper = bounds(alloc, Bound::Upper, history, calls)?;
-    let reads = sorted_reads(alloc, history, calls)?;
+    let lower = bounds(alloc, Bound::Lower, history, pairs)?;
+    let upper = bounds(alloc, Bound::Upper, history, pairs)?;
+    let reads = sorted_reads(alloc, history, pairs)?;
     let mut bounded = Vec::new(alloc);
     for read in &reads {
         bounded.push(bounds_of(history, *read, &lower, &upper))?;
@@ -182,12 +182,12 @@ fn errors_of(alloc: Global, reads: &[ReadBounds]) -> Result<Vec<ReadBounds>, All
     Ok(errors)
 }
 
-/// What the counter checker says of a history with these calls.
-fn judged(alloc: Global, history: &[Op], calls: &[Pair]) -> Result<CounterResult, AllocError>
-    requires { All (IsPairWithin (length history.now)) calls.now }
-    ensures { IfOk result (λ found. found ≡ result_of (operations history.now) calls.now) }
+/// What the counter checker says of a history with these operations.
+fn judged(alloc: Global, history: &[Op], pairs: &[Pair]) -> Result<CounterResult, AllocError>
+    requires { All (IsPairWithin (length history.now)) pairs.now }
+    ensures { IfOk result (λ found. found ≡ result_of (operations history.now) pairs.now) }
 {
-    let reads = bounded_reads(alloc, history, calls)?;
+    let reads = bounded_reads(alloc, history, pairs)?;
     let errors = errors_of(alloc, &reads)?;
     Ok(CounterResult {
         verdict: verdict_of(errors.is_empty()),
@@ -215,9 +215,9 @@ pub fn check_counter(alloc: Global, history: &[Op]) -> Result<CounterResult, Che
         × (found ≡ counter_result (operations history.now)))
         (RefusesCounter (operations history.now)) }
 {
-    let calls = pair(alloc, history)?;
-    if let Some(error) = first_error(history, &calls) {
+    let pairs = pair(alloc, history)?;
+    if let Some(error) = first_error(history, &pairs) {
         return Err(error);
     }
-    Ok(judged(alloc, history, &calls)?)
+    Ok(judged(alloc, history, &pairs)?)
 }

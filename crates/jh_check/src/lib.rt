@@ -2,7 +2,6 @@
 #![tactic(auto)]
 
 mod asked;
-mod calls;
 mod counter;
 mod distinct;
 mod elements;
@@ -10,17 +9,18 @@ mod error;
 mod ids;
 mod laws;
 mod lines;
+mod pairs;
 mod set;
 mod totals;
 mod verdict;
 
 pub use asked::in_normal_order;
-pub use calls::{end_of, is_ok_read};
 pub use counter::{CounterResult, ReadBounds, Reads, check_counter, read_ends};
 pub use distinct::is_among;
 pub use error::CheckError;
 pub use ids::{Duplicate, Duplicates, IdsResult, check_unique};
 pub use laws::same_values_are_equal;
 pub use lines::{write_counter, write_ids, write_set, write_verdict};
+pub use pairs::{end_of, is_ok_read};
 pub use set::{SetFound, SetResult, check_set, final_read};
 pub use verdict::{Verdict, merge};

@@ -12,7 +12,7 @@ ghost use Rattle.jh_check.specs.CounterInside as inside;
 ghost use Rattle.jh_check.specs.CounterInside.{AreBounds, bound_before, increase_before};
 ghost use Rattle.std.specs.Option.{ForSome};
 
-use crate::calls::{amount, end_of, is_surely_added, may_be_added};
+use crate::pairs::{amount, end_of, is_surely_added, may_be_added};
 use jh_ops::{Op, Pair};
 use std::alloc::{AllocError, Global};
 
@@ -32,21 +32,21 @@ pub(crate) struct Increase {
     pub(crate) amount: u64,
 }
 
-/// What a call adds to a bound, and from which place on.
-fn increase_of(side: Bound, history: &[Op], call: Pair) -> Option<Increase>
-    requires { IsPairWithin (length history.now) call }
-    ensures increase { result ≡ inside.increase_of side (operations history.now) call }
+/// What an operation adds to a bound, and from which place on.
+fn increase_of(side: Bound, history: &[Op], pair: Pair) -> Option<Increase>
+    requires { IsPairWithin (length history.now) pair }
+    ensures increase { result ≡ inside.increase_of side (operations history.now) pair }
     ensures bound { IfSome result (λ increase. increase.amount < 2 ^ 63) }
     ensures there { IfSome result (λ increase. increase.place < length history.now) }
 {
     match side {
-        Bound::Lower if is_surely_added(history, call) => Some(Increase {
-            place: end_of(call),
-            amount: amount(history, call),
+        Bound::Lower if is_surely_added(history, pair) => Some(Increase {
+            place: end_of(pair),
+            amount: amount(history, pair),
         }),
-        Bound::Upper if may_be_added(history, call) => Some(Increase {
-            place: call.invoke,
-            amount: amount(history, call),
+        Bound::Upper if may_be_added(history, pair) => Some(Increase {
+            place: pair.invoke,
+            amount: amount(history, pair),
         }),
         _ => None,
     }
@@ -67,24 +67,24 @@ fn add_at(amounts: &mut Vec<u128>, increase: Option<Increase>)
     }
 }
 
-/// What calls add to a bound at each place.
+/// What operations add to a bound at each place.
 fn amounts_of(
     alloc: Global,
     side: Bound,
     history: &[Op],
-    calls: &[Pair],
+    pairs: &[Pair],
 ) -> Result<Vec<u128>, AllocError>
-    requires { All (IsPairWithin (length history.now)) calls.now }
+    requires { All (IsPairWithin (length history.now)) pairs.now }
     ensures long { IfOk result (λ amounts. vec_len amounts ≡ length history.now) }
     ensures sums { IfOk result
         (λ amounts. (place : ℕ) → place ≤ length history.now
         → sum (take place amounts.items)
-        ≡ bound_before side (operations history.now) calls.now place) }
+        ≡ bound_before side (operations history.now) pairs.now place) }
     ensures fits { IfOk result (λ amounts. sum amounts.items < 2 ^ 127) }
 {
     let mut amounts = vec![in alloc; 0u128; history.len()]?;
-    for call in calls {
-        add_at(&mut amounts, increase_of(side, history, *call));
+    for pair in pairs {
+        add_at(&mut amounts, increase_of(side, history, *pair));
     }
     Ok(amounts)
 }
@@ -111,12 +111,12 @@ pub(crate) fn bounds(
     alloc: Global,
     side: Bound,
     history: &[Op],
-    calls: &[Pair],
+    pairs: &[Pair],
 ) -> Result<Vec<u128>, AllocError>
-    requires { All (IsPairWithin (length history.now)) calls.now }
+    requires { All (IsPairWithin (length history.now)) pairs.now }
     ensures { IfOk result
-        (λ totals. AreBounds side (operations history.now) calls.now totals.items) }
+        (λ totals. AreBounds side (operations history.now) pairs.now totals.items) }
 {
-    let amounts = amounts_of(alloc, side, history, calls)?;
+    let amounts = amounts_of(alloc, side, history, pairs)?;
     sums_before(alloc, &amounts)
 }

@@ -7,7 +7,7 @@ use Rattle.jh_ops.specs.Pairing.{history_pairs}
 use Rattle.jh_ops.specs.declared.call.Request.TheVariants.{Read, Write, Cas, Add, Generate, Txn}
 use Rattle.jh_ops.specs.declared.call.Workload.TheVariants.{Counter}
 use Rattle.jh_ops.specs.declared.pairs.Pair.{Pair}
-use Rattle.jh_check.specs.CounterResults.{call_error, errors_in, IsEarliest}
+use Rattle.jh_check.specs.CounterResults.{value_error, errors_in, IsEarliest}
 use Rattle.jh_check.specs.declared.error.CheckError.{CheckError}
 use Rattle.jh_simnode.specs.declared.replicas.Got.{Got}
 use Rattle.jh_simnode.specs.declared.replicas.Reply.TheVariants as replied
@@ -18,7 +18,7 @@ use Rattle.jh_run_laws.proofs.PairLemmas.{Each, FromCall, each_pair}
 
 -- the call at a place is not in error
 abbrev NoError : List Operation → Pair → Type 0
-NoError history pair = call_error history pair ≡ None
+NoError history pair = value_error history pair ≡ None
 
 counted : FromCall Counter NoError
 counted history place number process Read (replied.Ok (Got.One (Some z))) here there suits fits = rw (here, there) refl

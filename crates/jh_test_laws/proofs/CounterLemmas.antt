@@ -4,7 +4,7 @@ use Rattle.std.specs.Prelude.{codes, pos, negsuc, slice_get, Option, None, Some,
 use Rattle.std.specs.List.{AllByRecursion, Contains}
 use Rattle.std.specs.Option.{option_map, option_map_or}
 use Rattle.std.proofs.lemmas.Bool.{and_parts, cond_both, false≢true}
-use Rattle.jh_check.specs.CounterResults.{IsEarliest, add_error, asks, call_error, end_place, errors_in, has_ended, is_ok_read, read_error, value_at}
+use Rattle.jh_check.specs.CounterResults.{IsEarliest, add_error, asks, value_error, end_place, errors_in, has_ended, is_ok_read, read_error, value_at}
 use Rattle.jh_check.specs.declared.error.CheckError.{CheckError}
 use Rattle.jh_checkers.specs.declared.checker.Checker.TheVariants.{Counter}
 use Rattle.jh_edn.specs.Edn.{Edn, nil, boolean, int, char, str, keyword, symbol, list, vector, mapping, set, tagged, is_integer, is_keyword}
@@ -21,7 +21,7 @@ use Rattle.jh_test_laws.proofs.PairLemmas.{IsEndAt, IsPairOf, all_pairs}
 use Rattle.jh_test_laws.proofs.ReadLemmas.{good_read}
 
 abbrev NoError : List Operation → Pair → Type 0
-NoError history pair = call_error history pair ≡ None
+NoError history pair = value_error history pair ≡ None
 
 whole : (place : ℕ) (value : Edn) → is_integer value ≡ true → read_error place (Some value) ≡ None
 whole place nil e = absurd (false≢true e)

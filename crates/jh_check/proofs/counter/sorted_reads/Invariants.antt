@@ -4,5 +4,5 @@ use Rattle.jh_ops.specs.Operation.{operations}
 use Rattle.jh_check.specs.CounterResults.{is_ok_read}
 use Rattle.jh_check.proofs.counter.sorted_reads.Given as goal
 
-abbrev pub invariant-loop-call : goal.invariant-loop-call
-invariant-loop-call l = l.reads.items ≡ filter (is_ok_read (operations l.history)) (take l.call-index l.calls)
+abbrev pub invariant-loop-pair : goal.invariant-loop-pair
+invariant-loop-pair l = l.reads.items ≡ filter (is_ok_read (operations l.history)) (take l.pair-index l.pairs)

@@ -1,4 +1,4 @@
-//! The calls of a counter's history, by the pairs of their operations. `specs/CounterResults.antt`
+//! The operations of a counter's history, by pairs of their records. `specs/CounterResults.antt`
 //! has the rule.
 
 ghost use Rattle.std.specs.Prelude.{◌≡◌, ◌^◌, ◌<◌, IfSome, option_map, slice_get};
@@ -21,21 +21,21 @@ fn op_at(history: &[Op], place: usize) -> Option<&Op>
     history.get(place)
 }
 
-/// Whether what the call asks for is the function of this name.
-fn asks(name: &str, history: &[Op], call: Pair) -> bool
-    ensures { result ≡ rule.asks name.now (operations history.now) call }
+/// Whether what the operation asks for is the function of this name.
+fn asks(name: &str, history: &[Op], pair: Pair) -> bool
+    ensures { result ≡ rule.asks name.now (operations history.now) pair }
 {
-    match op_at(history, call.invoke) {
+    match op_at(history, pair.invoke) {
         Some(op) => op.f.is_keyword(name),
         None => false,
     }
 }
 
-/// Whether the call has an outcome of this kind.
-fn has_ended(kind: Kind, history: &[Op], call: Pair) -> bool
-    ensures { result ≡ rule.has_ended kind (operations history.now) call }
+/// Whether the operation has an outcome of this kind.
+fn has_ended(kind: Kind, history: &[Op], pair: Pair) -> bool
+    ensures { result ≡ rule.has_ended kind (operations history.now) pair }
 {
-    let Some(place) = call.outcome else {
+    let Some(place) = pair.outcome else {
         return false;
     };
     match op_at(history, place) {
@@ -52,11 +52,11 @@ fn value_at(history: &[Op], place: usize) -> Option<&Value>
     Some(&op_at(history, place)?.value)
 }
 
-/// The place of a call's outcome, or where there is none that of its invocation.
-pub fn end_of(call: Pair) -> usize
-    ensures { result ≡ rule.end_place call }
+/// The place of an operation's outcome, or where there is none that of its invocation.
+pub fn end_of(pair: Pair) -> usize
+    ensures { result ≡ rule.end_place pair }
 {
-    call.outcome.unwrap_or(call.invoke)
+    pair.outcome.unwrap_or(pair.invoke)
 }
 
 /// The integer from 0 on that a value is, and 0 for any other.
@@ -81,40 +81,40 @@ fn integer(value: Option<&Value>) -> i64
 }
 
 /// The amount of an add.
-pub(crate) fn amount(history: &[Op], call: Pair) -> u64
-    ensures value { result ≡ rule.amount (operations history.now) call }
+pub(crate) fn amount(history: &[Op], pair: Pair) -> u64
+    ensures value { result ≡ rule.amount (operations history.now) pair }
     ensures bound { result < 2 ^ 63 }
 {
-    natural(value_at(history, call.invoke))
+    natural(value_at(history, pair.invoke))
 }
 
 /// What a read gave.
-pub(crate) fn value_read(history: &[Op], call: Pair) -> i64
-    ensures { result ≡ rule.integer (rule.value_at (operations history.now) (rule.end_place call)) }
+pub(crate) fn value_read(history: &[Op], pair: Pair) -> i64
+    ensures { result ≡ rule.integer (rule.value_at (operations history.now) (rule.end_place pair)) }
 {
-    integer(value_at(history, end_of(call)))
+    integer(value_at(history, end_of(pair)))
 }
 
-/// Whether the call is an add that is known to have happened.
-pub(crate) fn is_surely_added(history: &[Op], call: Pair) -> bool
-    ensures { result ≡ rule.is_surely_added (operations history.now) call }
+/// Whether the operation is an add that is known to have happened.
+pub(crate) fn is_surely_added(history: &[Op], pair: Pair) -> bool
+    ensures { result ≡ rule.is_surely_added (operations history.now) pair }
 {
-    asks("add", history, call) && has_ended(Kind::Ok, history, call)
+    asks("add", history, pair) && has_ended(Kind::Ok, history, pair)
 }
 
-/// Whether the call is an add that may have happened.
-pub(crate) fn may_be_added(history: &[Op], call: Pair) -> bool
-    ensures { result ≡ rule.may_be_added (operations history.now) call }
+/// Whether the operation is an add that may have happened.
+pub(crate) fn may_be_added(history: &[Op], pair: Pair) -> bool
+    ensures { result ≡ rule.may_be_added (operations history.now) pair }
 {
-    asks("add", history, call) && !has_ended(Kind::Fail, history, call)
+    asks("add", history, pair) && !has_ended(Kind::Fail, history, pair)
 }
 
-/// Whether a call of a counter's history is a read that happened: its invocation asks for `:read`,
+/// Whether an operation of a counter's history is a read that happened: its invocation asks for `:read`,
 /// and it is completed as `:ok`. A place that the history does not have makes it none.
-pub fn is_ok_read(history: &[Op], call: Pair) -> bool
-    ensures { result ≡ rule.is_ok_read (operations history.now) call }
+pub fn is_ok_read(history: &[Op], pair: Pair) -> bool
+    ensures { result ≡ rule.is_ok_read (operations history.now) pair }
 {
-    asks("read", history, call) && has_ended(Kind::Ok, history, call)
+    asks("read", history, pair) && has_ended(Kind::Ok, history, pair)
 }
 
 /// What is wrong with the amount of an add at a place.
@@ -140,15 +140,15 @@ fn read_error(place: usize, value: Option<&Value>) -> Option<CheckError>
     }
 }
 
-/// What is wrong with the values of a call.
-fn call_error(history: &[Op], call: Pair) -> Option<CheckError>
-    ensures error { result ≡ rule.call_error (operations history.now) call }
+/// What is wrong with the values of an operation.
+fn value_error(history: &[Op], pair: Pair) -> Option<CheckError>
+    ensures error { result ≡ rule.value_error (operations history.now) pair }
     ensures kind { IfSome result IsValueError }
 {
-    if asks("add", history, call) {
-        add_error(call.invoke, value_at(history, call.invoke))
-    } else if is_ok_read(history, call) {
-        read_error(end_of(call), value_at(history, end_of(call)))
+    if asks("add", history, pair) {
+        add_error(pair.invoke, value_at(history, pair.invoke))
+    } else if is_ok_read(history, pair) {
+        read_error(end_of(pair), value_at(history, end_of(pair)))
     } else {
         None
     }
@@ -183,13 +183,13 @@ fn earlier(first: Option<CheckError>, next: Option<CheckError>) -> Option<CheckE
     }
 }
 
-/// The first error of the values of calls.
-pub(crate) fn first_error(history: &[Op], calls: &[Pair]) -> Option<CheckError>
-    ensures { IsFirstOf result (errors_in (operations history.now) calls.now) }
+/// The first error of the values of operations.
+pub(crate) fn first_error(history: &[Op], pairs: &[Pair]) -> Option<CheckError>
+    ensures { IsFirstOf result (errors_in (operations history.now) pairs.now) }
 {
     let mut first = None;
-    for call in calls {
-        first = earlier(first, call_error(history, *call));
+    for pair in pairs {
+        first = earlier(first, value_error(history, *pair));
     }
     first
 }
