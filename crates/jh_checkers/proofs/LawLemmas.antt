@@ -66,19 +66,19 @@ somes_one (x ∷ xs) (y ∷ ys) e =
 operations_one : (history : List Operation) (a b : List RegOp) → AreRegisterOps history a → AreRegisterOps history b → a ≡ b
 operations_one history a b x y = somes_one a b (sym x.1 ∙ y.1)
 
-orders_agree : (calls : List RegOp) (initial : Option ℤ) (budget : ℕ) (a b : LinVerdict) → IsJudged calls initial budget a → IsJudged calls initial budget b
+orders_agree : (ops : List RegOp) (initial : Option ℤ) (budget : ℕ) (a b : LinVerdict) → IsJudged ops initial budget a → IsJudged ops initial budget b
     → verdict_of_register a ≡ Verdict.True → verdict_of_register b ≡ Verdict.False → ⊥
-orders_agree calls initial budget (Valid order) (Invalid stuck) x y yes_a no_b = y.1 order x.1
-orders_agree calls initial budget (Valid order) (Valid other) x y yes_a no_b = absurd cc
-orders_agree calls initial budget (Valid order) (Unknown reached) x y yes_a no_b = absurd cc
-orders_agree calls initial budget (Invalid stuck) b x y yes_a no_b = absurd cc
-orders_agree calls initial budget (Unknown reached) b x y yes_a no_b = absurd cc
+orders_agree ops initial budget (Valid order) (Invalid stuck) x y yes_a no_b = y.1 order x.1
+orders_agree ops initial budget (Valid order) (Valid other) x y yes_a no_b = absurd cc
+orders_agree ops initial budget (Valid order) (Unknown reached) x y yes_a no_b = absurd cc
+orders_agree ops initial budget (Invalid stuck) b x y yes_a no_b = absurd cc
+orders_agree ops initial budget (Unknown reached) b x y yes_a no_b = absurd cc
 
 registers_agree : (judging : Judging) (history : List Operation) (a b : Finding) → IsFindingBy Checker.Register judging history a
     → IsFindingBy Checker.Register judging history b → finding_verdict a ≡ Verdict.True → finding_verdict b ≡ Verdict.False → ⊥
 registers_agree judging history (Register a d) (Register b e) x y yes_a no_b =
     orders_agree x.0 judging.initial judging.budget a b x.2
-    (subst (λ calls. IsJudged calls judging.initial judging.budget b) (operations_one history y.0 x.0 y.1 x.1) y.2) yes_a no_b
+    (subst (λ ops. IsJudged ops judging.initial judging.budget b) (operations_one history y.0 x.0 y.1 x.1) y.2) yes_a no_b
 registers_agree judging history (Register a d) (Set b) x y yes_a no_b = y
 registers_agree judging history (Register a d) (Counter b) x y yes_a no_b = y
 registers_agree judging history (Register a d) (Ids b) x y yes_a no_b = y
@@ -104,8 +104,8 @@ verdicts_agree Checker.ListAppend judging history a b append x y = absurd (appen
 
 -- ---- one place where a register is stuck
 
-same_end : (calls : List RegOp) (initial : Option ℤ) (a b : Stuck) → IsStuck calls initial a → IsStuck calls initial b → a.end ≡ b.end
-same_end calls initial a b x y =
+same_end : (ops : List RegOp) (initial : Option ℤ) (a b : Stuck) → IsStuck ops initial a → IsStuck ops initial b → a.end ≡ b.end
+same_end ops initial a b x y =
     let not_below : a.end < b.end → ⊥ = λ less. (let order = y.least (a.end + 1) (omega arith) in x.behind order.0 order.1) in
     let not_above : b.end < a.end → ⊥ = λ less. (let order = x.least (b.end + 1) (omega arith) in y.behind order.0 order.1) in
     omega (arith, not_below, not_above)
@@ -113,31 +113,31 @@ same_end calls initial a b x y =
 somes_same : {X : Type 0} (x y : X) → Some x ≡ Some y → x ≡ y
 somes_same x y e = cc
 
-same_explained : (history : List Operation) (calls : List RegOp) (a b : ℕ) (d e : Option Explanation) → a ≡ b
-    → IsSomeAnd d (Explains history calls a) → IsSomeAnd e (Explains history calls b) → stuck_point d ≡ stuck_point e
-same_explained history calls a b None e same x y = absurd x
-same_explained history calls a b (Some d) None same x y = absurd y
-same_explained history calls a b (Some d) (Some e) same x y =
+same_explained : (history : List Operation) (ops : List RegOp) (a b : ℕ) (d e : Option Explanation) → a ≡ b
+    → IsSomeAnd d (Explains history ops a) → IsSomeAnd e (Explains history ops b) → stuck_point d ≡ stuck_point e
+same_explained history ops a b None e same x y = absurd x
+same_explained history ops a b (Some d) None same x y = absurd y
+same_explained history ops a b (Some d) (Some e) same x y =
     let one : operation d.completion ≡ operation e.completion =
     somes_same (operation d.completion) (operation e.completion) (sym x.completion ∙ ap (slice_get history) same ∙ y.completion) in
-    let pending : d.pending.items ≡ e.pending.items = x.pending ∙ ap (numbers_pending calls) same ∙ sym y.pending in
+    let pending : d.pending.items ≡ e.pending.items = x.pending ∙ ap (numbers_pending ops) same ∙ sym y.pending in
     λ i. Some (one i, pending i)
 
-same_stuck : (explain : Bool) (history : List Operation) (calls : List RegOp) (initial : Option ℤ) (budget : ℕ) (a b : LinVerdict) (d e : Option Explanation)
-    → IsJudged calls initial budget a → IsJudged calls initial budget b → IsExplained explain history calls a d → IsExplained explain history calls b e
+same_stuck : (explain : Bool) (history : List Operation) (ops : List RegOp) (initial : Option ℤ) (budget : ℕ) (a b : LinVerdict) (d e : Option Explanation)
+    → IsJudged ops initial budget a → IsJudged ops initial budget b → IsExplained explain history ops a d → IsExplained explain history ops b e
     → verdict_of_register a ≡ Verdict.False → verdict_of_register b ≡ Verdict.False → stuck_point d ≡ stuck_point e
-same_stuck true history calls initial budget (Invalid a) (Invalid b) d e x y m n no_a no_b =
-    same_explained history calls a.end b.end d e (same_end calls initial a b x.2 y.2) m n
-same_stuck false history calls initial budget (Invalid a) (Invalid b) d e x y m n no_a no_b = ap stuck_point (m ∙ sym n)
-same_stuck explain history calls initial budget (Invalid a) (Valid order) d e x y m n no_a no_b = absurd cc
-same_stuck explain history calls initial budget (Invalid a) (Unknown reached) d e x y m n no_a no_b = absurd cc
-same_stuck explain history calls initial budget (Valid order) b d e x y m n no_a no_b = absurd cc
-same_stuck explain history calls initial budget (Unknown reached) b d e x y m n no_a no_b = absurd cc
+same_stuck true history ops initial budget (Invalid a) (Invalid b) d e x y m n no_a no_b =
+    same_explained history ops a.end b.end d e (same_end ops initial a b x.2 y.2) m n
+same_stuck false history ops initial budget (Invalid a) (Invalid b) d e x y m n no_a no_b = ap stuck_point (m ∙ sym n)
+same_stuck explain history ops initial budget (Invalid a) (Valid order) d e x y m n no_a no_b = absurd cc
+same_stuck explain history ops initial budget (Invalid a) (Unknown reached) d e x y m n no_a no_b = absurd cc
+same_stuck explain history ops initial budget (Valid order) b d e x y m n no_a no_b = absurd cc
+same_stuck explain history ops initial budget (Unknown reached) b d e x y m n no_a no_b = absurd cc
 
 registers_stuck : (judging : Judging) (history : List Operation) (a b : Finding) → IsFindingBy Checker.Register judging history a
     → IsFindingBy Checker.Register judging history b → finding_verdict a ≡ Verdict.False → finding_verdict b ≡ Verdict.False → stuck_point_of a ≡ stuck_point_of b
 registers_stuck judging history (Register a d) (Register b e) x y no_a no_b =
-    let Q : List RegOp → Type 0 = λ calls. IsJudged calls judging.initial judging.budget b × IsExplained judging.explain history calls b e in
+    let Q : List RegOp → Type 0 = λ ops. IsJudged ops judging.initial judging.budget b × IsExplained judging.explain history ops b e in
     let also = subst Q (operations_one history y.0 x.0 y.1 x.1) (y.2, y.3) in
     same_stuck judging.explain history x.0 judging.initial judging.budget a b d e x.2 also.0 x.3 also.1 no_a no_b
 registers_stuck judging history (Register a d) (Set b) x y no_a no_b = absurd y

@@ -28,26 +28,26 @@ mapped_from : {A B : Type 0} (f : A → B) (found : Option A) (y : B) → option
 mapped_from f None y e = absurd cc
 mapped_from f (Some x) y e = (x, cc)
 
-done_within : (history : List Operation) (pair : Pair) (call : RegOp) → reg_op_of history pair ≡ Some call → call.outcome ≡ Done → op_end call < length history
-done_within history pair call given done =
-    let from = mapped_from (op_with_call history pair) _ call given in
+done_within : (history : List Operation) (pair : Pair) (op : RegOp) → reg_op_of history pair ≡ Some op → op.outcome ≡ Done → op_end op < length history
+done_within history pair op given done =
+    let from = mapped_from (op_with_call history pair) _ op given in
     subst (λ (c : RegOp). op_end c < length history) from.1
     (ends_within history pair.outcome (ap (λ (c : RegOp). c.outcome) from.1 ∙ done))
 
-one_within : (history : List Operation) (pairs : List Pair) (calls : List RegOp) (place : ℕ) → AreRegOps history pairs calls
-    → IsDone calls place → op_end (op_at calls place) < length history
+one_within : (history : List Operation) (pairs : List Pair) (ops : List RegOp) (place : ℕ) → AreRegOps history pairs ops
+    → IsDone ops place → op_end (op_at ops place) < length history
 one_within history [] [] place are done = absurd cc
-one_within history [] (call ∷ calls) place are done = absurd cc
+one_within history [] (op ∷ ops) place are done = absurd cc
 one_within history (pair ∷ pairs) [] place are done = absurd cc
-one_within history (pair ∷ pairs) (call ∷ calls) zero are done =
-    let given : reg_op_of history pair ≡ Some call = cc in
-    done_within history pair call given done
-one_within history (pair ∷ pairs) (call ∷ calls) (suc place) are done =
-    let others : AreRegOps history pairs calls = cc in
-    one_within history pairs calls place others done
+one_within history (pair ∷ pairs) (op ∷ ops) zero are done =
+    let given : reg_op_of history pair ≡ Some op = cc in
+    done_within history pair op given done
+one_within history (pair ∷ pairs) (op ∷ ops) (suc place) are done =
+    let others : AreRegOps history pairs ops = cc in
+    one_within history pairs ops place others done
 
-pub stuck_within : (history : List Operation) (calls : List RegOp) (initial : Option ℤ) (stuck : Stuck) → AreRegisterOps history calls
-    → IsStuck calls initial stuck → stuck.end < length history
-stuck_within history calls initial stuck are is =
+pub stuck_within : (history : List Operation) (ops : List RegOp) (initial : Option ℤ) (stuck : Stuck) → AreRegisterOps history ops
+    → IsStuck ops initial stuck → stuck.end < length history
+stuck_within history ops initial stuck are is =
     let completion = is.completion in
-    subst (λ (end : ℕ). end < length history) completion.2 (one_within history (history_pairs history) calls completion.0 are.1 completion.1)
+    subst (λ (end : ℕ). end < length history) completion.2 (one_within history (history_pairs history) ops completion.0 are.1 completion.1)

@@ -23,27 +23,27 @@ is_open_at place Unsure end = true
 
 -- The operation was invoked before this place of the history, and is open there.
 abbrev pub is_pending : ℕ → RegOp → Bool
-is_pending place call = nat_lt call.invoked place && is_open_at place call.outcome (op_end call)
+is_pending place op = nat_lt op.invoked place && is_open_at place op.outcome (op_end op)
 
 -- the numbers of the operations that are pending at this place of the history, ascending
 abbrev pub numbers_pending : List RegOp → ℕ → List ℕ
-numbers_pending calls end =
+numbers_pending ops end =
     map (λ numbered. numbered.0)
-    (filter (λ numbered. is_pending end numbered.1) (enumerate_from 0 calls))
+    (filter (λ numbered. is_pending end numbered.1) (enumerate_from 0 ops))
 
 -- At this place the history has the completion, and these operations are pending.
-pub record Explains (history : List Operation) (calls : List RegOp) (end : ℕ)
+pub record Explains (history : List Operation) (ops : List RegOp) (end : ℕ)
     (explanation : Explanation) : Type 0 where
   pub completion : slice_get history end ≡ Some (operation explanation.completion)
-  pub pending : explanation.pending.items ≡ numbers_pending calls end
+  pub pending : explanation.pending.items ≡ numbers_pending ops end
 
 -- What stands beside a verdict where an explanation is asked for, or is not: one of the completion
 -- at which a no is stuck, and none beside any other verdict.
 abbrev pub IsExplained : Bool → List Operation → List RegOp → LinVerdict → Option Explanation
     → Type 0
-IsExplained true history calls (Invalid stuck) explanation =
-    IsSomeAnd explanation (Explains history calls stuck.end)
-IsExplained asked history calls judged explanation = explanation ≡ None
+IsExplained true history ops (Invalid stuck) explanation =
+    IsSomeAnd explanation (Explains history ops stuck.end)
+IsExplained asked history ops judged explanation = explanation ≡ None
 
 -- what of an explanation no choice of an order changes: the completion, and what is pending there
 abbrev pub stuck_point : Option Explanation → Option (Operation × List ℕ)

@@ -25,31 +25,30 @@ pub struct Explanation {
 }
 
 /// Whether an operation is still open at a place of the history.
-fn is_open_at(place: usize, call: RegOp) -> bool
-    ensures { result ≡ rule.is_open_at place call.outcome (stuck.op_end call) }
+fn is_open_at(place: usize, op: RegOp) -> bool
+    ensures { result ≡ rule.is_open_at place op.outcome (stuck.op_end op) }
 {
-    match call.outcome {
-        Outcome::Done => place <= op_end(call),
+    match op.outcome {
+        Outcome::Done => place <= op_end(op),
         Outcome::Failed => false,
         Outcome::Unsure => true,
     }
 }
 
 /// Whether an operation was invoked before a place of the history, and is open there.
-fn is_pending(place: usize, call: RegOp) -> bool
-    ensures { result ≡ rule.is_pending place call }
+fn is_pending(place: usize, op: RegOp) -> bool
+    ensures { result ≡ rule.is_pending place op }
 {
-    call.invoked < place && is_open_at(place, call)
+    op.invoked < place && is_open_at(place, op)
 }
 
 /// The numbers of the operations that are pending at this place of the history.
-fn pending_at(alloc: Global, calls: &[RegOp], end: usize) -> Result<Vec<usize>, AllocError>
-    ensures { IfOk result (λ pending. pending.items ≡ rule.numbers_pending calls.now end) }
+fn pending_at(alloc: Global, ops: &[RegOp], end: usize) -> Result<Vec<usize>, AllocError>
+    ensures { IfOk result (λ pending. pending.items ≡ rule.numbers_pending ops.now end) }
 {
-    calls
-        .iter()
+    ops.iter()
         .enumerate()
-        .filter(|(_, call)| is_pending(end, **call))
+        .filter(|(_, op)| is_pending(end, **op))
         .map(|(number, _)| number)
         .collect(alloc)
 }
@@ -58,15 +57,15 @@ fn pending_at(alloc: Global, calls: &[RegOp], end: usize) -> Result<Vec<usize>, 
 fn explanation_at(
     alloc: Global,
     history: &[Op],
-    calls: &[RegOp],
+    ops: &[RegOp],
     end: usize,
 ) -> Result<Explanation, AllocError>
     requires { end < length history.now }
-    ensures { IfOk result (Explains (operations history.now) calls.now end) }
+    ensures { IfOk result (Explains (operations history.now) ops.now end) }
 {
     Ok(Explanation {
         completion: history[end].copy(alloc)?,
-        pending: pending_at(alloc, calls, end)?,
+        pending: pending_at(alloc, ops, end)?,
     })
 }
 
@@ -77,15 +76,15 @@ pub(crate) fn explained(
     alloc: Global,
     explain: bool,
     history: &[Op],
-    calls: &[RegOp],
+    ops: &[RegOp],
     judged: &LinVerdict,
 ) -> Result<Option<Explanation>, AllocError>
     requires { (stuck : Stuck) → judged.now ≡ Invalid stuck → stuck.end < length history.now }
-    ensures { IfOk result (IsExplained explain (operations history.now) calls.now judged.now) }
+    ensures { IfOk result (IsExplained explain (operations history.now) ops.now judged.now) }
 {
     match judged {
         LinVerdict::Invalid(stuck) if explain => {
-            Ok(Some(explanation_at(alloc, history, calls, stuck.end)?))
+            Ok(Some(explanation_at(alloc, history, ops, stuck.end)?))
         }
         _ => Ok(None),
     }

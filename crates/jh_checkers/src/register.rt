@@ -50,12 +50,12 @@ pub(crate) fn check_register(
         (RefusesRegister (operations history.now)) }
 {
     let pairs = pair(alloc, history)?;
-    let calls = match reg_ops(alloc, history, &pairs) {
-        Ok(calls) => calls,
+    let ops = match reg_ops(alloc, history, &pairs) {
+        Ok(ops) => ops,
         Err(error) => return Err(error_of(error)),
     };
-    let judged = check(alloc, &calls, judging.initial, judging.budget)?;
-    let explanation = explained(alloc, judging.explain, history, &calls, &judged)?;
+    let judged = check(alloc, &ops, judging.initial, judging.budget)?;
+    let explanation = explained(alloc, judging.explain, history, &ops, &judged)?;
     Ok(Finding::Register {
         judged,
         explanation,

@@ -13,24 +13,24 @@ use Rattle.jh_checkers.proofs.register.check_register.Goals as goal
 pub explained-requires : goal.explained-requires
 explained-requires c = λ stuck is.
     let history = operations c.args.history.now in
-    let calls = c.in-Ok.calls.items in
+    let ops = c.in-Ok.ops.items in
     let initial = c.args.judging.initial in
-    let are : AreRegisterOps history calls = search rules in
-    let judged : IsJudged calls initial c.args.judging.budget (Invalid stuck) =
-    subst (IsJudged calls initial c.args.judging.budget) is (rw c.deref-2.ensures.value at c.in_ok-judged.ensures.judged) in
-    subst (λ (count : ℕ). stuck.end < count) (length-map c.args.history.now operation) (stuck_within history calls initial stuck are judged.2)
+    let are : AreRegisterOps history ops = search rules in
+    let judged : IsJudged ops initial c.args.judging.budget (Invalid stuck) =
+    subst (IsJudged ops initial c.args.judging.budget) is (rw c.deref-2.ensures.value at c.in_ok-judged.ensures.judged) in
+    subst (λ (count : ℕ). stuck.end < count) (length-map c.args.history.now operation) (stuck_within history ops initial stuck are judged.2)
 
 -- memory is wanted where each pair stands for an operation
 pub returns-in_err-judged : goal.returns-in_err-judged
 returns-in_err-judged c =
     let history = operations c.args.history.now in
-    let are : AreRegisterOps history c.in-Ok.calls.items = search rules in
+    let are : AreRegisterOps history c.in-Ok.ops.items = search rules in
     let p = err_from_is_err_and c.from_residual-in_err-judged.result c.from_residual-in_err-judged.ensures.1 in
-    rw (p.1, p.2) (inr (are.0, none_bad history (history_pairs history) c.in-Ok.calls.items are.1))
+    rw (p.1, p.2) (inr (are.0, none_bad history (history_pairs history) c.in-Ok.ops.items are.1))
 
 pub returns-in_err-explanation : goal.returns-in_err-explanation
 returns-in_err-explanation c =
     let history = operations c.args.history.now in
-    let are : AreRegisterOps history c.in-Ok.calls.items = search rules in
+    let are : AreRegisterOps history c.in-Ok.ops.items = search rules in
     let p = err_from_is_err_and c.from_residual-in_err-explanation.result c.from_residual-in_err-explanation.ensures.1 in
-    rw (p.1, p.2) (inr (are.0, none_bad history (history_pairs history) c.in-Ok.calls.items are.1))
+    rw (p.1, p.2) (inr (are.0, none_bad history (history_pairs history) c.in-Ok.ops.items are.1))
