@@ -1,62 +1,19 @@
 -- What is left of an order and of a loop of nodes where only transactions count.
-use Rattle.std.proofs.Common.{◌≡◌, ℕ, zero, suc, ◌+◌, ◌<◌, ◌≤◌, Bool, true, false, cond, List, [], ◌∷◌, ◌++◌, length, get_or, take, drop, refl, sym, ap, subst, ◌∙◌, inl, inr, arith}
+use Rattle.std.proofs.Common.{◌≡◌, ℕ, zero, suc, ◌+◌, ◌<◌, ◌≤◌, Bool, true, false, List, [], ◌∷◌, ◌++◌, length, get_or, take, drop, refl, sym, ap, subst, ◌∙◌, inl, inr, arith}
 use Rattle.std.specs.Prelude.{◌⊎◌, nat_lt, filter, slice_set, Vec}
 use Rattle.std.specs.declared.alloc.Global.{Global}
-use Rattle.std.proofs.lemmas.Bool.{false≢true, cases_lt, or_right, lt-ltb, ltb-true}
+use Rattle.std.proofs.lemmas.Bool.{cases_lt, lt-ltb, ltb-true}
 use Rattle.std.proofs.lemmas.List.{take-append-drop, drop_more, drop_all, length-append}
 use Rattle.jh_txn.specs.declared.dependency.Step.{Step}
 use Rattle.jh_txn.specs.declared.dependency.Why.{Why}
 use Rattle.jh_txn.specs.Cycles.{first_place}
 use Rattle.jh_txn.specs.Transactions.{includes, ComesBefore}
-use Rattle.jh_txn.proofs.ListLemmas.{includes_cons, includes_head, before_itself, before_trans, once_if}
+use Rattle.jh_txn.proofs.ListLemmas.{before_itself, before_trans, once_if}
 use Rattle.jh_txn_graph.specs.Graphs.{IsStepTo, HasStep, AreHubsUpwards, IsPath, HasPath, KeepsPaths, LeadByPaths, IsCycleOfPaths}
 use Rattle.jh_txn_graph.specs.HubsInside.{AreHubs, HasTransaction, BeginsBelow, place_of_step, IsUnderWay}
 use Rattle.jh_txn_graph.specs.WalkInside.{AreLinked, IsLoop, KeepsSteps}
+use Rattle.jh_txn_graph.proofs.FilterLemmas.{before_filter, filter_before, filter_includes, includes_filter}
 use Rattle.jh_txn_graph.proofs.WalkLemmas.{loop_if, first_push}
-
--- What passes a test, of a list.
-module _ (t : ℕ → Bool) where
-  pub filter_includes : (xs : List ℕ) (q : ℕ) → includes xs q ≡ true → t q ≡ true → includes (filter t xs) q ≡ true
-  filter_includes [] q h k = h
-  filter_includes (x ∷ xs) q h k = elim (includes_cons x xs q h) as (λ _. includes (filter t (x ∷ xs)) q ≡ true) [
-    | inl is ↦ let passes : t x ≡ true = ap t is ∙ k in subst (λ b. includes (cond b (x ∷ filter t xs) (filter t xs)) q ≡ true) (sym passes) (subst (λ z. includes (x ∷ filter t xs) z ≡ true) is (includes_head x (filter t xs)))
-    | inr there ↦ elim (t x) as (λ b. includes (cond b (x ∷ filter t xs) (filter t xs)) q ≡ true) [
-      | true ↦ or_right _ _ (filter_includes xs q there k)
-      | false ↦ filter_includes xs q there k
-    ]
-  ]
-
-  pub includes_filter : (xs : List ℕ) (q : ℕ) → includes (filter t xs) q ≡ true → (includes xs q ≡ true) × (t q ≡ true)
-  includes_filter [] q h = absurd (false≢true h)
-  includes_filter (x ∷ xs) q h =
-      elim (t x) as (λ b. t x ≡ b → includes (cond b (x ∷ filter t xs) (filter t xs)) q ≡ true → (includes (x ∷ xs) q ≡ true) × (t q ≡ true)) [
-        | true ↦ λ e k. elim (includes_cons x (filter t xs) q k) as (λ _. (includes (x ∷ xs) q ≡ true) × (t q ≡ true)) [
-          | inl is ↦ (subst (λ z. includes (x ∷ xs) z ≡ true) is (includes_head x xs), sym (ap t is) ∙ e)
-          | inr there ↦ let r = includes_filter xs q there in (or_right _ _ r.0, r.1)
-        ]
-        | false ↦ λ e k. let r = includes_filter xs q k in (or_right _ _ r.0, r.1)
-      ] refl h
-
-  pub filter_before : (xs : List ℕ) (a b : ℕ) → ComesBefore xs a b → t a ≡ true → t b ≡ true → ComesBefore (filter t xs) a b
-  filter_before [] a b h k l = absurd h
-  filter_before (x ∷ xs) a b h k l = elim h as (λ _. ComesBefore (filter t (x ∷ xs)) a b) [
-    | inl now ↦ let passes : t x ≡ true = ap t now.0 ∙ k in subst (λ c. ComesBefore (cond c (x ∷ filter t xs) (filter t xs)) a b) (sym passes) (inl (now.0, filter_includes xs b now.1 l))
-    | inr later ↦ elim (t x) as (λ c. ComesBefore (cond c (x ∷ filter t xs) (filter t xs)) a b) [
-      | true ↦ inr (filter_before xs a b later k l)
-      | false ↦ filter_before xs a b later k l
-    ]
-  ]
-
-  pub before_filter : (xs : List ℕ) (a b : ℕ) → ComesBefore (filter t xs) a b → ComesBefore xs a b
-  before_filter [] a b h = absurd h
-  before_filter (x ∷ xs) a b h =
-      elim (t x) as (λ c. ComesBefore (cond c (x ∷ filter t xs) (filter t xs)) a b → ComesBefore (x ∷ xs) a b) [
-        | true ↦ λ k. elim k as (λ _. ComesBefore (x ∷ xs) a b) [
-          | inl now ↦ inl (now.0, (includes_filter xs b now.1).0)
-          | inr later ↦ inr (before_filter xs a b later)
-        ]
-        | false ↦ λ k. inr (before_filter xs a b k)
-      ] h
 
 -- An order of all nodes keeps paths through hubs.
 module _ (graph : List (Vec Step Global)) (count : ℕ) (nodes : List ℕ) (kept : KeepsSteps graph nodes) (below : count ≤ length graph) where

@@ -11,7 +11,7 @@ use Rattle.jh_txn.specs.Transactions.{ComesBefore}
 use Rattle.jh_txn.proofs.ListLemmas.{before_itself, once_if}
 use Rattle.jh_txn_graph.specs.Graphs.{HasStep, KeepsPaths, HasPath}
 use Rattle.jh_txn_seen.specs.Marks.{IsMarked}
-use Rattle.jh_txn_judge.proofs.FilterLemmas.{before_filter, filter_before, filter_includes, includes_filter}
+use Rattle.jh_txn_graph.proofs.FilterLemmas.{before_filter, filter_before, filter_includes, includes_filter}
 use Rattle.jh_txn_seen.proofs.KnownLemmas.{must_below}
 
 -- those that are marked

@@ -1,6 +1,5 @@
 pub mod DependLemmas
 pub mod PathLemmas
-pub mod FilterLemmas
 pub mod ChosenLemmas
 pub mod WholeLemmas
 pub mod ForkLemmas

@@ -21,7 +21,7 @@ use Rattle.jh_txn.proofs.SnapshotOrderLemmas.{first_stands}
 use Rattle.jh_txn_edges.specs.Graph.{IsWholeReadStep}
 use Rattle.jh_txn_graph.specs.Graphs.{AreHubsUpwards, HasStep, IsClosed, IsPath, KeepsPaths}
 use Rattle.jh_txn_judge.proofs.DependLemmas.{Depends, lacked_depends, neighbours_before, pair_depends, shown_depends}
-use Rattle.jh_txn_judge.proofs.FilterLemmas.{before_filter, filter_before, includes_filter}
+use Rattle.jh_txn_graph.proofs.FilterLemmas.{before_filter, filter_before, includes_filter}
 use Rattle.jh_txn_points.specs.ForkGraph.{IsAnyWinStep, IsWholeReadPointStep}
 use Rattle.jh_txn_points.specs.Laws.{IsForkGraphOfGood, IsStepOfNodes}
 use Rattle.jh_txn_points.specs.Points.{node_of_point}

@@ -20,7 +20,7 @@ use Rattle.jh_txn.proofs.ListLemmas.{append_nil_right, before_first, before_itse
 use Rattle.jh_txn_edges.specs.Inside.{AddsSteps}
 use Rattle.jh_txn_graph.specs.Graphs.{HasStep, KeepsPaths}
 use Rattle.jh_txn_edges.proofs.StepLemmas.{StepsBelow, adds_if, at_last, at_neighbours, last_at, neighbours_at}
-use Rattle.jh_txn_judge.proofs.FilterLemmas.{before_filter, includes_filter}
+use Rattle.jh_txn_graph.proofs.FilterLemmas.{before_filter, includes_filter}
 use Rattle.jh_txn_seen.specs.Marks.{IsMarked}
 use Rattle.jh_txn_seen.proofs.KnownLemmas.{appends_below}
 use Rattle.jh_txn_snapshot_judge.specs.Judged.{HasUntoldPair}

@@ -19,7 +19,7 @@ use Rattle.jh_txn.proofs.ListLemmas.{before_itself}
 use Rattle.jh_txn.proofs.SnapshotKeepingLemmas.{suffices}
 use Rattle.jh_txn.proofs.SnapshotOrderLemmas.{first_stands}
 use Rattle.jh_txn_graph.specs.Graphs.{KeepsPaths}
-use Rattle.jh_txn_judge.proofs.FilterLemmas.{before_filter, filter_before, filter_includes, includes_filter}
+use Rattle.jh_txn_graph.proofs.FilterLemmas.{before_filter, filter_before, filter_includes, includes_filter}
 use Rattle.jh_txn_points.specs.PointGraph.{IsPointGraphOf}
 use Rattle.jh_txn_points.specs.Points.{node_of_point}
 use Rattle.jh_txn_points.proofs.WholeLemmas.{keeps_next, paired}
