@@ -1,4 +1,4 @@
--- What was told of the cells, in order, adds up to the environment.
+-- The changes of the cells, in order, add up to the environment.
 use Rattle.std.proofs.Common.{◌≡◌, ◌≢◌, ℕ, zero, suc, ◌+◌, ◌<◌, ◌≤◌, ◌==◌, nat_lt, Bool, true}
 use Rattle.std.proofs.Common.{false, ◌&&◌, ◌||◌, not, ℤ, List, [], ◌∷◌, ◌++◌, length, slice_get}
 use Rattle.std.proofs.Common.{refl, sym, ap, ◌∙◌, arith, eq-eqb}
@@ -19,19 +19,19 @@ use Rattle.jh_nemesis.specs.Steps.{answer_of, is_ok, moved_state, state_after}
 use Rattle.jh_nemesis.specs.declared.steps.Step.{Step}
 use Rattle.jh_nemesis.specs.declared.steps.Step.TheVariants.{Begin, Withdraw, WithdrawAll, Undo}
 use Rattle.jh_nemesis.specs.declared.steps.Step.TheVariants.{Redo}
-use Rattle.jh_conversation.specs.Laws.{Drivers, link_told_after, node_told_after, run, told_link_in}
-use Rattle.jh_conversation.specs.Laws.{told_node_in}
+use Rattle.jh_conversation.specs.Laws.{Drivers, link_after_changes, node_after_changes, run, link_after_steps}
+use Rattle.jh_conversation.specs.Laws.{node_after_steps}
 use Rattle.jh_conversation.specs.Machine.{Machine}
 use Rattle.jh_test_parts.specs.Test.{TestValue}
 use Rattle.jh_edn.specs.Edn.{is_empty}
 use Rattle.jh_conversation.specs.Laws.{IsPastHeal}
-use Rattle.jh_test_parts.specs.declared.records.LinkTold.{LinkTold}
-use Rattle.jh_test_parts.specs.declared.records.NodeTold.{NodeTold}
+use Rattle.jh_test_parts.specs.declared.records.ChangedLink.{ChangedLink}
+use Rattle.jh_test_parts.specs.declared.records.ChangedNode.{ChangedNode}
 use Rattle.jh_conversation.proofs.KeptLemmas.{IsKeptByLine, IsKeptInTurn, by_answers, kept_run}
 use Rattle.jh_conversation.proofs.QuietLemmas.{rest_is_quiet}
-use Rattle.jh_test_parts.specs.Told.{is_same_life, are_same_links, are_same_nodes, places_of_nodes}
-use Rattle.jh_test_parts.specs.Told.{told_if_other_link, told_if_other_node, told_link, told_links}
-use Rattle.jh_test_parts.specs.Told.{told_node, told_nodes}
+use Rattle.jh_test_parts.specs.Changes.{is_same_life, are_same_links, are_same_nodes, places_of_nodes}
+use Rattle.jh_test_parts.specs.Changes.{link_if_other, node_if_other, changed_link, changed_links}
+use Rattle.jh_test_parts.specs.Changes.{changed_node, changed_nodes}
 
 -- cells that are the same are equal
 
@@ -83,43 +83,43 @@ other_place m n h = grind (arith, h)
 -- Nodes.
 
 module _ (start : Table) (before after : List FaultValue) (a : ℕ) (n : NodeCell) (there : node_at start a ≡ Some n) where
-  -- what is told of another node changes nothing
-  other_node : (x : ℕ) (more : List NodeTold) (v : NodeCell) → (x == a) ≡ false → node_told_after (cons_option (told_node start before after x) more) a v ≡ node_told_after more a v
+  -- a change of another node changes nothing here
+  other_node : (x : ℕ) (more : List ChangedNode) (v : NodeCell) → (x == a) ≡ false → node_after_changes (cons_option (changed_node start before after x) more) a v ≡ node_after_changes more a v
   other_node x more v other = go (node_at start x)
     where
-      go : (cell : Option NodeCell) → node_told_after (cons_option (option_and_then (λ n. told_if_other_node x (node_over before x n) (node_over after x n)) cell) more) a v ≡ node_told_after more a v
+      go : (cell : Option NodeCell) → node_after_changes (cons_option (option_and_then (λ n. node_if_other x (node_over before x n) (node_over after x n)) cell) more) a v ≡ node_after_changes more a v
       go None = refl
-      go (Some n) = elim (are_same_nodes (node_over before x n) (node_over after x n)) as (λ b. node_told_after (cons_option (if b then None else Some (record { node = x; cell = node_over after x n })) more) a v ≡ node_told_after more a v) [
+      go (Some n) = elim (are_same_nodes (node_over before x n) (node_over after x n)) as (λ b. node_after_changes (cons_option (if b then None else Some (record { node = x; cell = node_over after x n })) more) a v ≡ node_after_changes more a v) [
         | true ↦ refl
-        | false ↦ ap (λ b. node_told_after more a (if b then node_over after x n else v)) other
+        | false ↦ ap (λ b. node_after_changes more a (if b then node_over after x n else v)) other
       ]
 
-  -- what is told of this one makes it what it is, from what it was and from what it is
-  this_node : (x : ℕ) (more : List NodeTold) (v : NodeCell) → x ≡ a → (v ≡ node_over before a n) ⊎ (v ≡ node_over after a n) → node_told_after (cons_option (told_node start before after x) more) a v ≡ node_told_after more a (node_over after a n)
+  -- a change of this one makes it what it is, from what it was and from what it is
+  this_node : (x : ℕ) (more : List ChangedNode) (v : NodeCell) → x ≡ a → (v ≡ node_over before a n) ⊎ (v ≡ node_over after a n) → node_after_changes (cons_option (changed_node start before after x) more) a v ≡ node_after_changes more a (node_over after a n)
   this_node x more v here v_is =
-      ap (λ place. node_told_after (cons_option (told_node start before after place) more) a v) here
-      ∙ ap (λ cell. node_told_after (cons_option (option_and_then (λ n. told_if_other_node a (node_over before a n) (node_over after a n)) cell) more) a v) there
+      ap (λ place. node_after_changes (cons_option (changed_node start before after place) more) a v) here
+      ∙ ap (λ cell. node_after_changes (cons_option (option_and_then (λ n. node_if_other a (node_over before a n) (node_over after a n)) cell) more) a v) there
       ∙ go (are_same_nodes (node_over before a n) (node_over after a n)) refl v_is
     where
       go : (b : Bool) → are_same_nodes (node_over before a n) (node_over after a n) ≡ b → (v ≡ node_over before a n) ⊎ (v ≡ node_over after a n)
-          → node_told_after (cons_option (if b then None else Some (record { node = a; cell = node_over after a n })) more) a v ≡ node_told_after more a (node_over after a n)
-      go true e (inl was) = ap (node_told_after more a) (was ∙ same_node _ _ e)
-      go true e (inr is) = ap (node_told_after more a) is
-      go false e _ = ap (λ b. node_told_after more a (if b then node_over after a n else v)) (eq-eqb a a refl)
+          → node_after_changes (cons_option (if b then None else Some (record { node = a; cell = node_over after a n })) more) a v ≡ node_after_changes more a (node_over after a n)
+      go true e (inl was) = ap (node_after_changes more a) (was ∙ same_node _ _ e)
+      go true e (inr is) = ap (node_after_changes more a) is
+      go false e _ = ap (λ b. node_after_changes more a (if b then node_over after a n else v)) (eq-eqb a a refl)
 
-  node_stays : (xs : List ℕ) → node_told_after (filter_map (told_node start before after) xs) a (node_over after a n) ≡ node_over after a n
+  node_stays : (xs : List ℕ) → node_after_changes (filter_map (changed_node start before after) xs) a (node_over after a n) ≡ node_over after a n
   node_stays [] = refl
-  node_stays (x ∷ xs) = elim (cases_Bool (x == a)) as (λ _. node_told_after (filter_map (told_node start before after) (x ∷ xs)) a (node_over after a n) ≡ node_over after a n) [
-    | inl e ↦ this_node x (filter_map (told_node start before after) xs) (node_over after a n) (eqb-true _ _ e) (inr refl) ∙ node_stays xs
-    | inr e ↦ other_node x (filter_map (told_node start before after) xs) (node_over after a n) e ∙ node_stays xs
+  node_stays (x ∷ xs) = elim (cases_Bool (x == a)) as (λ _. node_after_changes (filter_map (changed_node start before after) (x ∷ xs)) a (node_over after a n) ≡ node_over after a n) [
+    | inl e ↦ this_node x (filter_map (changed_node start before after) xs) (node_over after a n) (eqb-true _ _ e) (inr refl) ∙ node_stays xs
+    | inr e ↦ other_node x (filter_map (changed_node start before after) xs) (node_over after a n) e ∙ node_stays xs
   ]
 
-  node_comes : (xs : List ℕ) → HasPlace xs a → node_told_after (filter_map (told_node start before after) xs) a (node_over before a n) ≡ node_over after a n
+  node_comes : (xs : List ℕ) → HasPlace xs a → node_after_changes (filter_map (changed_node start before after) xs) a (node_over before a n) ≡ node_over after a n
   node_comes [] h = absurd h
-  node_comes (x ∷ xs) (inl here) = this_node x (filter_map (told_node start before after) xs) (node_over before a n) here (inl refl) ∙ node_stays xs
-  node_comes (x ∷ xs) (inr h) = elim (cases_Bool (x == a)) as (λ _. node_told_after (filter_map (told_node start before after) (x ∷ xs)) a (node_over before a n) ≡ node_over after a n) [
-    | inl e ↦ this_node x (filter_map (told_node start before after) xs) (node_over before a n) (eqb-true _ _ e) (inl refl) ∙ node_stays xs
-    | inr e ↦ other_node x (filter_map (told_node start before after) xs) (node_over before a n) e ∙ node_comes xs h
+  node_comes (x ∷ xs) (inl here) = this_node x (filter_map (changed_node start before after) xs) (node_over before a n) here (inl refl) ∙ node_stays xs
+  node_comes (x ∷ xs) (inr h) = elim (cases_Bool (x == a)) as (λ _. node_after_changes (filter_map (changed_node start before after) (x ∷ xs)) a (node_over before a n) ≡ node_over after a n) [
+    | inl e ↦ this_node x (filter_map (changed_node start before after) xs) (node_over before a n) (eqb-true _ _ e) (inl refl) ∙ node_stays xs
+    | inr e ↦ other_node x (filter_map (changed_node start before after) xs) (node_over before a n) e ∙ node_comes xs h
   ]
 
 some_place : {A : Type 0} (xs : List A) (n : ℕ) (x : A) → slice_get xs n ≡ Some x → n < length xs
@@ -127,44 +127,44 @@ some_place [] n x e = absurd (cc e)
 some_place (y ∷ xs) zero x e = omega arith
 some_place (y ∷ xs) (suc n) x e = let k = some_place xs n x e in omega (arith, k)
 
--- what is told of a step makes each node what it is then
-pub told_node_adds : (start : Table) (before after : List FaultValue) (a : ℕ) (n : NodeCell) → node_at start a ≡ Some n
-    → node_told_after (told_nodes start before after) a (node_over before a n) ≡ node_over after a n
-told_node_adds start before after a n there =
+-- the changes of a step make each node what it is then
+pub node_changes_add : (start : Table) (before after : List FaultValue) (a : ℕ) (n : NodeCell) → node_at start a ≡ Some n
+    → node_after_changes (changed_nodes start before after) a (node_over before a n) ≡ node_over after a n
+node_changes_add start before after a n there =
     let low = some_place start.nodes a n there in
     node_comes start before after a n there (places_of_nodes start) (has_place (length start.nodes) 0 a (omega arith) (omega (arith, low)))
 
 -- Links.
 
-after_both : (xs ys : List LinkTold) (a b : ℕ) (l : Link) → link_told_after (xs ++ ys) a b l ≡ link_told_after ys a b (link_told_after xs a b l)
+after_both : (xs ys : List ChangedLink) (a b : ℕ) (l : Link) → link_after_changes (xs ++ ys) a b l ≡ link_after_changes ys a b (link_after_changes xs a b l)
 after_both [] ys a b l = refl
 after_both (x ∷ xs) ys a b l = after_both xs ys a b (if x.source == a && x.destination == b then x.link else l)
 
 module _ (start : Table) (before after : List FaultValue) (a b : ℕ) (l : Link) (there : link_at start a b ≡ Some l) where
-  other_link : (x y : ℕ) (more : List LinkTold) (v : Link) → (x == a && y == b) ≡ false → link_told_after (cons_option (told_link start before after x y) more) a b v ≡ link_told_after more a b v
+  other_link : (x y : ℕ) (more : List ChangedLink) (v : Link) → (x == a && y == b) ≡ false → link_after_changes (cons_option (changed_link start before after x y) more) a b v ≡ link_after_changes more a b v
   other_link x y more v other = go (link_at start x y)
     where
-      go : (cell : Option Link) → link_told_after (cons_option (option_and_then (λ l. told_if_other_link x y (link_over before x y l) (link_over after x y l)) cell) more) a b v ≡ link_told_after more a b v
+      go : (cell : Option Link) → link_after_changes (cons_option (option_and_then (λ l. link_if_other x y (link_over before x y l) (link_over after x y l)) cell) more) a b v ≡ link_after_changes more a b v
       go None = refl
-      go (Some l) = elim (are_same_links (link_over before x y l) (link_over after x y l)) as (λ c. link_told_after (cons_option (if c then None else Some (record { source = x; destination = y; link = link_over after x y l })) more) a b v ≡ link_told_after more a b v) [
+      go (Some l) = elim (are_same_links (link_over before x y l) (link_over after x y l)) as (λ c. link_after_changes (cons_option (if c then None else Some (record { source = x; destination = y; link = link_over after x y l })) more) a b v ≡ link_after_changes more a b v) [
         | true ↦ refl
-        | false ↦ ap (λ c. link_told_after more a b (if c then link_over after x y l else v)) other
+        | false ↦ ap (λ c. link_after_changes more a b (if c then link_over after x y l else v)) other
       ]
 
-  this_link : (y : ℕ) (more : List LinkTold) (v : Link) → y ≡ b → (v ≡ link_over before a b l) ⊎ (v ≡ link_over after a b l) → link_told_after (cons_option (told_link start before after a y) more) a b v ≡ link_told_after more a b (link_over after a b l)
+  this_link : (y : ℕ) (more : List ChangedLink) (v : Link) → y ≡ b → (v ≡ link_over before a b l) ⊎ (v ≡ link_over after a b l) → link_after_changes (cons_option (changed_link start before after a y) more) a b v ≡ link_after_changes more a b (link_over after a b l)
   this_link y more v here v_is =
-      ap (λ place. link_told_after (cons_option (told_link start before after a place) more) a b v) here
-      ∙ ap (λ cell. link_told_after (cons_option (option_and_then (λ l. told_if_other_link a b (link_over before a b l) (link_over after a b l)) cell) more) a b v) there
+      ap (λ place. link_after_changes (cons_option (changed_link start before after a place) more) a b v) here
+      ∙ ap (λ cell. link_after_changes (cons_option (option_and_then (λ l. link_if_other a b (link_over before a b l) (link_over after a b l)) cell) more) a b v) there
       ∙ go (are_same_links (link_over before a b l) (link_over after a b l)) refl v_is
     where
       itself : (a == a && b == b) ≡ true
       itself = ap (λ c. c && (b == b)) (eq-eqb a a refl) ∙ eq-eqb b b refl
 
       go : (c : Bool) → are_same_links (link_over before a b l) (link_over after a b l) ≡ c → (v ≡ link_over before a b l) ⊎ (v ≡ link_over after a b l)
-          → link_told_after (cons_option (if c then None else Some (record { source = a; destination = b; link = link_over after a b l })) more) a b v ≡ link_told_after more a b (link_over after a b l)
-      go true e (inl was) = ap (link_told_after more a b) (was ∙ same_link _ _ e)
-      go true e (inr is) = ap (link_told_after more a b) is
-      go false e _ = ap (λ c. link_told_after more a b (if c then link_over after a b l else v)) itself
+          → link_after_changes (cons_option (if c then None else Some (record { source = a; destination = b; link = link_over after a b l })) more) a b v ≡ link_after_changes more a b (link_over after a b l)
+      go true e (inl was) = ap (link_after_changes more a b) (was ∙ same_link _ _ e)
+      go true e (inr is) = ap (link_after_changes more a b) is
+      go false e _ = ap (λ c. link_after_changes more a b (if c then link_over after a b l else v)) itself
 
   apart_source : (x y : ℕ) → (x == a) ≡ false → (x == a && y == b) ≡ false
   apart_source x y e = ap (λ c. c && (y == b)) e
@@ -177,49 +177,49 @@ module _ (start : Table) (before after : List FaultValue) (a b : ℕ) (l : Link)
       go false = refl
 
   -- a row of another source changes nothing
-  other_row : (x : ℕ) (ys : List ℕ) (v : Link) → (x == a) ≡ false → link_told_after (filter_map (told_link start before after x) ys) a b v ≡ v
+  other_row : (x : ℕ) (ys : List ℕ) (v : Link) → (x == a) ≡ false → link_after_changes (filter_map (changed_link start before after x) ys) a b v ≡ v
   other_row x [] v e = refl
-  other_row x (y ∷ ys) v e = other_link x y (filter_map (told_link start before after x) ys) v (apart_source x y e) ∙ other_row x ys v e
+  other_row x (y ∷ ys) v e = other_link x y (filter_map (changed_link start before after x) ys) v (apart_source x y e) ∙ other_row x ys v e
 
-  row_stays : (ys : List ℕ) → link_told_after (filter_map (told_link start before after a) ys) a b (link_over after a b l) ≡ link_over after a b l
+  row_stays : (ys : List ℕ) → link_after_changes (filter_map (changed_link start before after a) ys) a b (link_over after a b l) ≡ link_over after a b l
   row_stays [] = refl
-  row_stays (y ∷ ys) = elim (cases_Bool (y == b)) as (λ _. link_told_after (filter_map (told_link start before after a) (y ∷ ys)) a b (link_over after a b l) ≡ link_over after a b l) [
-    | inl e ↦ this_link y (filter_map (told_link start before after a) ys) (link_over after a b l) (eqb-true _ _ e) (inr refl) ∙ row_stays ys
-    | inr e ↦ other_link a y (filter_map (told_link start before after a) ys) (link_over after a b l) (apart_both a y e) ∙ row_stays ys
+  row_stays (y ∷ ys) = elim (cases_Bool (y == b)) as (λ _. link_after_changes (filter_map (changed_link start before after a) (y ∷ ys)) a b (link_over after a b l) ≡ link_over after a b l) [
+    | inl e ↦ this_link y (filter_map (changed_link start before after a) ys) (link_over after a b l) (eqb-true _ _ e) (inr refl) ∙ row_stays ys
+    | inr e ↦ other_link a y (filter_map (changed_link start before after a) ys) (link_over after a b l) (apart_both a y e) ∙ row_stays ys
   ]
 
-  row_comes : (ys : List ℕ) → HasPlace ys b → link_told_after (filter_map (told_link start before after a) ys) a b (link_over before a b l) ≡ link_over after a b l
+  row_comes : (ys : List ℕ) → HasPlace ys b → link_after_changes (filter_map (changed_link start before after a) ys) a b (link_over before a b l) ≡ link_over after a b l
   row_comes [] h = absurd h
-  row_comes (y ∷ ys) (inl here) = this_link y (filter_map (told_link start before after a) ys) (link_over before a b l) here (inl refl) ∙ row_stays ys
-  row_comes (y ∷ ys) (inr h) = elim (cases_Bool (y == b)) as (λ _. link_told_after (filter_map (told_link start before after a) (y ∷ ys)) a b (link_over before a b l) ≡ link_over after a b l) [
-    | inl e ↦ this_link y (filter_map (told_link start before after a) ys) (link_over before a b l) (eqb-true _ _ e) (inl refl) ∙ row_stays ys
-    | inr e ↦ other_link a y (filter_map (told_link start before after a) ys) (link_over before a b l) (apart_both a y e) ∙ row_comes ys h
+  row_comes (y ∷ ys) (inl here) = this_link y (filter_map (changed_link start before after a) ys) (link_over before a b l) here (inl refl) ∙ row_stays ys
+  row_comes (y ∷ ys) (inr h) = elim (cases_Bool (y == b)) as (λ _. link_after_changes (filter_map (changed_link start before after a) (y ∷ ys)) a b (link_over before a b l) ≡ link_over after a b l) [
+    | inl e ↦ this_link y (filter_map (changed_link start before after a) ys) (link_over before a b l) (eqb-true _ _ e) (inl refl) ∙ row_stays ys
+    | inr e ↦ other_link a y (filter_map (changed_link start before after a) ys) (link_over before a b l) (apart_both a y e) ∙ row_comes ys h
   ]
 
-  rows_stay : (ys xs : List ℕ) → link_told_after (flat_map (λ x. filter_map (told_link start before after x) ys) xs) a b (link_over after a b l) ≡ link_over after a b l
+  rows_stay : (ys xs : List ℕ) → link_after_changes (flat_map (λ x. filter_map (changed_link start before after x) ys) xs) a b (link_over after a b l) ≡ link_over after a b l
   rows_stay ys [] = refl
   rows_stay ys (x ∷ xs) =
-      after_both (filter_map (told_link start before after x) ys) (flat_map (λ x. filter_map (told_link start before after x) ys) xs) a b (link_over after a b l)
-      ∙ ap (link_told_after (flat_map (λ x. filter_map (told_link start before after x) ys) xs) a b) (elim (cases_Bool (x == a)) as (λ _. link_told_after (filter_map (told_link start before after x) ys) a b (link_over after a b l) ≡ link_over after a b l) [
-        | inl e ↦ ap (λ x. link_told_after (filter_map (told_link start before after x) ys) a b (link_over after a b l)) (eqb-true _ _ e) ∙ row_stays ys
+      after_both (filter_map (changed_link start before after x) ys) (flat_map (λ x. filter_map (changed_link start before after x) ys) xs) a b (link_over after a b l)
+      ∙ ap (link_after_changes (flat_map (λ x. filter_map (changed_link start before after x) ys) xs) a b) (elim (cases_Bool (x == a)) as (λ _. link_after_changes (filter_map (changed_link start before after x) ys) a b (link_over after a b l) ≡ link_over after a b l) [
+        | inl e ↦ ap (λ x. link_after_changes (filter_map (changed_link start before after x) ys) a b (link_over after a b l)) (eqb-true _ _ e) ∙ row_stays ys
         | inr e ↦ other_row x ys (link_over after a b l) e
       ])
       ∙ rows_stay ys xs
 
-  row_of_this : (ys : List ℕ) (x : ℕ) → HasPlace ys b → x ≡ a → link_told_after (filter_map (told_link start before after x) ys) a b (link_over before a b l) ≡ link_over after a b l
-  row_of_this ys x h e = ap (λ x. link_told_after (filter_map (told_link start before after x) ys) a b (link_over before a b l)) e ∙ row_comes ys h
+  row_of_this : (ys : List ℕ) (x : ℕ) → HasPlace ys b → x ≡ a → link_after_changes (filter_map (changed_link start before after x) ys) a b (link_over before a b l) ≡ link_over after a b l
+  row_of_this ys x h e = ap (λ x. link_after_changes (filter_map (changed_link start before after x) ys) a b (link_over before a b l)) e ∙ row_comes ys h
 
-  rows_come : (ys xs : List ℕ) → HasPlace ys b → HasPlace xs a → link_told_after (flat_map (λ x. filter_map (told_link start before after x) ys) xs) a b (link_over before a b l) ≡ link_over after a b l
+  rows_come : (ys xs : List ℕ) → HasPlace ys b → HasPlace xs a → link_after_changes (flat_map (λ x. filter_map (changed_link start before after x) ys) xs) a b (link_over before a b l) ≡ link_over after a b l
   rows_come ys [] h k = absurd k
   rows_come ys (x ∷ xs) h (inl here) =
-      after_both (filter_map (told_link start before after x) ys) (flat_map (λ x. filter_map (told_link start before after x) ys) xs) a b (link_over before a b l)
-      ∙ ap (link_told_after (flat_map (λ x. filter_map (told_link start before after x) ys) xs) a b) (row_of_this ys x h here)
+      after_both (filter_map (changed_link start before after x) ys) (flat_map (λ x. filter_map (changed_link start before after x) ys) xs) a b (link_over before a b l)
+      ∙ ap (link_after_changes (flat_map (λ x. filter_map (changed_link start before after x) ys) xs) a b) (row_of_this ys x h here)
       ∙ rows_stay ys xs
   rows_come ys (x ∷ xs) h (inr k) =
-      after_both (filter_map (told_link start before after x) ys) (flat_map (λ x. filter_map (told_link start before after x) ys) xs) a b (link_over before a b l)
-      ∙ (elim (cases_Bool (x == a)) as (λ _. link_told_after (flat_map (λ x. filter_map (told_link start before after x) ys) xs) a b (link_told_after (filter_map (told_link start before after x) ys) a b (link_over before a b l)) ≡ link_over after a b l) [
-        | inl e ↦ ap (link_told_after (flat_map (λ x. filter_map (told_link start before after x) ys) xs) a b) (row_of_this ys x h (eqb-true _ _ e)) ∙ rows_stay ys xs
-        | inr e ↦ ap (link_told_after (flat_map (λ x. filter_map (told_link start before after x) ys) xs) a b) (other_row x ys (link_over before a b l) e) ∙ rows_come ys xs h k
+      after_both (filter_map (changed_link start before after x) ys) (flat_map (λ x. filter_map (changed_link start before after x) ys) xs) a b (link_over before a b l)
+      ∙ (elim (cases_Bool (x == a)) as (λ _. link_after_changes (flat_map (λ x. filter_map (changed_link start before after x) ys) xs) a b (link_after_changes (filter_map (changed_link start before after x) ys) a b (link_over before a b l)) ≡ link_over after a b l) [
+        | inl e ↦ ap (link_after_changes (flat_map (λ x. filter_map (changed_link start before after x) ys) xs) a b) (row_of_this ys x h (eqb-true _ _ e)) ∙ rows_stay ys xs
+        | inr e ↦ ap (link_after_changes (flat_map (λ x. filter_map (changed_link start before after x) ys) xs) a b) (other_row x ys (link_over before a b l) e) ∙ rows_come ys xs h k
       ])
 
 -- a link that is there is between two of the nodes
@@ -233,23 +233,23 @@ link_places start a b l e =
     let rest = and_parts (nat_lt b (length start.nodes)) (not (a == b)) all.1 in
     (ltb-true a (length start.nodes) all.0, ltb-true b (length start.nodes) rest.0)
 
--- what is told of a step makes each link what it is then
-pub told_link_adds : (start : Table) (before after : List FaultValue) (a b : ℕ) (l : Link) → link_at start a b ≡ Some l
-    → link_told_after (told_links start before after) a b (link_over before a b l) ≡ link_over after a b l
-told_link_adds start before after a b l there =
+-- the changes of a step make each link what it is then
+pub link_changes_add : (start : Table) (before after : List FaultValue) (a b : ℕ) (l : Link) → link_at start a b ≡ Some l
+    → link_after_changes (changed_links start before after) a b (link_over before a b l) ≡ link_over after a b l
+link_changes_add start before after a b l there =
     let low = link_places start a b l there in
     rows_come start before after a b l there (places_of_nodes start) (places_of_nodes start)
     (has_place (length start.nodes) 0 b (omega arith) (omega (arith, low.1)))
     (has_place (length start.nodes) 0 a (omega arith) (omega (arith, low.0)))
 
--- What a node was at the start is, behind all that was told of it, what the active faults make of it.
+-- What a node was at the start is, behind all its changes, what the active faults make of it.
 abbrev NodeAddsUp : Table → ℕ → NodeCell → Machine → Type 0
 NodeAddsUp start a n m =
-    (m.nemesis.start ≡ start) × (told_node_in m.history a n ≡ node_over (faults_in m.nemesis.active) a n)
+    (m.nemesis.start ≡ start) × (node_after_steps m.history a n ≡ node_over (faults_in m.nemesis.active) a n)
 
 abbrev LinkAddsUp : Table → ℕ → ℕ → Link → Machine → Type 0
 LinkAddsUp start a b l m =
-    (m.nemesis.start ≡ start) × (told_link_in m.history a b l ≡ link_over (faults_in m.nemesis.active) a b l)
+    (m.nemesis.start ≡ start) × (link_after_steps m.history a b l ≡ link_over (faults_in m.nemesis.active) a b l)
 
 -- a step keeps the start
 back_keeps : (s : State) (moments : List Active) → (state_back_to s moments).start ≡ s.start
@@ -280,8 +280,8 @@ node_in_turn t start a n there = record {
       let before = faults_in m.nemesis.active in
       let after = faults_in (state_after m.nemesis due.step).active in (
         start_stays m.nemesis due.step ∙ h.0,
-        ap (λ s. node_told_after (told_nodes s before after) a (told_node_in m.history a n)) h.0
-            ∙ ap (node_told_after (told_nodes start before after) a) h.1 ∙ told_node_adds start before after a n there,
+        ap (λ s. node_after_changes (changed_nodes s before after) a (node_after_steps m.history a n)) h.0
+            ∙ ap (node_after_changes (changed_nodes start before after) a) h.1 ∙ node_changes_add start before after a n there,
       );
   heals = λ m is e h. h;
   rests = λ m is w q h. h;
@@ -307,8 +307,8 @@ link_in_turn t start a b l there = record {
       let before = faults_in m.nemesis.active in
       let after = faults_in (state_after m.nemesis due.step).active in (
         start_stays m.nemesis due.step ∙ h.0,
-        ap (λ s. link_told_after (told_links s before after) a b (told_link_in m.history a b l)) h.0
-            ∙ ap (link_told_after (told_links start before after) a b) h.1 ∙ told_link_adds start before after a b l there,
+        ap (λ s. link_after_changes (changed_links s before after) a b (link_after_steps m.history a b l)) h.0
+            ∙ ap (link_after_changes (changed_links start before after) a b) h.1 ∙ link_changes_add start before after a b l there,
       );
   heals = λ m is e h. h;
   rests = λ m is w q h. h;
@@ -344,18 +344,18 @@ no_fault_link a b l = link_by l.cut (l.cut || false) l.delay (l.delay + 0) l.los
     uncut false = refl
 
 pub nodes_add_up : (t : TestValue) (d : Drivers t) (lines : List (List ℕ)) (a : ℕ) (n : NodeCell) → node_at t.start.start a ≡ Some n
-    → told_node_in (run t d lines).history a n ≡ node_over (faults_in (run t d lines).nemesis.active) a n
+    → node_after_steps (run t d lines).history a n ≡ node_over (faults_in (run t d lines).nemesis.active) a n
 nodes_add_up t d lines a n there =
     (kept_run t d (NodeAddsUp t.start.start a n) (node_in_turn t t.start.start a n there) (node_by_line t t.start.start a n) lines (refl, no_fault_node a n)).1
 
 pub links_add_up : (t : TestValue) (d : Drivers t) (lines : List (List ℕ)) (a b : ℕ) (l : Link) → link_at t.start.start a b ≡ Some l
-    → told_link_in (run t d lines).history a b l ≡ link_over (faults_in (run t d lines).nemesis.active) a b l
+    → link_after_steps (run t d lines).history a b l ≡ link_over (faults_in (run t d lines).nemesis.active) a b l
 links_add_up t d lines a b l there =
     (kept_run t d (LinkAddsUp t.start.start a b l) (link_in_turn t t.start.start a b l there) (link_by_line t t.start.start a b l) lines (refl, no_fault_link a b l)).1
 
 pub cells_are_environment : (t : TestValue) (d : Drivers t) (lines : List (List ℕ)) (a b : ℕ) (l : Link) (n : NodeCell)
-    → (link_at t.start.start a b ≡ Some l → told_link_in (run t d lines).history a b l ≡ link_over (faults_in (run t d lines).nemesis.active) a b l)
-    × (node_at t.start.start a ≡ Some n → told_node_in (run t d lines).history a n ≡ node_over (faults_in (run t d lines).nemesis.active) a n)
+    → (link_at t.start.start a b ≡ Some l → link_after_steps (run t d lines).history a b l ≡ link_over (faults_in (run t d lines).nemesis.active) a b l)
+    × (node_at t.start.start a ≡ Some n → node_after_steps (run t d lines).history a n ≡ node_over (faults_in (run t d lines).nemesis.active) a n)
 cells_are_environment t d lines a b l n = (links_add_up t d lines a b l, nodes_add_up t d lines a n)
 
 none_active : (active : Active) → is_empty active ≡ true → active ≡ []
@@ -363,8 +363,8 @@ none_active [] e = refl
 none_active (f ∷ active) e = absurd (false≢true e)
 
 pub rest_is_start : (t : TestValue) (d : Drivers t) (lines : List (List ℕ)) (a b : ℕ) (l : Link) (n : NodeCell) → IsPastHeal (run t d lines).phase
-    → (link_at t.start.start a b ≡ Some l → told_link_in (run t d lines).history a b l ≡ l)
-    × (node_at t.start.start a ≡ Some n → told_node_in (run t d lines).history a n ≡ n)
+    → (link_at t.start.start a b ≡ Some l → link_after_steps (run t d lines).history a b l ≡ l)
+    × (node_at t.start.start a ≡ Some n → node_after_steps (run t d lines).history a n ≡ n)
 rest_is_start t d lines a b l n later =
     let none = none_active (run t d lines).nemesis.active (rest_is_quiet t d lines later) in (
       λ there. links_add_up t d lines a b l there ∙ ap (λ active. link_over (faults_in active) a b l) none ∙ sym (no_fault_link a b l),

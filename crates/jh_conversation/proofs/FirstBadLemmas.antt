@@ -1,4 +1,4 @@
--- The first line that is no reply is the one that is told.
+-- The first line that is no reply is the one that is kept.
 use Rattle.std.proofs.Common.{◌≡◌, ℕ, ◌+◌, ◌==◌, Bool, true, false, not, ◌||◌, List, [], ◌∷◌, refl}
 use Rattle.std.proofs.Common.{ap, ◌∙◌}
 use Rattle.std.specs.Prelude.{Option, None, Some, if◌then◌else◌}
@@ -29,15 +29,15 @@ use Rattle.jh_test_parts.specs.declared.complaints.Complaint.TheVariants as comp
 use Rattle.jh_conversation.proofs.KeptLemmas.{IsKeptByLine, IsKeptInTurn, by_answers, kept_lines}
 use Rattle.jh_conversation.proofs.KeptLemmas.{kept_turn}
 
--- what was told, and how many lines were read
-abbrev Tells : Option (ℕ × Complaint) → ℕ → Machine → Type 0
-Tells bad read m = (m.bad ≡ bad) × (m.read ≡ read)
+-- which line was found to be no reply, and how many lines were read
+abbrev FindsBad : Option (ℕ × Complaint) → ℕ → Machine → Type 0
+FindsBad bad read m = (m.bad ≡ bad) × (m.read ≡ read)
 
-abbrev HasTold : ℕ × Complaint → Machine → Type 0
-HasTold told m = m.bad ≡ Some told
+abbrev HasBad : ℕ × Complaint → Machine → Type 0
+HasBad found m = m.bad ≡ Some found
 
-tells_in_turn : (t : TestValue) (bad : Option (ℕ × Complaint)) (read : ℕ) → IsKeptInTurn t (Tells bad read)
-tells_in_turn t bad read = record {
+finds_in_turn : (t : TestValue) (bad : Option (ℕ × Complaint)) (read : ℕ) → IsKeptInTurn t (FindsBad bad read)
+finds_in_turn t bad read = record {
   calls = by_answers _ _ (record { asks = λ m d w h. h; spends = λ m h. h; invokes = λ m thread request w i y h. h });
   begins = λ m due w d h. h;
   heals = λ m is e h. h;
@@ -47,8 +47,8 @@ tells_in_turn t bad read = record {
   ends_final = λ m is e h. h;
 }
 
-told_in_turn : (t : TestValue) (told : ℕ × Complaint) → IsKeptInTurn t (HasTold told)
-told_in_turn t told = record {
+bad_in_turn : (t : TestValue) (found : ℕ × Complaint) → IsKeptInTurn t (HasBad found)
+bad_in_turn t found = record {
   calls = by_answers _ _ (record { asks = λ m d w h. h; spends = λ m h. h; invokes = λ m thread request w i y h. h });
   begins = λ m due w d h. h;
   heals = λ m is e h. h;
@@ -58,8 +58,8 @@ told_in_turn t told = record {
   ends_final = λ m is e h. h;
 }
 
-told_by_line : (t : TestValue) (told : ℕ × Complaint) → IsKeptByLine t (HasTold told)
-told_by_line t told = record {
+bad_by_line : (t : TestValue) (found : ℕ × Complaint) → IsKeptByLine t (HasBad found)
+bad_by_line t found = record {
   listens = λ m h. h;
   clocks = λ m time h. h;
   stops = λ m h. h;
@@ -68,59 +68,59 @@ told_by_line t told = record {
   finishes = λ m thread c op e no fits h. h;
 }
 
--- what is told of a line with this complaint
-abbrev pub told_of : Option Complaint → ℕ → Option (ℕ × Complaint)
-told_of None read = None
-told_of (Some why) read = Some (read, why)
+-- what is found of a line with this complaint
+abbrev pub bad_of : Option Complaint → ℕ → Option (ℕ × Complaint)
+bad_of None read = None
+bad_of (Some why) read = Some (read, why)
 
-refused : (m : Machine) (why : Complaint) → m.bad ≡ None → Tells (Some (m.read, why)) m.read (refuse why m)
+refused : (m : Machine) (why : Complaint) → m.bad ≡ None → FindsBad (Some (m.read, why)) m.read (refuse why m)
 refused m why none = (ap (λ b. first b (m.read, why)) none, refl)
 
-timed : (m : Machine) (time : Option ℕ) → m.bad ≡ None → Tells None m.read (at_time time m)
+timed : (m : Machine) (time : Option ℕ) → m.bad ≡ None → FindsBad None m.read (at_time time m)
 timed m None none = (none, refl)
 timed m (Some time) none = (none, refl)
 
-tells_answer : (m : Machine) (op : Operation) (time : Option ℕ) → m.bad ≡ None → (w : Option OpenStep)
-    → Tells (told_of (complaint_of_answer w op) m.read) m.read (take_answer op time m w)
-tells_answer m op time none None = refused m complaint.NoStepOpen none
-tells_answer m op time none (Some w) =
-    elim (answers_step w op) as (λ b. Tells (told_of (if b then None else Some complaint.OtherStep) m.read) m.read (if b then answer_step w op (at_time time m) else refuse complaint.OtherStep m)) [
+finds_answer : (m : Machine) (op : Operation) (time : Option ℕ) → m.bad ≡ None → (w : Option OpenStep)
+    → FindsBad (bad_of (complaint_of_answer w op) m.read) m.read (take_answer op time m w)
+finds_answer m op time none None = refused m complaint.NoStepOpen none
+finds_answer m op time none (Some w) =
+    elim (answers_step w op) as (λ b. FindsBad (bad_of (if b then None else Some complaint.OtherStep) m.read) m.read (if b then answer_step w op (at_time time m) else refuse complaint.OtherStep m)) [
       | true ↦ timed m time none
       | false ↦ refused m complaint.OtherStep none
     ]
 
-tells_end : (t : TestValue) (m : Machine) (thread : ℕ) (c : ValuedCall) (op : Operation) (time : Option ℕ) → m.bad ≡ None
-    → Tells (told_of (complaint_of_end t c op) m.read) m.read (take_end t thread c op time m)
-tells_end t m thread c op time none = by_two (is_invoke op.kind || not (is_keyword (request_name c.request) op.f)) (not (fits_call t c op.kind op.value))
+finds_end : (t : TestValue) (m : Machine) (thread : ℕ) (c : ValuedCall) (op : Operation) (time : Option ℕ) → m.bad ≡ None
+    → FindsBad (bad_of (complaint_of_end t c op) m.read) m.read (take_end t thread c op time m)
+finds_end t m thread c op time none = by_two (is_invoke op.kind || not (is_keyword (request_name c.request) op.f)) (not (fits_call t c op.kind op.value))
   where
     by_two : (other odd : Bool)
-        → Tells (told_of (if other then Some complaint.OtherCall else if odd then Some complaint.BadValue else None) m.read) m.read
+        → FindsBad (bad_of (if other then Some complaint.OtherCall else if odd then Some complaint.BadValue else None) m.read) m.read
         (if other then refuse complaint.OtherCall m else if odd then refuse complaint.BadValue m else finish t thread c.request op (at_time time m))
     by_two true odd = refused m complaint.OtherCall none
     by_two false true = refused m complaint.BadValue none
     by_two false false = timed m time none
 
-tells_completion : (t : TestValue) (m : Machine) (process : ℕ) (op : Operation) (time : Option ℕ) → m.bad ≡ None → (c : Option ValuedCall)
-    → Tells (told_of (complaint_of_completion t m process c op) m.read) m.read (take_completion t process op time m c)
-tells_completion t m process op time none None = refused m complaint.NoCallOpen none
-tells_completion t m process op time none (Some c) =
-    elim (caller_process t m (thread_of_process t process) == process) as (λ b. Tells (told_of (if b then complaint_of_end t c op else Some complaint.NoCallOpen) m.read) m.read
+finds_completion : (t : TestValue) (m : Machine) (process : ℕ) (op : Operation) (time : Option ℕ) → m.bad ≡ None → (c : Option ValuedCall)
+    → FindsBad (bad_of (complaint_of_completion t m process c op) m.read) m.read (take_completion t process op time m c)
+finds_completion t m process op time none None = refused m complaint.NoCallOpen none
+finds_completion t m process op time none (Some c) =
+    elim (caller_process t m (thread_of_process t process) == process) as (λ b. FindsBad (bad_of (if b then complaint_of_end t c op else Some complaint.NoCallOpen) m.read) m.read
     (if b then take_end t (thread_of_process t process) c op time m else refuse complaint.NoCallOpen m)) [
-      | true ↦ tells_end t m (thread_of_process t process) c op time none
+      | true ↦ finds_end t m (thread_of_process t process) c op time none
       | false ↦ refused m complaint.NoCallOpen none
     ]
 
 -- what one line brings
-tells_take : (t : TestValue) (m : Machine) (line : MeaningValue) → m.bad ≡ None → Tells (told_of (complaint_of t m line) m.read) m.read (take_in t line m)
-tells_take t m Nothing none = (none, refl)
-tells_take t m (Clock time) none = (none, refl)
-tells_take t m Stop none = (none, refl)
-tells_take t m (Bad why) none = refused m why none
-tells_take t m (Reply op time) none = go op.process
+finds_take : (t : TestValue) (m : Machine) (line : MeaningValue) → m.bad ≡ None → FindsBad (bad_of (complaint_of t m line) m.read) m.read (take_in t line m)
+finds_take t m Nothing none = (none, refl)
+finds_take t m (Clock time) none = (none, refl)
+finds_take t m Stop none = (none, refl)
+finds_take t m (Bad why) none = refused m why none
+finds_take t m (Reply op time) none = go op.process
   where
-    go : (p : Process) → Tells (told_of (complaint_of_reply t m op p) m.read) m.read (take_reply t op time p m)
-    go Process.Nemesis = tells_answer m op time none m.step
-    go (Process.Client process) = tells_completion t m process op time none (caller_of m (thread_of_process t process)).call
+    go : (p : Process) → FindsBad (bad_of (complaint_of_reply t m op p) m.read) m.read (take_reply t op time p m)
+    go Process.Nemesis = finds_answer m op time none m.step
+    go (Process.Client process) = finds_completion t m process op time none (caller_of m (thread_of_process t process)).call
 
 -- a complaint is the same behind a listening
 same_complaint : (t : TestValue) (m : Machine) (line : MeaningValue) → complaint_of t (listen m) line ≡ complaint_of t m line
@@ -134,32 +134,32 @@ same_complaint t m (Reply op time) = go op.process
     go Process.Nemesis = refl
     go (Process.Client process) = refl
 
-tells_reply : (t : TestValue) (m : Machine) (line : List ℕ) → m.bad ≡ None
-    → Tells (told_of (if is_test_over m then None else complaint_of t m (line_meaning line)) (m.read + 1)) (m.read + 1) (reply t m line)
-tells_reply t m line none =
-    elim (is_test_over m) as (λ b. Tells (told_of (if b then None else complaint_of t m (line_meaning line)) (m.read + 1)) (m.read + 1) (if b then listen m else turn t (take_in t (line_meaning line) (listen m)))) [
+finds_reply : (t : TestValue) (m : Machine) (line : List ℕ) → m.bad ≡ None
+    → FindsBad (bad_of (if is_test_over m then None else complaint_of t m (line_meaning line)) (m.read + 1)) (m.read + 1) (reply t m line)
+finds_reply t m line none =
+    elim (is_test_over m) as (λ b. FindsBad (bad_of (if b then None else complaint_of t m (line_meaning line)) (m.read + 1)) (m.read + 1) (if b then listen m else turn t (take_in t (line_meaning line) (listen m)))) [
       | true ↦ (none, refl)
       | false ↦
-          let told = told_of (complaint_of t m (line_meaning line)) (m.read + 1) in
-          let took = tells_take t (listen m) (line_meaning line) none in
-          kept_turn t (Tells told (m.read + 1)) (tells_in_turn t told (m.read + 1)) (take_in t (line_meaning line) (listen m))
-          (took.0 ∙ ap (λ c. told_of c (m.read + 1)) (same_complaint t m (line_meaning line)), took.1)
+          let found = bad_of (complaint_of t m (line_meaning line)) (m.read + 1) in
+          let took = finds_take t (listen m) (line_meaning line) none in
+          kept_turn t (FindsBad found (m.read + 1)) (finds_in_turn t found (m.read + 1)) (take_in t (line_meaning line) (listen m))
+          (took.0 ∙ ap (λ c. bad_of c (m.read + 1)) (same_complaint t m (line_meaning line)), took.1)
     ]
 
-tells_all : (t : TestValue) (d : Drivers t) (lines : List (List ℕ)) (m : Machine) (n : ℕ) → Tells None n m → (after_lines (reply t) m lines).bad ≡ first_bad t m n lines
-tells_all t d [] m n h = h.0
-tells_all t d (line ∷ lines) m n h =
-    let one = tells_reply t m line h.0 in
+finds_all : (t : TestValue) (d : Drivers t) (lines : List (List ℕ)) (m : Machine) (n : ℕ) → FindsBad None n m → (after_lines (reply t) m lines).bad ≡ first_bad t m n lines
+finds_all t d [] m n h = h.0
+finds_all t d (line ∷ lines) m n h =
+    let one = finds_reply t m line h.0 in
     let number : m.read + 1 ≡ n + 1 = ap (λ k. k + 1) h.1 in
-    go (if is_test_over m then None else complaint_of t m (line_meaning line)) (one.0 ∙ ap (told_of (if is_test_over m then None else complaint_of t m (line_meaning line))) number)
-    (λ none. tells_all t d lines (reply t m line) (n + 1) (none, one.1 ∙ number))
+    go (if is_test_over m then None else complaint_of t m (line_meaning line)) (one.0 ∙ ap (bad_of (if is_test_over m then None else complaint_of t m (line_meaning line))) number)
+    (λ none. finds_all t d lines (reply t m line) (n + 1) (none, one.1 ∙ number))
   where
-    go : (c : Option Complaint) → (reply t m line).bad ≡ told_of c (n + 1)
+    go : (c : Option Complaint) → (reply t m line).bad ≡ bad_of c (n + 1)
         → ((reply t m line).bad ≡ None → (after_lines (reply t) (reply t m line) lines).bad ≡ first_bad t (reply t m line) (n + 1) lines)
         → (after_lines (reply t) (reply t m line) lines).bad ≡ first_bad_or t c (n + 1) (first_bad t (reply t m line) (n + 1) lines)
     go None e later = later e
-    go (Some why) e later = kept_lines t (HasTold (n + 1, why)) (told_in_turn t (n + 1, why)) (told_by_line t (n + 1, why)) lines (reply t m line) e
+    go (Some why) e later = kept_lines t (HasBad (n + 1, why)) (bad_in_turn t (n + 1, why)) (bad_by_line t (n + 1, why)) lines (reply t m line) e
 
-pub first_told : (t : TestValue) (d : Drivers t) (lines : List (List ℕ)) → (run t d lines).bad ≡ first_bad t (start t d) 0 lines
-first_told t d lines =
-    tells_all t d lines (start t d) 0 (kept_turn t (Tells None 0) (tells_in_turn t None 0) (at_first t d.first d.last (first_state t.start)) (refl, refl))
+pub first_bad_kept : (t : TestValue) (d : Drivers t) (lines : List (List ℕ)) → (run t d lines).bad ≡ first_bad t (start t d) 0 lines
+first_bad_kept t d lines =
+    finds_all t d lines (start t d) 0 (kept_turn t (FindsBad None 0) (finds_in_turn t None 0) (at_first t d.first d.last (first_state t.start)) (refl, refl))

@@ -30,7 +30,7 @@ use Rattle.jh_test_parts.specs.Test.{TestValue}
 use Rattle.jh_conversation.specs.Turn.{after_rest, answer_to, ask, begin, begin_due, calls}
 use Rattle.jh_conversation.specs.Turn.{calls_ended, due_in_phase, end, final, go_on, has_healed}
 use Rattle.jh_conversation.specs.Turn.{has_recovered, heal, invoke, may_call, move, move_from}
-use Rattle.jh_conversation.specs.Turn.{passes, rest, round, rounds, step, told, turn, visit, visits}
+use Rattle.jh_conversation.specs.Turn.{passes, rest, round, rounds, step, after_answer, turn, visit, visits}
 use Rattle.jh_conversation.specs.Turn.{when, work}
 use Rattle.jh_conversation.specs.declared.turns.Due.{Due}
 use Rattle.jh_test_parts.specs.declared.calls.ValuedCall.{ValuedCall}
@@ -40,7 +40,7 @@ use Rattle.jh_test_parts.specs.declared.complaints.Complaint.TheVariants as comp
 use Rattle.jh_conversation.specs.declared.phase.Phase.{Phase}
 use Rattle.jh_conversation.specs.declared.phase.Phase.TheVariants.{Main, Heal, Rest, Final, Over}
 
--- what a thread is told
+-- what a thread's answer makes of it
 pub record IsKeptByAnswers (t : TestValue) (P : Machine → Type 0) : Type 0 where
   pub asks : (m : Machine) (driver : DriverState) (random_numbers : Lcg) → P m → P (record m { driver = driver; random_numbers = random_numbers })
   pub spends : (m : Machine) → P m → P (record m { has_spent = true })
@@ -58,7 +58,7 @@ by_answers t P k = record {
       go (record m { driver = answer.1; random_numbers = word.1 }) thread answer.0 within idle may (k.asks m answer.1 word.1 h);
 }
   where
-    go : (m : Machine) (thread : ℕ) (answer : GenAnswer) → thread < t.clients → (caller_of m thread).call ≡ None → may_call t m ≡ true → P m → P (told t thread answer m)
+    go : (m : Machine) (thread : ℕ) (answer : GenAnswer) → thread < t.clients → (caller_of m thread).call ≡ None → may_call t m ≡ true → P m → P (after_answer t thread answer m)
     go m thread Pending within idle may h = h
     go m thread Done within idle may h = k.spends m h
     go m thread (Call p (call.Client request)) within idle may h = k.invokes m thread request within idle may h

@@ -21,7 +21,7 @@ use Rattle.jh_conversation.specs.Lines.{ended_as}
 use Rattle.jh_conversation.specs.Machine.{Machine, caller_of}
 use Rattle.jh_conversation.specs.Offered.{AreAllOffers, AreCallsOf, AreFinalCalls, AreOffers, CallsAreOffers}
 use Rattle.jh_conversation.specs.Offered.{MainCallsAreOffers, given_calls}
-use Rattle.jh_conversation.specs.Turn.{answer_to, may_call_in, told}
+use Rattle.jh_conversation.specs.Turn.{answer_to, may_call_in, after_answer}
 use Rattle.jh_conversation.specs.declared.phase.Phase.{Phase}
 use Rattle.jh_conversation.specs.declared.phase.Phase.TheVariants.{Main, Heal, Rest, Final, Over}
 use Rattle.jh_conversation.proofs.KeptLemmas.{IsKeptByLine, IsKeptInTurn, kept_run}
@@ -134,17 +134,17 @@ module _ (asked_answers : AskedAnswers) (end_keeps : EndKeepsGenerator) (t : Tes
       final_after d last calls n h (answer_to d n w).0 (answer_to d n w).1 (source_after d (clients (limit t.ops h.g)) h.last n w is within h.source)
   part_after Over stops given now d last calls n w may is within h = absurd (false≢true may)
 
-  told_offers : (m : Machine) (n : ℕ) → n < t.clients → m.has_spent ≡ false → (answer : GenAnswer) → PartAfter m.phase m.last (given_calls t m.history) n answer m.driver → Offered (told t n answer m)
-  told_offers m n within unspent Pending h = (h.0, subst (λ b. Part m.phase b m.driver m.last (given_calls t m.history)) (sym unspent) h.1)
-  told_offers m n within unspent Done h = h
-  told_offers m n within unspent (Call p (call.Client request)) h =
+  answer_offers : (m : Machine) (n : ℕ) → n < t.clients → m.has_spent ≡ false → (answer : GenAnswer) → PartAfter m.phase m.last (given_calls t m.history) n answer m.driver → Offered (after_answer t n answer m)
+  answer_offers m n within unspent Pending h = (h.0, subst (λ b. Part m.phase b m.driver m.last (given_calls t m.history)) (sym unspent) h.1)
+  answer_offers m n within unspent Done h = h
+  answer_offers m n within unspent (Call p (call.Client request)) h =
       let calls = given_calls t m.history in
       let own : (n + t.clients * (caller_of m n).crashes) % t.clients ≡ n = thread_is n t.clients (caller_of m n).crashes within in (
         h.0,
         subst (λ k. Part m.phase m.has_spent m.driver m.last ((k, request) ∷ calls)) (sym own)
             (subst (λ b. Part m.phase b m.driver m.last ((n, request) ∷ calls)) (sym unspent) h.1),
       )
-  told_offers m n within unspent (Call p (call.Step place)) h = h
+  answer_offers m n within unspent (Call p (call.Step place)) h = h
 
   source_ended : (spent : Bool) (d : DriverState) (x : Thread) (end : Ended) (g : Generator) (calls : List (ℕ × Request)) → Source spent d g calls → Source spent (driver_after_end d x end) g calls
   source_ended spent d x end g calls s = record { tally = s.tally; offers = s.offers; stands = λ more. end_keeps d x end g s.tally (s.stands more) }
@@ -196,7 +196,7 @@ module _ (asked_answers : AskedAnswers) (end_keeps : EndKeepsGenerator) (t : Tes
           let answer = answer_to m.driver n word.0 in
           let both = and_parts (not m.has_spent) (may_call_in m.phase t m.stops m.given m.clock) may in
           let unspent : m.has_spent ≡ false = not-true m.has_spent both.0 in
-          told_offers (record m { driver = answer.1; random_numbers = word.1 }) n within unspent answer.0
+          answer_offers (record m { driver = answer.1; random_numbers = word.1 }) n within unspent answer.0
           (part_after m.phase m.stops m.given m.clock m.driver m.last (given_calls t m.history) n word.0 both.1 h.0 within
           (subst (λ b. Part m.phase b m.driver m.last (given_calls t m.history)) unspent h.1));
     };

@@ -41,7 +41,7 @@ use Rattle.jh_conversation.specs.Sound.{earlier_calls, is_busy_for, is_idle, ope
 use Rattle.jh_test_parts.specs.Test.{IsFitTest, TestValue}
 use Rattle.jh_conversation.specs.Turn.{answer_to, call_made, calls_ended, counts_after}
 use Rattle.jh_conversation.specs.Turn.{due_in_phase, group_of, has_come_to, if_due, invoke}
-use Rattle.jh_conversation.specs.Turn.{may_call, told}
+use Rattle.jh_conversation.specs.Turn.{may_call, after_answer}
 use Rattle.jh_test_parts.specs.declared.calls.ValuedCall.{ValuedCall}
 use Rattle.jh_conversation.specs.declared.callers.Caller.{Caller}
 use Rattle.jh_test_parts.specs.declared.parts.TestEntry.{TestEntry}
@@ -335,11 +335,11 @@ module _ (t : TestValue) (fit : IsFitTest t) (m : Machine) (n : ℕ) (random_num
         },
       )
 
-  pub sound_told : (x : GenAnswer × DriverState) → HasAsked m.driver n x → IsSoundMachine t (told t n x.0 (record m { driver = x.1; random_numbers = random_numbers }))
-  sound_told (Pending, e) is = sound_same e is
-  sound_told (Done, e) is = sound_spent e is
-  sound_told (Call p (call.Step place), e) is = sound_stepped e is
-  sound_told (Call p (call.Client request), e) is = sound_called e request is
+  pub sound_answer : (x : GenAnswer × DriverState) → HasAsked m.driver n x → IsSoundMachine t (after_answer t n x.0 (record m { driver = x.1; random_numbers = random_numbers }))
+  sound_answer (Pending, e) is = sound_same e is
+  sound_answer (Done, e) is = sound_spent e is
+  sound_answer (Call p (call.Step place), e) is = sound_stepped e is
+  sound_answer (Call p (call.Client request), e) is = sound_called e request is
 
 idle_is : (callers : List Caller) (k : ℕ) → (get_or callers k no_caller).call ≡ None → is_idle callers k ≡ true
 idle_is callers k e = ap has_no_call e
@@ -348,7 +348,7 @@ pub sound_by_calls : (t : TestValue) → IsFitTest t → IsKeptByCalls t (IsSoun
 sound_by_calls t fit = record {
   visits = λ m n within none may h.
       let word = pcg64 m.random_numbers in
-      sound_told t fit m n word.1 within (idle_is m.callers n none) may h (answer_to m.driver n word.0) (has_asked m.driver n word.0);
+      sound_answer t fit m n word.1 within (idle_is m.callers n none) may h (answer_to m.driver n word.0) (has_asked m.driver n word.0);
 }
 
 -- A turn.

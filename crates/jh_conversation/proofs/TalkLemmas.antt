@@ -24,7 +24,7 @@ use Rattle.jh_test_parts.specs.Values.{fits_call}
 use Rattle.jh_test_parts.specs.Test.{thread_of_process}
 use Rattle.jh_conversation.specs.Machine.{Machine, caller_process, caller_of}
 use Rattle.jh_test_parts.specs.Test.{TestValue}
-use Rattle.jh_test_parts.specs.Told.{cells_told}
+use Rattle.jh_test_parts.specs.Changes.{changed_cells}
 use Rattle.jh_conversation.specs.Turn.{call_made, turn}
 use Rattle.jh_test_parts.specs.Test.{node_of_thread}
 use Rattle.jh_test_parts.specs.declared.calls.ValuedCall.{ValuedCall}
@@ -48,7 +48,7 @@ said_in_turn t before = record {
   });
   begins = λ m due w d h.
       let after = state_after m.nemesis due.step in
-      ap (λ l. Begun m.clock due.entry due.step (cells_told m.nemesis.start (faults_in m.nemesis.active) (faults_in after.active)) ∷ l) h;
+      ap (λ l. Begun m.clock due.entry due.step (changed_cells m.nemesis.start (faults_in m.nemesis.active) (faults_in after.active)) ∷ l) h;
   heals = λ m is e h. h;
   rests = λ m is w q h. h;
   ends_rest = λ m is h. h;

@@ -31,8 +31,8 @@ use Rattle.jh_test_parts.specs.declared.complaints.Complaint.{Complaint}
 use Rattle.jh_test_parts.specs.declared.complaints.Complaint.TheVariants as complaint
 use Rattle.jh_conversation.specs.declared.phase.Phase.{Phase}
 use Rattle.jh_conversation.specs.declared.phase.Phase.TheVariants.{Main, Heal, Rest, Over}
-use Rattle.jh_test_parts.specs.declared.records.LinkTold.{LinkTold}
-use Rattle.jh_test_parts.specs.declared.records.NodeTold.{NodeTold}
+use Rattle.jh_test_parts.specs.declared.records.ChangedLink.{ChangedLink}
+use Rattle.jh_test_parts.specs.declared.records.ChangedNode.{ChangedNode}
 use Rattle.jh_test_parts.specs.declared.records.Recorded.{Recorded}
 use Rattle.jh_test_parts.specs.declared.records.Recorded.TheVariants.{Invoked, Ended, Begun}
 use Rattle.jh_test_parts.specs.declared.records.Recorded.TheVariants.{Answered}
@@ -186,39 +186,40 @@ abbrev pub HistoryIsFormed : Type 0
 HistoryIsFormed =
     (t : TestValue) (d : Drivers t) (lines : List (List ℕ)) → IsFormed t (run t d lines).history
 
--- The cells that were told are the environment.
+-- The cells of the steps are the environment.
 
--- what a link that was l is after these were told, in order
-abbrev pub link_told_after : List LinkTold → ℕ → ℕ → Link → Link
-link_told_after [] a b l = l
-link_told_after (told ∷ more) a b l =
-    link_told_after more a b (if told.source == a && told.destination == b then told.link else l)
+-- what a link that was l is after these changes, in order
+abbrev pub link_after_changes : List ChangedLink → ℕ → ℕ → Link → Link
+link_after_changes [] a b l = l
+link_after_changes (one ∷ more) a b l =
+    link_after_changes more a b (if one.source == a && one.destination == b then one.link else l)
 
-abbrev pub node_told_after : List NodeTold → ℕ → NodeCell → NodeCell
-node_told_after [] a n = n
-node_told_after (told ∷ more) a n = node_told_after more a (if told.node == a then told.cell else n)
+abbrev pub node_after_changes : List ChangedNode → ℕ → NodeCell → NodeCell
+node_after_changes [] a n = n
+node_after_changes (one ∷ more) a n = node_after_changes more a (if one.node == a then one.cell else n)
 
 -- what it is after all steps of a history, the newest record first
-abbrev pub told_link_in : List Recorded → ℕ → ℕ → Link → Link
-told_link_in [] a b l = l
-told_link_in (Begun time entry step cells ∷ past) a b l =
-    link_told_after cells.links a b (told_link_in past a b l)
-told_link_in (_ ∷ past) a b l = told_link_in past a b l
+abbrev pub link_after_steps : List Recorded → ℕ → ℕ → Link → Link
+link_after_steps [] a b l = l
+link_after_steps (Begun time entry step cells ∷ past) a b l =
+    link_after_changes cells.links a b (link_after_steps past a b l)
+link_after_steps (_ ∷ past) a b l = link_after_steps past a b l
 
-abbrev pub told_node_in : List Recorded → ℕ → NodeCell → NodeCell
-told_node_in [] a n = n
-told_node_in (Begun time entry step cells ∷ past) a n = node_told_after cells.nodes a (told_node_in past a n)
-told_node_in (_ ∷ past) a n = told_node_in past a n
+abbrev pub node_after_steps : List Recorded → ℕ → NodeCell → NodeCell
+node_after_steps [] a n = n
+node_after_steps (Begun time entry step cells ∷ past) a n = node_after_changes cells.nodes a (node_after_steps past a n)
+node_after_steps (_ ∷ past) a n = node_after_steps past a n
 
--- at each moment what was told, applied to the start in order, is what the active faults make of it
+-- at each moment the changes of all steps, applied to the start in order, are what the active faults
+-- make of it
 abbrev pub CellsAreEnvironment : Type 0
 CellsAreEnvironment =
     (t : TestValue) (d : Drivers t) (lines : List (List ℕ)) (a b : ℕ) (l : Link) (n : NodeCell)
     → (link_at t.start.start a b ≡ Some l
-    → told_link_in (run t d lines).history a b l
+    → link_after_steps (run t d lines).history a b l
     ≡ link_over (faults_in (run t d lines).nemesis.active) a b l)
     × (node_at t.start.start a ≡ Some n
-    → told_node_in (run t d lines).history a n
+    → node_after_steps (run t d lines).history a n
     ≡ node_over (faults_in (run t d lines).nemesis.active) a n)
 
 abbrev pub IsPastHeal : Phase → Type 0
@@ -226,7 +227,7 @@ IsPastHeal Main = ⊥
 IsPastHeal Heal = ⊥
 IsPastHeal _ = Unit {0}
 
--- from *rest* on no fault is active, and what was told adds up to the start
+-- from *rest* on no fault is active, and the changes add up to the start
 abbrev pub RestIsQuiet : Type 0
 RestIsQuiet =
     (t : TestValue) (d : Drivers t) (lines : List (List ℕ)) → IsPastHeal (run t d lines).phase
@@ -236,8 +237,8 @@ abbrev pub RestIsStart : Type 0
 RestIsStart =
     (t : TestValue) (d : Drivers t) (lines : List (List ℕ)) (a b : ℕ) (l : Link) (n : NodeCell)
     → IsPastHeal (run t d lines).phase
-    → (link_at t.start.start a b ≡ Some l → told_link_in (run t d lines).history a b l ≡ l)
-    × (node_at t.start.start a ≡ Some n → told_node_in (run t d lines).history a n ≡ n)
+    → (link_at t.start.start a b ≡ Some l → link_after_steps (run t d lines).history a b l ≡ l)
+    × (node_at t.start.start a ≡ Some n → node_after_steps (run t d lines).history a n ≡ n)
 
 -- Calls.
 
@@ -293,7 +294,7 @@ CallsAreTimely =
     (t : TestValue) (d : Drivers t) (lines : List (List ℕ)) → IsBeforeFinal (run t d lines).phase
     → AreTimely t (run t d lines).history
 
--- The first line that is no reply is the one that is told.
+-- The first line that is no reply is the one that is kept.
 
 abbrev pub complaint_of_answer : Option OpenStep → Operation → Option Complaint
 complaint_of_answer None op = Some complaint.NoStepOpen
@@ -338,8 +339,8 @@ first_bad t m n (line ∷ lines) =
     first_bad_or t (if is_test_over m then None else complaint_of t m (line_meaning line)) (n + 1)
     (first_bad t (reply t m line) (n + 1) lines)
 
-abbrev pub FirstBadIsTold : Type 0
-FirstBadIsTold =
+abbrev pub FirstBadIsKept : Type 0
+FirstBadIsKept =
     (t : TestValue) (d : Drivers t) (lines : List (List ℕ))
     → (run t d lines).bad ≡ first_bad t (start t d) 0 lines
 

@@ -46,18 +46,18 @@ is_test_over m = is_end_phase m.phase
 
 -- the first of these numbers is kept
 abbrev pub first : Option (ℕ × Complaint) → ℕ × Complaint → Option (ℕ × Complaint)
-first None told = Some told
-first (Some earlier) told = Some earlier
+first None later = Some later
+first (Some earlier) later = Some earlier
 
--- how often it was told to stop after so many more stops; twice is all that counts
+-- how often a stop was read after so many more of them; twice is all that counts
 abbrev pub stops_after : ℕ → ℕ → ℕ
 stops_after more stops = min 2 (stops + more)
 
--- A line that is no reply: the first one is told, and each counts as two stops.
+-- A line that is no reply: the first one is kept, and each counts as two stops.
 abbrev pub refuse : Complaint → Machine → Machine
 refuse why m = record m { bad = first m.bad (m.read, why); stops = stops_after 2 m.stops }
 
--- the greatest time that was told; an integer of a text is less than 2^63
+-- the greatest time that was read; an integer of a text is less than 2^63
 abbrev pub clock_after : ℕ → ℕ → ℕ
 clock_after now time = min (max now time) (2 ^ 63 - 1)
 

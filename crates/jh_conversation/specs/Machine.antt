@@ -35,9 +35,9 @@ pub record Machine : Type 0 where
   pub nemesis : State
   pub taken : ℕ
   pub step : Option OpenStep
-  -- how often it was told to stop, up to twice: once ends the calls of *main*, twice those of *final* too
+  -- how often a stop was read, up to twice: once ends the calls of *main*, twice those of *final* too
   pub stops : ℕ
-  -- the greatest time that was told, and that at which *rest* began, in nanoseconds
+  -- the greatest time that was read, and that at which *rest* began, in nanoseconds
   pub clock : ℕ
   pub rest_began : ℕ
   -- how many lines were read, and the first one that is no reply

@@ -25,7 +25,7 @@ use Rattle.jh_conversation.specs.Machine.{Machine}
 use Rattle.jh_conversation.specs.Machine.{are_free, has_no_call, new_callers, caller_process, say}
 use Rattle.jh_conversation.specs.Machine.{caller_of}
 use Rattle.jh_test_parts.specs.Test.{TestValue, node_of_thread}
-use Rattle.jh_test_parts.specs.Told.{cells_told}
+use Rattle.jh_test_parts.specs.Changes.{changed_cells}
 use Rattle.jh_test_parts.specs.Transactions.{TransactionSource, next_transaction}
 use Rattle.jh_test_parts.specs.declared.calls.ValuedCall.{ValuedCall}
 use Rattle.jh_conversation.specs.declared.callers.OpenStep.{OpenStep}
@@ -103,7 +103,7 @@ begin due m =
     let after = state_after m.nemesis due.step in
     say
     (Begun m.clock due.entry due.step
-    (cells_told m.nemesis.start (faults_in m.nemesis.active) (faults_in after.active)))
+    (changed_cells m.nemesis.start (faults_in m.nemesis.active) (faults_in after.active)))
     (record m {
       nemesis = after;
       step = Some (record { entry = due.entry; code = code_of (answer_of m.nemesis due.step) });
@@ -173,11 +173,11 @@ invoke t thread request m =
 
 -- what a thread's answer makes of the machine; a generator of clients gives no step of the nemesis, and one
 -- would end the calls
-abbrev pub told : TestValue → ℕ → GenAnswer → Machine → Machine
-told t number Pending m = m
-told t number Done m = record m { has_spent = true }
-told t number (Call process (call.Client request)) m = invoke t number request m
-told t number (Call process (call.Step place)) m = record m { has_spent = true }
+abbrev pub after_answer : TestValue → ℕ → GenAnswer → Machine → Machine
+after_answer t number Pending m = m
+after_answer t number Done m = record m { has_spent = true }
+after_answer t number (Call process (call.Client request)) m = invoke t number request m
+after_answer t number (Call process (call.Step place)) m = record m { has_spent = true }
 
 -- a driver that has given all the calls that it may has no more
 abbrev pub answer_to : DriverState → ℕ → ℕ → GenAnswer × DriverState
@@ -188,7 +188,7 @@ abbrev pub ask : TestValue → ℕ → Machine → Machine
 ask t number m =
     let word = pcg64 m.random_numbers in
     let answer = answer_to m.driver number word.0 in
-    told t number answer.0 (record m { driver = answer.1; random_numbers = word.1 })
+    after_answer t number answer.0 (record m { driver = answer.1; random_numbers = word.1 })
 
 abbrev pub visit : TestValue → ℕ → Machine → Machine
 visit t number m =

@@ -3,7 +3,7 @@
 
 ghost use Rattle.jh_conversation.specs.Conversations.{ConversationIsRun};
 ghost use Rattle.jh_conversation.specs.Laws.{AlwaysWaits, CallsAreTimely, CellsAreEnvironment};
-ghost use Rattle.jh_conversation.specs.Laws.{FirstBadIsTold, HistoryIsFormed, HistoryIsTalk};
+ghost use Rattle.jh_conversation.specs.Laws.{FirstBadIsKept, HistoryIsFormed, HistoryIsTalk};
 ghost use Rattle.jh_conversation.specs.Laws.{KindsAreApart, RestIsQuiet, RestIsStart};
 ghost use Rattle.jh_conversation.specs.Laws.{StopEndsMainCalls, TimesAreInOrder, TurnSettles};
 ghost use Rattle.jh_conversation.specs.Laws.{TwoStopsEndCalls};
@@ -25,13 +25,13 @@ pub fn history_is_well_formed()
     ensures { HistoryIsFormed }
 {}
 
-/// At each moment what was told of links and nodes, applied to the start in order, is exactly what the active faults make
-/// of the start.
+/// At each moment the changes of links and nodes by all steps, applied to the start in order, are exactly what the active
+/// faults make of the start.
 pub fn cells_are_environment()
     ensures { CellsAreEnvironment }
 {}
 
-/// When *rest* begins no fault is active, and what was told adds up to the start itself.
+/// When *rest* begins no fault is active, and the changes of all steps add up to the start itself.
 pub fn rest_is_start()
     ensures quiet { RestIsQuiet }
     ensures start { RestIsStart }
@@ -52,9 +52,9 @@ pub fn turns_end()
     ensures waits { AlwaysWaits }
 {}
 
-/// The first line that is no reply is told with its number, and no other.
-pub fn first_bad_is_told()
-    ensures { FirstBadIsTold }
+/// The first line that is no reply is kept with its number, and no other.
+pub fn first_bad_is_kept()
+    ensures { FirstBadIsKept }
 {}
 
 /// A conversation that has heard some lines is the machine that all other laws speak of, after these lines.

@@ -14,7 +14,7 @@ mod turns;
 pub use conversation::Conversation;
 pub use laws::{
     calls_are_bounded, calls_are_offers, cells_are_environment, conversation_is_run,
-    first_bad_is_told, history_is_the_conversation, history_is_well_formed, rest_is_start,
+    first_bad_is_kept, history_is_the_conversation, history_is_well_formed, rest_is_start,
     turns_end,
 };
 pub use phase::Phase;

@@ -43,9 +43,9 @@ pub struct Machine {
     pub(crate) taken: usize,
     /// The step that waits for its answer.
     pub(crate) step: Option<OpenStep>,
-    /// How often it was told to stop, up to twice.
+    /// How often a stop was read, up to twice.
     pub(crate) stops: u64,
-    /// The greatest time that was told, and that at which *rest* began, in nanoseconds.
+    /// The greatest time that was read, and that at which *rest* began, in nanoseconds.
     pub(crate) clock: u64,
     pub(crate) rest_began: u64,
     /// How many lines were read.

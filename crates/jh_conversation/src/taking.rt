@@ -21,7 +21,7 @@ use jh_test_parts::{
 use jh_txn_histories::is_equal;
 use std::alloc::{AllocError, Global};
 
-/// The greatest time that a line can tell, in nanoseconds.
+/// The greatest time that a line can have, in nanoseconds.
 const MAX_TIME_NS: u64 = i64::MAX as u64;
 
 /// How many more processes have crashed.
@@ -58,7 +58,7 @@ fn answers_step(alloc: Global, step: OpenStep, op: &Op) -> Result<bool, AllocErr
 }
 
 impl Machine {
-    /// Tells a line that is no reply, if it is the first one; it counts as two stops.
+    /// Keeps a line that is no reply, if it is the first one; it counts as two stops.
     fn refuse(&mut self, why: Complaint)
         ensures { self.new ≡ rule.refuse why self.old }
     {
@@ -159,7 +159,7 @@ impl Machine {
         Ok(Ok(call.request))
     }
 
-    /// Ends a call of a thread, or tells why none is ended.
+    /// Ends a call of a thread, or keeps why none is ended.
     fn take_ended(
         &mut self,
         alloc: Global,

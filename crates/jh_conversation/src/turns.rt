@@ -5,7 +5,7 @@ ghost use Rattle.std.specs.Prelude.{slice_index_or};
 ghost use Rattle.jh_edn.specs.View.{view};
 ghost use Rattle.jh_nemesis.specs.State.{faults_in};
 ghost use Rattle.jh_nemesis.specs.Steps.{StepFits, answer_of, code_of, state_after};
-ghost use Rattle.jh_test_parts.specs.Told as told;
+ghost use Rattle.jh_test_parts.specs.Changes as changes;
 ghost use Rattle.jh_conversation.specs.Machine as machine;
 ghost use Rattle.jh_conversation.specs.Sound.{HasSmallCounts, IsSoundMachine};
 ghost use Rattle.jh_conversation.specs.Turn as rule;
@@ -19,7 +19,7 @@ use jh_gen::{Driver, GenAnswer, GenError, Thread};
 use jh_nemesis::{Nemesis, Step};
 use jh_ops::{Call, Request};
 use jh_test_parts::{
-    CellsTold, Datum, KeyShares, NamedCells, Recorded, Test, TestEntry, ValuedCall, When,
+    ChangedCells, Datum, KeyShares, NamedCells, Recorded, Test, TestEntry, ValuedCall, When,
 };
 use rand_core::utils::NextWord;
 use std::alloc::{AllocError, Global};
@@ -73,11 +73,11 @@ fn take_step(
     alloc: Global,
     nemesis: &mut Nemesis,
     step: Step,
-) -> Result<(u64, CellsTold), AllocError>
+) -> Result<(u64, ChangedCells), AllocError>
     requires { StepFits nemesis.old.state step }
     ensures state { OnOk result (nemesis.new.state ≡ state_after nemesis.old.state step) }
     ensures code { IfOk result (λ taken. taken.0 ≡ code_of (answer_of nemesis.old.state step)) }
-    ensures cells { IfOk result (λ taken. taken.1 ≡ told.cells_told nemesis.old.state.start
+    ensures cells { IfOk result (λ taken. taken.1 ≡ changes.changed_cells nemesis.old.state.start
         (faults_in nemesis.old.state.active)
         (faults_in (state_after nemesis.old.state step).active)) }
 {
@@ -86,7 +86,7 @@ fn take_step(
         NamedCells::of(alloc, nemesis.env(), &faults)?
     };
     let answer = nemesis.apply(step)?;
-    let cells = named.told(alloc, nemesis.env())?;
+    let cells = named.changed(alloc, nemesis.env())?;
     Ok((answer.code() as u64, cells))
 }
 

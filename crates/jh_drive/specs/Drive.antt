@@ -76,8 +76,8 @@ ended_early (Endings.ReadFailed error) = Read
 ended_early Endings.TooLong = TooLong
 ended_early _ = RepliesEnded
 
--- The answer of a test whose report is written: the first line that was no reply is told; else, if it came to
--- its end, the exit status of its verdict.
+-- The answer of a test whose report is written: the first line that was no reply is its error; else, if it came
+-- to its end, the exit status of its verdict.
 abbrev pub drive_answer : Option (ℕ × Complaint) → Bool → Ending → ℕ → Result ℕ DriveError
 drive_answer (Some bad) over ending status = Err (Reply bad.0 bad.1)
 drive_answer None true ending status = Ok status
@@ -95,7 +95,7 @@ module _ (t : TestValue) (judging : Judging) (input unread before after : Option
     pub status : ℕ
     pub report : List ℕ
     pub is_report : IsReportOf judging last status report
-    pub told : Appends before after (told_in past ++ report)
+    pub written : Appends before after (told_in past ++ report)
     pub answer : result ≡ drive_answer last.machine.bad (has_no_more last) ending status
 
   -- Memory was refused, or the output could not be written, or the history can't be judged.

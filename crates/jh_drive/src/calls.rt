@@ -26,9 +26,9 @@ pub trait CallObserver {
 
 /// Nobody is told.
 #[derive(Drop)]
-pub(crate) struct Untold;
+pub(crate) struct NoCallObserver;
 
-impl CallObserver for Untold {
+impl CallObserver for NoCallObserver {
     fn see_calls(&mut self, _calls: CallCounts) {}
 }
 

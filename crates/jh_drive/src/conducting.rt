@@ -8,7 +8,7 @@ ghost use Rattle.jh_test_parts.specs.Test.{TestValue};
 ghost use Rattle.jh_settings.specs.declared.error.SettingsError.{SettingsError};
 ghost use Rattle.jh_drive.specs.declared.error.DriveError.TheVariants as DriveErrors;
 
-use crate::calls::{CallObserver, Untold};
+use crate::calls::{CallObserver, NoCallObserver};
 use crate::error::DriveError;
 use crate::report::report;
 use jh_checkers::Judging;
@@ -130,7 +130,7 @@ pub fn drive<R: Read, W: Write>(
     ensures unread { (error : SettingsError) → IfErr result
         (λ e. e ≡ DriveErrors.Settings error → streams.new ≡ streams.old) }
 {
-    drive_observed(alloc, settings, streams, &mut Untold)
+    drive_observed(alloc, settings, streams, &mut NoCallObserver)
 }
 
 /// [`drive`], which tells an observer how the calls ended, once the conversation is over.

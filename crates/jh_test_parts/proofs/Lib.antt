@@ -1,6 +1,6 @@
 pub mod LineLemmas
 pub mod PlaceLemmas
 pub mod NamedLemmas
-pub mod ToldLemmas
+pub mod ChangeLemmas
 pub mod ValueLemmas
 pub mod TransactionLemmas

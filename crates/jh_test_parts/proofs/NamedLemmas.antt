@@ -18,8 +18,8 @@ use Rattle.jh_env.specs.Faults.FaultValue.{Cut, Slow, Loss, Fix, Pause, Kill, Bu
 use Rattle.jh_env.specs.Overlay.{EnvValue, cells_of}
 use Rattle.jh_nemesis.specs.Changed.{fault_names_link, fault_names_node}
 use Rattle.jh_test_parts.specs.NamedCells.{placed_link, link_named, all_links_named, node_named, all_nodes_named, placed_node}
-use Rattle.jh_test_parts.specs.Told.{places_of_nodes}
-use Rattle.jh_test_parts.specs.ToldInside.{AreNamedLinks, AreNamedNodes, link_cmp, links_of_fault, nodes_of_fault}
+use Rattle.jh_test_parts.specs.Changes.{places_of_nodes}
+use Rattle.jh_test_parts.specs.ChangesInside.{AreNamedLinks, AreNamedNodes, link_cmp, links_of_fault, nodes_of_fault}
 use Rattle.jh_test_parts.proofs.PlaceLemmas.{filter_same, flat_same, found_at_numbers, found_at_pairs, has}
 
 any_same : {X : Type 0} (p q : X → Bool) → ((x : X) → p x ≡ q x) → (xs : List X) → list_any p xs ≡ list_any q xs

@@ -18,7 +18,7 @@ use Rattle.std.proofs.lemmas.List.Folds.{Any-from_list_any, list_any-append, lis
 use Rattle.std.proofs.lemmas.List.Kept.{Any-dedup, Contains-from_dedup, IsStrictlySortedBy-filter}
 use Rattle.std.proofs.lemmas.Map.Lookups.{CmpEqualImpliesEq, btree_set_from_contains, exact_pairs, exact_unsigned}
 use Rattle.std.proofs.lemmas.Map.Views.{any-filter_same}
-use Rattle.jh_test_parts.specs.ToldInside.{link_cmp}
+use Rattle.jh_test_parts.specs.ChangesInside.{link_cmp}
 
 -- the list has one that the order does not tell from this one
 abbrev pub has : {K : Type 0} → (K → K → Ordering) → List K → K → Bool

@@ -1,5 +1,5 @@
--- How it is told why a line is no reply (this project's own). A line is one line of text, so an error of
--- its text is told without a line. The text of what is no operation is that of `jh_ops`, which no clause knows.
+-- The message of a line that is no reply (this project's own). A line is one line of text, so an error of
+-- its text is printed without a line. The text of what is no operation is that of `jh_ops`, which no clause knows.
 use Rattle.std.specs.Prelude.{ℕ, List, Option, None, Some, codes}
 use Rattle.jh_edn.specs.declared.error.EdnError.{EdnError}
 use Rattle.jh_edn.specs.declared.error.EdnError.TheVariants as edn

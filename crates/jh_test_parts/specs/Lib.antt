@@ -1,8 +1,8 @@
 pub mod Test
 pub mod TestInside
-pub mod Told
+pub mod Changes
 pub mod NamedCells
-pub mod ToldInside
+pub mod ChangesInside
 pub mod Records
 pub mod Complaints
 pub mod LineMeanings

@@ -5,7 +5,7 @@ use Rattle.jh_env.specs.Cells.{Link, NodeCell}
 use Rattle.jh_env.specs.Faults.{FaultValue}
 use Rattle.jh_env.specs.Overlay.{EnvValue, cells_of, link_of, node_of}
 use Rattle.jh_nemesis.specs.Changed.{fault_names_link, fault_names_node}
-use Rattle.jh_test_parts.specs.Told.{places_of_nodes}
+use Rattle.jh_test_parts.specs.Changes.{places_of_nodes}
 
 -- a link: its source, its destination and what it is
 abbrev pub PlacedLink : Type 0

@@ -15,9 +15,9 @@ use Rattle.jh_ops.specs.declared.operation.Process.{Process}
 use Rattle.jh_step_texts.specs.FaultWritten.{name_text}
 use Rattle.jh_step_texts.specs.StepWritten.{text_of_step}
 use Rattle.jh_ops.specs.Requests.{request_name}
-use Rattle.jh_test_parts.specs.Told.{CellsTold}
-use Rattle.jh_test_parts.specs.declared.records.LinkTold.{LinkTold}
-use Rattle.jh_test_parts.specs.declared.records.NodeTold.{NodeTold}
+use Rattle.jh_test_parts.specs.Changes.{ChangedCells}
+use Rattle.jh_test_parts.specs.declared.records.ChangedLink.{ChangedLink}
+use Rattle.jh_test_parts.specs.declared.records.ChangedNode.{ChangedNode}
 use Rattle.jh_test_parts.specs.declared.records.Recorded.{Recorded}
 use Rattle.jh_test_parts.specs.declared.records.Recorded.TheVariants.{Invoked, Ended, Begun}
 use Rattle.jh_test_parts.specs.declared.records.Recorded.TheVariants.{Answered}
@@ -42,14 +42,14 @@ node_value n = map_of (
     )
 
 -- `["n1" "n2" {..}]`
-abbrev pub link_told_value : List (List ℕ) → LinkTold → Edn
-link_told_value names told = vector_of (
-    name_text names told.source ∷ name_text names told.destination ∷ link_value told.link ∷ []
+abbrev pub changed_link_value : List (List ℕ) → ChangedLink → Edn
+changed_link_value names changed = vector_of (
+    name_text names changed.source ∷ name_text names changed.destination ∷ link_value changed.link ∷ []
     )
 
 -- `["n1" {..}]`
-abbrev pub node_told_value : List (List ℕ) → NodeTold → Edn
-node_told_value names told = vector_of (name_text names told.node ∷ node_value told.cell ∷ [])
+abbrev pub changed_node_value : List (List ℕ) → ChangedNode → Edn
+changed_node_value names changed = vector_of (name_text names changed.node ∷ node_value changed.cell ∷ [])
 
 -- an operation at its place in the history
 abbrev pub operation_placed : (index time : ℕ) → Kind → Process → List ℕ → Edn → List (Edn × Edn)
@@ -65,11 +65,11 @@ operation_placed index time kind process function value rest = record {
 }
 
 -- the other keys of a step's record
-abbrev pub step_pairs : List (List ℕ) → Step → CellsTold → List (Edn × Edn)
+abbrev pub step_pairs : List (List ℕ) → Step → ChangedCells → List (Edn × Edn)
 step_pairs names step cells =
     (keyword (codes "step"), text_of_step names step)
-    ∷ (keyword (codes "links"), vector_of (map (link_told_value names) cells.links))
-    ∷ (keyword (codes "nodes"), vector_of (map (node_told_value names) cells.nodes)) ∷ []
+    ∷ (keyword (codes "links"), vector_of (map (changed_link_value names) cells.links))
+    ∷ (keyword (codes "nodes"), vector_of (map (changed_node_value names) cells.nodes)) ∷ []
 
 -- the operation of a record at this index, over nodes of these names
 abbrev pub operation_of_record : List (List ℕ) → ℕ → Recorded → Operation

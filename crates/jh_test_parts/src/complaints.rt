@@ -1,4 +1,4 @@
-//! Why a line is no reply, and how that is told. `specs/Complaints.antt` has the texts.
+//! Why a line is no reply, and the message of that. `specs/Complaints.antt` has the texts.
 
 ghost use Rattle.std.specs.Prelude.{◌≡◌};
 ghost use Rattle.jh_test_parts.specs.Complaints as rule;

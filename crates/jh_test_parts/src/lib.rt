@@ -10,7 +10,7 @@ mod operations;
 mod parts;
 mod records;
 mod test;
-mod told;
+mod changes;
 mod transactions;
 mod values;
 
@@ -20,7 +20,7 @@ pub use line::{LineMeaning, kept_pairs, line_meaning};
 pub use named::NamedCells;
 pub use operations::{operation_of, operations_of};
 pub use parts::{KeyShares, TestEntry, TransactionShape, When};
-pub use records::{CellsTold, LinkTold, NodeTold, Recorded};
+pub use records::{ChangedCells, ChangedLink, ChangedNode, Recorded};
 pub use test::{MAX_TEST_ENTRIES, Test, TestData, TestError};
 pub use transactions::{Slot, TransactionSource};
 pub use values::fits_call;

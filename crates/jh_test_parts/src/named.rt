@@ -5,8 +5,8 @@ ghost use Rattle.std.specs.Prelude.{◌≡◌, ◌++◌, [], map, IfOk, OnOk};
 ghost use Rattle.std.specs.List.{cons_option, list_any};
 ghost use Rattle.std.specs.List.Sorted.{IsStrictlySortedBy};
 ghost use Rattle.jh_test_parts.specs.NamedCells as rule;
-ghost use Rattle.jh_test_parts.specs.ToldInside as inside;
-ghost use Rattle.jh_test_parts.specs.ToldInside.{AreNamedLinks, AreNamedNodes};
+ghost use Rattle.jh_test_parts.specs.ChangesInside as inside;
+ghost use Rattle.jh_test_parts.specs.ChangesInside.{AreNamedLinks, AreNamedNodes};
 
 use jh_env::{Env, Fault, Link, Node, NodeCell, PlainFault};
 use std::alloc::{AllocError, Global};

@@ -14,7 +14,7 @@ ghost use Rattle.jh_tables.specs.Standing.{IsLinkInRange};
 ghost use Rattle.jh_test_parts.specs.Records as rule;
 ghost use Rattle.jh_test_parts.specs.Records.{IsWritableRecord};
 
-use crate::records::{CellsTold, LinkTold, NodeTold, Recorded};
+use crate::records::{ChangedCells, ChangedLink, ChangedNode, Recorded};
 use jh_edn::{Pairs, Text, Value, Values};
 use jh_env::{Life, Link, Node, NodeCell, Nodes};
 use jh_nemesis::Step;
@@ -73,47 +73,47 @@ fn node_value(alloc: Global, cell: NodeCell) -> Result<Value, AllocError>
 }
 
 /// The value of a link that a step changed.
-fn link_told_value(alloc: Global, nodes: &Nodes, told: LinkTold) -> Result<Value, AllocError>
-    requires { IsLinkInRange told.link }
-    ensures { IfOk result (λ value. view value ≡ rule.link_told_value nodes.now told) }
+fn changed_link_value(alloc: Global, nodes: &Nodes, changed: ChangedLink) -> Result<Value, AllocError>
+    requires { IsLinkInRange changed.link }
+    ensures { IfOk result (λ value. view value ≡ rule.changed_link_value nodes.now changed) }
 {
     let mut values = Vec::new(alloc);
-    values.push(name_value(alloc, nodes, told.source)?)?;
-    values.push(name_value(alloc, nodes, told.destination)?)?;
-    values.push(link_value(alloc, told.link)?)?;
+    values.push(name_value(alloc, nodes, changed.source)?)?;
+    values.push(name_value(alloc, nodes, changed.destination)?)?;
+    values.push(link_value(alloc, changed.link)?)?;
     Ok(Value::Vector(Values::of(values)))
 }
 
 /// The value of a node that a step changed.
-fn node_told_value(alloc: Global, nodes: &Nodes, told: NodeTold) -> Result<Value, AllocError>
-    ensures { IfOk result (λ value. view value ≡ rule.node_told_value nodes.now told) }
+fn changed_node_value(alloc: Global, nodes: &Nodes, changed: ChangedNode) -> Result<Value, AllocError>
+    ensures { IfOk result (λ value. view value ≡ rule.changed_node_value nodes.now changed) }
 {
     let mut values = Vec::new(alloc);
-    values.push(name_value(alloc, nodes, told.node)?)?;
-    values.push(node_value(alloc, told.cell)?)?;
+    values.push(name_value(alloc, nodes, changed.node)?)?;
+    values.push(node_value(alloc, changed.cell)?)?;
     Ok(Value::Vector(Values::of(values)))
 }
 
 /// The values of the links that a step changed.
-fn link_values(alloc: Global, nodes: &Nodes, cells: &CellsTold) -> Result<Value, AllocError>
+fn link_values(alloc: Global, nodes: &Nodes, cells: &ChangedCells) -> Result<Value, AllocError>
     ensures { IfOk result (λ value. view value
-        ≡ vector_of (map (rule.link_told_value nodes.now) cells.now.links)) }
+        ≡ vector_of (map (rule.changed_link_value nodes.now) cells.now.links)) }
 {
     let mut values = Vec::new(alloc);
-    for told in &cells.links {
-        values.push(link_told_value(alloc, nodes, *told)?)?;
+    for changed in &cells.links {
+        values.push(changed_link_value(alloc, nodes, *changed)?)?;
     }
     Ok(Value::Vector(Values::of(values)))
 }
 
 /// The values of the nodes that a step changed.
-fn node_values(alloc: Global, nodes: &Nodes, cells: &CellsTold) -> Result<Value, AllocError>
+fn node_values(alloc: Global, nodes: &Nodes, cells: &ChangedCells) -> Result<Value, AllocError>
     ensures { IfOk result (λ value. view value
-        ≡ vector_of (map (rule.node_told_value nodes.now) cells.now.nodes)) }
+        ≡ vector_of (map (rule.changed_node_value nodes.now) cells.now.nodes)) }
 {
     let mut values = Vec::new(alloc);
-    for told in &cells.nodes {
-        values.push(node_told_value(alloc, nodes, *told)?)?;
+    for changed in &cells.nodes {
+        values.push(changed_node_value(alloc, nodes, *changed)?)?;
     }
     Ok(Value::Vector(Values::of(values)))
 }
@@ -123,7 +123,7 @@ fn step_pairs(
     alloc: Global,
     nodes: &Nodes,
     step: &Step,
-    cells: &CellsTold,
+    cells: &ChangedCells,
 ) -> Result<Pairs, AllocError>
     requires { FitsNodes (length nodes.now) step.now }
     ensures { IfOk result (λ pairs. pairs ≡ rule.step_pairs nodes.now step.now cells.now) }

@@ -9,7 +9,7 @@ use std::marker::Model;
 
 /// A link that a step changed, with what it now is.
 #[derive(Clone, Copy, Debug)]
-pub struct LinkTold {
+pub struct ChangedLink {
     pub source: Node,
     pub destination: Node,
     pub link: Link,
@@ -17,20 +17,20 @@ pub struct LinkTold {
 
 /// A node that a step changed, with what it now is.
 #[derive(Clone, Copy, Debug)]
-pub struct NodeTold {
+pub struct ChangedNode {
     pub node: Node,
     pub cell: NodeCell,
 }
 
 /// The cells that a step changed. A contract sees two lists.
 #[derive(Debug, Drop)]
-pub struct CellsTold {
-    pub(crate) links: Vec<LinkTold>,
-    pub(crate) nodes: Vec<NodeTold>,
+pub struct ChangedCells {
+    pub(crate) links: Vec<ChangedLink>,
+    pub(crate) nodes: Vec<ChangedNode>,
 }
 
-impl Model for CellsTold {
-    ghost use Rattle.jh_test_parts.specs.Told.{CellsTold as TwoLists};
+impl Model for ChangedCells {
+    ghost use Rattle.jh_test_parts.specs.Changes.{ChangedCells as TwoLists};
 
     ghost Value = { TwoLists };
 
@@ -39,7 +39,7 @@ impl Model for CellsTold {
     ghost use Rattle.std.specs.List.{All};
     ghost use Rattle.jh_tables.specs.Standing.{IsLinkInRange};
 
-    ghost invariant = { λ a. All (λ told. IsLinkInRange told.link) a.links.items };
+    ghost invariant = { λ a. All (λ changed. IsLinkInRange changed.link) a.links.items };
 }
 
 /// A record of a test. Its first number is the time at which it was made, in nanoseconds.
@@ -50,7 +50,7 @@ pub enum Recorded {
     /// A call of this process ended, with a value and other keys as they came.
     Ended(u64, u64, Kind, Request, Datum, Pairs),
     /// The step of the entry at this place was taken, and these cells have changed.
-    Begun(u64, u64, Step, CellsTold),
+    Begun(u64, u64, Step, ChangedCells),
     /// The adapter has done so; the nemesis had answered the step of this entry with this code.
     Answered(u64, u64, u64, Pairs),
 }

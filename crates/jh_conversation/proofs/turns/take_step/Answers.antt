@@ -5,7 +5,7 @@ use Rattle.jh_nemesis.specs.Changed.{changed_by}
 use Rattle.jh_nemesis.specs.State.{State, faults_in}
 use Rattle.jh_nemesis.specs.Steps.{state_after}
 use Rattle.jh_test_parts.specs.NamedCells.{cells_named}
-use Rattle.jh_test_parts.specs.Told.{cells_told}
+use Rattle.jh_test_parts.specs.Changes.{changed_cells}
 use Rattle.jh_conversation.proofs.CellLemmas.{start_stays}
 use Rattle.jh_conversation.proofs.turns.take_step.Goals as goal
 
@@ -19,4 +19,4 @@ returns-clause-cells c =
     c.in_ok-cells.ensures c.env.result.now (changed_by was c.args.step) (faults_in was.active) (faults_in after.active)
     (c.in_ok-named.ensures ∙ ap (cells_named c.env.result.now) named) c.env.ensures.overlay
     (subst (λ (s : State). StandsFor c.env-2.result.now (faults_in s.active)) state c.env-2.ensures.overlay) start c.in_ok-faults.ensures.elsewhere
-    ∙ ap (λ start. cells_told start (faults_in was.active) (faults_in after.active)) c.env.ensures.start
+    ∙ ap (λ start. changed_cells start (faults_in was.active) (faults_in after.active)) c.env.ensures.start

@@ -16,6 +16,6 @@ returns-in-Ok g c = λ t begun.
       status = c.in-Ok.status;
       report = c.in-Ok.ensures.0;
       is_report = c.in-Ok.ensures.1;
-      told = Appends-trans _ _ _ (told_in talk.0) c.in-Ok.ensures.0 talk.2 c.in-Ok.ensures.2;
+      written = Appends-trans _ _ _ (told_in talk.0) c.in-Ok.ensures.0 talk.2 c.in-Ok.ensures.2;
       answer = c.drive_answer.ensures ∙ ap₂ (λ bad over. rule.drive_answer bad over c.converse_over-ending.result c.in-Ok.status) c.bad-bad.ensures c.is_over-is_over.ensures;
     })

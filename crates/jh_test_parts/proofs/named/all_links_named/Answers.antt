@@ -3,7 +3,7 @@ use Rattle.std.specs.Prelude.{filter_map}
 use Rattle.std.proofs.lemmas.List.{take_all}
 use Rattle.jh_test_parts.specs.NamedCells.{placed_link}
 use Rattle.jh_test_parts.proofs.NamedLemmas.{links_are}
-use Rattle.jh_test_parts.proofs.ToldLemmas.{found_more}
+use Rattle.jh_test_parts.proofs.ChangeLemmas.{found_more}
 use Rattle.jh_test_parts.proofs.named.all_links_named.Goals as goal
 
 pub loop-ends-preserved : goal.loop-ends-preserved

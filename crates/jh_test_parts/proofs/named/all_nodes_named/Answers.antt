@@ -3,7 +3,7 @@ use Rattle.std.specs.Prelude.{filter_map}
 use Rattle.std.proofs.lemmas.List.{take_all}
 use Rattle.jh_test_parts.specs.NamedCells.{placed_node}
 use Rattle.jh_test_parts.proofs.NamedLemmas.{nodes_are}
-use Rattle.jh_test_parts.proofs.ToldLemmas.{found_more}
+use Rattle.jh_test_parts.proofs.ChangeLemmas.{found_more}
 use Rattle.jh_test_parts.proofs.named.all_nodes_named.Goals as goal
 
 pub loop-node-preserved : goal.loop-node-preserved

@@ -1,4 +1,4 @@
--- How the code finds the cells that faults name, and which of them are told; `NamedCells` and `Told`
+-- How the code finds the cells that faults name, and which of them changed; `NamedCells` and `Changes`
 -- have the rules. This project's own.
 use Rattle.std.specs.Prelude.{◌≡◌, ℕ, List, [], map, Option, option_and_then}
 use Rattle.std.specs.declared.cmp.Ordering.{Ordering}
@@ -10,9 +10,9 @@ use Rattle.jh_env.specs.Faults.FaultValue.{Cut, Slow, Loss, Fix, Pause, Kill, Bu
 use Rattle.jh_env.specs.Overlay.{EnvValue, link_of, node_of}
 use Rattle.jh_nemesis.specs.Changed.{fault_names_link, fault_names_node}
 use Rattle.jh_test_parts.specs.NamedCells.{PlacedLink, PlacedNode}
-use Rattle.jh_test_parts.specs.Told.{told_if_other_link, told_if_other_node}
-use Rattle.jh_test_parts.specs.declared.records.LinkTold.{LinkTold}
-use Rattle.jh_test_parts.specs.declared.records.NodeTold.{NodeTold}
+use Rattle.jh_test_parts.specs.Changes.{link_if_other, node_if_other}
+use Rattle.jh_test_parts.specs.declared.records.ChangedLink.{ChangedLink}
+use Rattle.jh_test_parts.specs.declared.records.ChangedNode.{ChangedNode}
 
 -- the links that a fault names
 abbrev pub links_of_fault : FaultValue → List (ℕ × ℕ)
@@ -48,10 +48,10 @@ pub record AreNamedNodes (faults : List FaultValue) (nodes : List ℕ) : Type 0 
   pub order : IsStrictlySortedBy nat_cmp nodes
   pub named : (a : ℕ) → names_node nodes a ≡ list_any (fault_names_node a) faults
 
--- what is told of a link, where it is another one in this environment
-abbrev pub link_told : EnvValue → PlacedLink → Option LinkTold
-link_told after was = option_and_then (told_if_other_link was.0 was.1 was.2) (link_of after was.0 was.1)
+-- a link with what it now is, where it is another one in this environment
+abbrev pub link_if_changed : EnvValue → PlacedLink → Option ChangedLink
+link_if_changed after was = option_and_then (link_if_other was.0 was.1 was.2) (link_of after was.0 was.1)
 
--- what is told of a node, likewise
-abbrev pub node_told : EnvValue → PlacedNode → Option NodeTold
-node_told after was = option_and_then (told_if_other_node was.0 was.1) (node_of after was.0)
+-- a node, likewise
+abbrev pub node_if_changed : EnvValue → PlacedNode → Option ChangedNode
+node_if_changed after was = option_and_then (node_if_other was.0 was.1) (node_of after was.0)

@@ -1,4 +1,4 @@
-//! Which cells a step changed. `specs/Told.antt` has the rule.
+//! Which cells a step changed. `specs/Changes.antt` has the rule.
 
 ghost use Rattle.std.specs.Prelude.{◌≡◌, IfOk, IfSome, List, filter_map};
 ghost use Rattle.std.specs.List.{All};
@@ -7,11 +7,11 @@ ghost use Rattle.jh_env.specs.Faults.{FaultValue};
 ghost use Rattle.jh_env.specs.Overlay.{EnvValue, StandsFor};
 ghost use Rattle.jh_nemesis.specs.Changed.{AgreeElsewhere};
 ghost use Rattle.jh_test_parts.specs.NamedCells.{cells_named};
-ghost use Rattle.jh_test_parts.specs.Told as rule;
-ghost use Rattle.jh_test_parts.specs.ToldInside as inside;
+ghost use Rattle.jh_test_parts.specs.Changes as rule;
+ghost use Rattle.jh_test_parts.specs.ChangesInside as inside;
 
 use crate::named::{NamedCells, push_some};
-use crate::records::{CellsTold, LinkTold, NodeTold};
+use crate::records::{ChangedCells, ChangedLink, ChangedNode};
 use jh_env::{Env, Life, Link, Node, NodeCell};
 use std::alloc::{AllocError, Global};
 
@@ -41,82 +41,82 @@ fn are_same_nodes(one: NodeCell, other: NodeCell) -> bool
     is_same_life(one.process, other.process) && one.clock == other.clock
 }
 
-/// What is told of a link, where it is another one in this environment.
-fn link_told(after: &Env, link: (Node, Node, Link)) -> Option<LinkTold>
-    ensures told { result ≡ inside.link_told after.now link }
-    ensures within { IfSome result (λ told. IsLinkInRange told.link) }
+/// A link with what it now is, where it is another one in this environment.
+fn link_if_changed(after: &Env, link: (Node, Node, Link)) -> Option<ChangedLink>
+    ensures changed { result ≡ inside.link_if_changed after.now link }
+    ensures within { IfSome result (λ changed. IsLinkInRange changed.link) }
 {
     let (source, destination, was) = link;
     let link = after.link(source, destination)?;
     if are_same_links(was, link) {
         return None;
     }
-    Some(LinkTold {
+    Some(ChangedLink {
         source,
         destination,
         link,
     })
 }
 
-/// What is told of a node, where it is another one in this environment.
-fn node_told(after: &Env, node: (Node, NodeCell)) -> Option<NodeTold>
-    ensures { result ≡ inside.node_told after.now node }
+/// A node with what it now is, where it is another one in this environment.
+fn node_if_changed(after: &Env, node: (Node, NodeCell)) -> Option<ChangedNode>
+    ensures { result ≡ inside.node_if_changed after.now node }
 {
     let (node, was) = node;
     let cell = after.node(node)?;
     if are_same_nodes(was, cell) {
         return None;
     }
-    Some(NodeTold { node, cell })
+    Some(ChangedNode { node, cell })
 }
 
-/// What is told of links.
-fn links_told(
+/// Those of these links that are others in an environment.
+fn links_changed(
     alloc: Global,
     links: &[(Node, Node, Link)],
     after: &Env,
-) -> Result<Vec<LinkTold>, AllocError>
-    ensures told { IfOk result
-        (λ told. told.items ≡ filter_map (inside.link_told after.now) links.now) }
-    ensures within { IfOk result (λ told. All (λ link. IsLinkInRange link.link) told.items) }
+) -> Result<Vec<ChangedLink>, AllocError>
+    ensures changed { IfOk result
+        (λ changed. changed.items ≡ filter_map (inside.link_if_changed after.now) links.now) }
+    ensures within { IfOk result (λ changed. All (λ link. IsLinkInRange link.link) changed.items) }
 {
-    let mut told = Vec::new(alloc);
+    let mut changed = Vec::new(alloc);
     for link in links {
-        push_some(&mut told, link_told(after, *link))?;
+        push_some(&mut changed, link_if_changed(after, *link))?;
     }
-    Ok(told)
+    Ok(changed)
 }
 
-/// What is told of nodes.
-fn nodes_told(
+/// Those of these nodes that are others in an environment.
+fn nodes_changed(
     alloc: Global,
     nodes: &[(Node, NodeCell)],
     after: &Env,
-) -> Result<Vec<NodeTold>, AllocError>
+) -> Result<Vec<ChangedNode>, AllocError>
     ensures { IfOk result
-        (λ told. told.items ≡ filter_map (inside.node_told after.now) nodes.now) }
+        (λ changed. changed.items ≡ filter_map (inside.node_if_changed after.now) nodes.now) }
 {
-    let mut told = Vec::new(alloc);
+    let mut changed = Vec::new(alloc);
     for node in nodes {
-        push_some(&mut told, node_told(after, *node))?;
+        push_some(&mut changed, node_if_changed(after, *node))?;
     }
-    Ok(told)
+    Ok(changed)
 }
 
 impl NamedCells {
     /// The links and nodes among these that are others in an environment, with what they are there.
-    /// So if these are what some faults named in an environment, and all else has stayed, it tells
-    /// all that has changed. Takes time for each of these links and nodes.
-    pub fn told(&self, alloc: Global, after: &Env) -> Result<CellsTold, AllocError>
+    /// So if these are what some faults named in an environment, and all else has stayed, it is all
+    /// that has changed. Takes time for each of these links and nodes.
+    pub fn changed(&self, alloc: Global, after: &Env) -> Result<ChangedCells, AllocError>
         ensures { (before : EnvValue) (named earlier later : List FaultValue)
             → self.now ≡ cells_named before named
             → StandsFor before earlier → StandsFor after.now later
             → after.now.start ≡ before.start → AgreeElsewhere named earlier later
-            → IfOk result (λ cells. cells ≡ rule.cells_told before.start earlier later) }
+            → IfOk result (λ cells. cells ≡ rule.changed_cells before.start earlier later) }
     {
-        Ok(CellsTold {
-            links: links_told(alloc, &self.links, after)?,
-            nodes: nodes_told(alloc, &self.nodes, after)?,
+        Ok(ChangedCells {
+            links: links_changed(alloc, &self.links, after)?,
+            nodes: nodes_changed(alloc, &self.nodes, after)?,
         })
     }
 }

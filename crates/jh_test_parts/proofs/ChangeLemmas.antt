@@ -1,4 +1,4 @@
--- What the code tells of the named cells is what the rule says of all.
+-- Which of the named cells the code finds changed is what the rule says of all.
 use Rattle.std.proofs.Common.{◌≡◌, ℕ, ◌+◌, ◌<◌, ◌≤◌, Bool, true, false, List, [], ◌∷◌, ◌++◌, length, get_or, take}
 use Rattle.std.proofs.Common.{refl, sym, ap, ap₂, ◌∙◌, arith, subst, All}
 use mathlib.Core.Logic.{◌⊎◌, inl, inr}
@@ -18,18 +18,18 @@ use Rattle.jh_env.specs.Overlay.{EnvValue, StandsFor, cells_of, link_of, link_ov
 use Rattle.jh_nemesis.specs.Changed.{AgreeElsewhere, fault_names_link, fault_names_node}
 use Rattle.jh_test_parts.specs.NamedCells.{NamedCellsValue, cells_named, link_named, all_links_named}
 use Rattle.jh_test_parts.specs.NamedCells.{node_named, all_nodes_named}
-use Rattle.jh_test_parts.specs.Told.{CellsTold, cells_told, are_same_links, are_same_nodes, is_same_life, places_of_nodes}
-use Rattle.jh_test_parts.specs.Told.{told_if_other_link, told_if_other_node, told_link, told_links, told_node}
-use Rattle.jh_test_parts.specs.Told.{told_nodes}
-use Rattle.jh_test_parts.specs.ToldInside.{link_told, node_told}
-use Rattle.jh_test_parts.specs.declared.records.LinkTold.{LinkTold}
-use Rattle.jh_test_parts.specs.declared.records.NodeTold.{NodeTold}
+use Rattle.jh_test_parts.specs.Changes.{ChangedCells, changed_cells, are_same_links, are_same_nodes, is_same_life, places_of_nodes}
+use Rattle.jh_test_parts.specs.Changes.{link_if_other, node_if_other, changed_link, changed_links, changed_node}
+use Rattle.jh_test_parts.specs.Changes.{changed_nodes}
+use Rattle.jh_test_parts.specs.ChangesInside.{link_if_changed, node_if_changed}
+use Rattle.jh_test_parts.specs.declared.records.ChangedLink.{ChangedLink}
+use Rattle.jh_test_parts.specs.declared.records.ChangedNode.{ChangedNode}
 use Rattle.jh_test_parts.proofs.PlaceLemmas.{filter_same, flat_same, found_flat}
 
 -- what the code tells of these cells
-abbrev pub told_among : EnvValue → NamedCellsValue → CellsTold
-told_among after cells =
-    record { links = filter_map (link_told after) cells.links; nodes = filter_map (node_told after) cells.nodes }
+abbrev pub changes_among : EnvValue → NamedCellsValue → ChangedCells
+changes_among after cells =
+    record { links = filter_map (link_if_changed after) cells.links; nodes = filter_map (node_if_changed after) cells.nodes }
 
 -- what is found of one more element, if anything, comes behind what was found
 pub found_more : {K A : Type 0} (h : K → Option A) (ks : List K) (i : ℕ) (k : K) (now next : List A) (o : Option A) → i < length ks → k ≡ get_or ks i k → o ≡ h k
@@ -70,7 +70,7 @@ as_many xs ys f d same = go (cases_lt (length xs) (length ys)) (cases_lt (length
         absurd (some-none (get_or xs (length ys) d) (sym (slice_get-get_or xs (length ys) d less) ∙ same (length ys) ∙ ap (option_map (f (length ys))) (slice_get_past ys (length ys) (omega arith))))
     go (inr le) (inr ge) = omega (arith, le, ge)
 
--- a cell is like itself, so nothing is told of it
+-- a cell is like itself, so it has not changed
 
 both_true : (a b : Bool) → a ≡ true → b ≡ true → (a && b) ≡ true
 both_true a b one other = ap₂ (λ v w. v && w) one other
@@ -92,64 +92,64 @@ same_link l =
 same_node : (n : NodeCell) → are_same_nodes n n ≡ true
 same_node n = both_true (is_same_life n.process n.process) (int_eq n.clock n.clock) (same_life n.process) (int_eq_equiv.refl n.clock)
 
-link_untold : (a b : ℕ) (was is : Link) → was ≡ is → None ≡ told_if_other_link a b was is
+link_untold : (a b : ℕ) (was is : Link) → was ≡ is → None ≡ link_if_other a b was is
 link_untold a b was is same =
     let alike : are_same_links was is ≡ true = ap (λ l. are_same_links was l) (sym same) ∙ same_link was in
-    sym (ap (λ w. if w then None else Some (let t : LinkTold = record { source = a; destination = b; link = is } in t)) alike)
+    sym (ap (λ w. if w then None else Some (let t : ChangedLink = record { source = a; destination = b; link = is } in t)) alike)
 
-node_untold : (a : ℕ) (was is : NodeCell) → was ≡ is → None ≡ told_if_other_node a was is
+node_untold : (a : ℕ) (was is : NodeCell) → was ≡ is → None ≡ node_if_other a was is
 node_untold a was is same =
     let alike : are_same_nodes was is ≡ true = ap (λ n. are_same_nodes was n) (sym same) ∙ same_node was in
-    sym (ap (λ w. if w then None else Some (let t : NodeTold = record { node = a; cell = is } in t)) alike)
+    sym (ap (λ w. if w then None else Some (let t : ChangedNode = record { node = a; cell = is } in t)) alike)
 
 module _ (before after : EnvValue) (named earlier later : List FaultValue) (first : StandsFor before earlier) (second : StandsFor after later)
     (same : after.start ≡ before.start) (elsewhere : AgreeElsewhere named earlier later) where
-  link_is : (a b : ℕ) → option_and_then (link_told after) (link_named before named a b) ≡ told_link before.start earlier later a b
+  link_is : (a b : ℕ) → option_and_then (link_if_changed after) (link_named before named a b) ≡ changed_link before.start earlier later a b
   link_is a b = go (list_any (fault_names_link a b) named) refl
     where
-      here : (was : Option Link) → option_and_then (link_told after) (option_map (λ k. (a, b, k)) was) ≡ option_and_then (λ w. option_and_then (told_if_other_link a b w) (link_of after a b)) was
+      here : (was : Option Link) → option_and_then (link_if_changed after) (option_map (λ k. (a, b, k)) was) ≡ option_and_then (λ w. option_and_then (link_if_other a b w) (link_of after a b)) was
       here None = refl
       here (Some l) = refl
 
-      there : (l : Option Link) → option_and_then (λ w. option_and_then (told_if_other_link a b w) (option_map (link_over later a b) l)) (option_map (link_over earlier a b) l)
-          ≡ option_and_then (λ l. told_if_other_link a b (link_over earlier a b l) (link_over later a b l)) l
+      there : (l : Option Link) → option_and_then (λ w. option_and_then (link_if_other a b w) (option_map (link_over later a b) l)) (option_map (link_over earlier a b) l)
+          ≡ option_and_then (λ l. link_if_other a b (link_over earlier a b l) (link_over later a b l)) l
       there None = refl
       there (Some l) = refl
 
-      apart : list_any (fault_names_link a b) named ≡ false → (l : Option Link) → None ≡ option_and_then (λ l. told_if_other_link a b (link_over earlier a b l) (link_over later a b l)) l
+      apart : list_any (fault_names_link a b) named ≡ false → (l : Option Link) → None ≡ option_and_then (λ l. link_if_other a b (link_over earlier a b l) (link_over later a b l)) l
       apart out None = refl
       apart out (Some l) = link_untold a b (link_over earlier a b l) (link_over later a b l) (elsewhere.links a b l out)
 
       go : (w : Bool) → list_any (fault_names_link a b) named ≡ w
-          → option_and_then (link_told after) (if w then option_map (λ k. (a, b, k)) (link_of before a b) else None) ≡ told_link before.start earlier later a b
+          → option_and_then (link_if_changed after) (if w then option_map (λ k. (a, b, k)) (link_of before a b) else None) ≡ changed_link before.start earlier later a b
       go true is =
           here (link_of before a b)
-          ∙ ap₂ (λ (was is : Option Link). option_and_then (λ w. option_and_then (told_if_other_link a b w) is) was) (first.cells.links a b)
+          ∙ ap₂ (λ (was is : Option Link). option_and_then (λ w. option_and_then (link_if_other a b w) is) was) (first.cells.links a b)
           (second.cells.links a b ∙ ap (λ s. option_map (link_over later a b) (link_at s a b)) same)
           ∙ there (link_at before.start a b)
       go false is = apart is (link_at before.start a b)
 
-  node_is : (a : ℕ) → option_and_then (node_told after) (node_named before named a) ≡ told_node before.start earlier later a
+  node_is : (a : ℕ) → option_and_then (node_if_changed after) (node_named before named a) ≡ changed_node before.start earlier later a
   node_is a = go (list_any (fault_names_node a) named) refl
     where
-      here : (was : Option NodeCell) → option_and_then (node_told after) (option_map (λ k. (a, k)) was) ≡ option_and_then (λ w. option_and_then (told_if_other_node a w) (node_of after a)) was
+      here : (was : Option NodeCell) → option_and_then (node_if_changed after) (option_map (λ k. (a, k)) was) ≡ option_and_then (λ w. option_and_then (node_if_other a w) (node_of after a)) was
       here None = refl
       here (Some n) = refl
 
-      there : (n : Option NodeCell) → option_and_then (λ w. option_and_then (told_if_other_node a w) (option_map (node_over later a) n)) (option_map (node_over earlier a) n)
-          ≡ option_and_then (λ n. told_if_other_node a (node_over earlier a n) (node_over later a n)) n
+      there : (n : Option NodeCell) → option_and_then (λ w. option_and_then (node_if_other a w) (option_map (node_over later a) n)) (option_map (node_over earlier a) n)
+          ≡ option_and_then (λ n. node_if_other a (node_over earlier a n) (node_over later a n)) n
       there None = refl
       there (Some n) = refl
 
-      apart : list_any (fault_names_node a) named ≡ false → (n : Option NodeCell) → None ≡ option_and_then (λ n. told_if_other_node a (node_over earlier a n) (node_over later a n)) n
+      apart : list_any (fault_names_node a) named ≡ false → (n : Option NodeCell) → None ≡ option_and_then (λ n. node_if_other a (node_over earlier a n) (node_over later a n)) n
       apart out None = refl
       apart out (Some n) = node_untold a (node_over earlier a n) (node_over later a n) (elsewhere.nodes a n out)
 
       go : (w : Bool) → list_any (fault_names_node a) named ≡ w
-          → option_and_then (node_told after) (if w then option_map (λ k. (a, k)) (node_of before a) else None) ≡ told_node before.start earlier later a
+          → option_and_then (node_if_changed after) (if w then option_map (λ k. (a, k)) (node_of before a) else None) ≡ changed_node before.start earlier later a
       go true is =
           here (node_of before a)
-          ∙ ap₂ (λ (was is : Option NodeCell). option_and_then (λ w. option_and_then (told_if_other_node a w) is) was) (first.cells.nodes a)
+          ∙ ap₂ (λ (was is : Option NodeCell). option_and_then (λ w. option_and_then (node_if_other a w) is) was) (first.cells.nodes a)
           (second.cells.nodes a ∙ ap (λ s. option_map (node_over later a) (node_at s a)) same)
           ∙ there (node_at before.start a)
       go false is = apart is (node_at before.start a)
@@ -157,24 +157,24 @@ module _ (before after : EnvValue) (named earlier later : List FaultValue) (firs
   places_are : places_of_nodes (cells_of before) ≡ places_of_nodes before.start
   places_are = ap (range_with_len 0) (as_many (cells_of before).nodes before.start.nodes (node_over earlier) running_node first.cells.nodes)
 
-  row_is : (a : ℕ) (places : List ℕ) → filter_map (link_told after) (filter_map (link_named before named a) places) ≡ filter_map (told_link before.start earlier later a) places
+  row_is : (a : ℕ) (places : List ℕ) → filter_map (link_if_changed after) (filter_map (link_named before named a) places) ≡ filter_map (changed_link before.start earlier later a) places
   row_is a places =
-      found_twice (link_named before named a) (link_told after) places
-      ∙ filter_same (λ b. option_and_then (link_told after) (link_named before named a b)) (told_link before.start earlier later a) (link_is a) places
+      found_twice (link_named before named a) (link_if_changed after) places
+      ∙ filter_same (λ b. option_and_then (link_if_changed after) (link_named before named a b)) (changed_link before.start earlier later a) (link_is a) places
 
-  links_are_told : filter_map (link_told after) (all_links_named before named) ≡ told_links before.start earlier later
-  links_are_told =
-      ap (λ places. filter_map (link_told after) (flat_map (λ a. filter_map (link_named before named a) places) places)) places_are
-      ∙ found_flat (λ a. filter_map (link_named before named a) (places_of_nodes before.start)) (link_told after) (places_of_nodes before.start)
-      ∙ flat_same (λ a. filter_map (link_told after) (filter_map (link_named before named a) (places_of_nodes before.start)))
-      (λ a. filter_map (told_link before.start earlier later a) (places_of_nodes before.start)) (λ a. row_is a (places_of_nodes before.start)) (places_of_nodes before.start)
+  links_are_changed : filter_map (link_if_changed after) (all_links_named before named) ≡ changed_links before.start earlier later
+  links_are_changed =
+      ap (λ places. filter_map (link_if_changed after) (flat_map (λ a. filter_map (link_named before named a) places) places)) places_are
+      ∙ found_flat (λ a. filter_map (link_named before named a) (places_of_nodes before.start)) (link_if_changed after) (places_of_nodes before.start)
+      ∙ flat_same (λ a. filter_map (link_if_changed after) (filter_map (link_named before named a) (places_of_nodes before.start)))
+      (λ a. filter_map (changed_link before.start earlier later a) (places_of_nodes before.start)) (λ a. row_is a (places_of_nodes before.start)) (places_of_nodes before.start)
 
-  nodes_are_told : filter_map (node_told after) (all_nodes_named before named) ≡ told_nodes before.start earlier later
-  nodes_are_told =
-      ap (λ places. filter_map (node_told after) (filter_map (node_named before named) places)) places_are
-      ∙ found_twice (node_named before named) (node_told after) (places_of_nodes before.start)
-      ∙ filter_same (λ a. option_and_then (node_told after) (node_named before named a)) (told_node before.start earlier later) node_is (places_of_nodes before.start)
+  nodes_are_changed : filter_map (node_if_changed after) (all_nodes_named before named) ≡ changed_nodes before.start earlier later
+  nodes_are_changed =
+      ap (λ places. filter_map (node_if_changed after) (filter_map (node_named before named) places)) places_are
+      ∙ found_twice (node_named before named) (node_if_changed after) (places_of_nodes before.start)
+      ∙ filter_same (λ a. option_and_then (node_if_changed after) (node_named before named a)) (changed_node before.start earlier later) node_is (places_of_nodes before.start)
 
-  pub cells_are_told : (cells : NamedCellsValue) → cells ≡ cells_named before named → told_among after cells ≡ cells_told before.start earlier later
-  cells_are_told cells is =
-      ap (told_among after) is ∙ ap₂ (λ l n. let c : CellsTold = record { links = l; nodes = n } in c) links_are_told nodes_are_told
+  pub cells_are_changed : (cells : NamedCellsValue) → cells ≡ cells_named before named → changes_among after cells ≡ changed_cells before.start earlier later
+  cells_are_changed cells is =
+      ap (changes_among after) is ∙ ap₂ (λ l n. let c : ChangedCells = record { links = l; nodes = n } in c) links_are_changed nodes_are_changed
