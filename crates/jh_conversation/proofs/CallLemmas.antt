@@ -5,10 +5,10 @@ use mathlib.Core.Logic.{◌⊎◌, inl, inr}
 use Rattle.std.specs.Prelude.{None, Option, Some, if◌then◌else◌}
 use Rattle.std.proofs.lemmas.Bool.{and_parts, eqb-true, false≢true, le-leb, leb-false, leb-true}
 use Rattle.std.proofs.lemmas.Bool.{not-true}
-use Rattle.jh_lines.specs.Replies.{after_lines}
+use Rattle.jh_lines.specs.Answering.{after_lines}
 use Rattle.jh_conversation.specs.Laws.{AreTimely, Drivers, IsAtRate, IsBeforeFinal, IsBeforeLimit}
 use Rattle.jh_conversation.specs.Laws.{invocations_in, run, start, took}
-use Rattle.jh_conversation.specs.Lines.{is_test_over, is_end_phase, listen, reply, stops_after}
+use Rattle.jh_conversation.specs.Lines.{is_test_over, is_end_phase, listen, take_line, stops_after}
 use Rattle.jh_conversation.specs.Lines.{stops_by, take_in}
 use Rattle.jh_test_parts.specs.LineMeanings.{line_meaning}
 use Rattle.jh_conversation.specs.Machine.{Machine}
@@ -143,9 +143,9 @@ same_calls t n = record {
   finishes = λ m thread c op e no fits h. h;
 }
 
-pub after_both : (t : TestValue) (m : Machine) (lines more : List (List ℕ)) → after_lines (reply t) m (lines ++ more) ≡ after_lines (reply t) (after_lines (reply t) m lines) more
+pub after_both : (t : TestValue) (m : Machine) (lines more : List (List ℕ)) → after_lines (take_line t) m (lines ++ more) ≡ after_lines (take_line t) (after_lines (take_line t) m lines) more
 after_both t m [] more = refl
-after_both t m (line ∷ lines) more = after_both t (reply t m line) lines more
+after_both t m (line ∷ lines) more = after_both t (take_line t m line) lines more
 
 pub over_is : (phase : Phase) → is_end_phase phase ≡ true → phase ≡ Over
 over_is Main e = absurd (false≢true e)
@@ -159,7 +159,7 @@ took_same : (t : TestValue) (m : Machine) (line : List ℕ) → invocations_in (
 took_same t m line = kept_take_in t (λ n. invocations_in n.history ≡ invocations_in m.history) (same_calls t (invocations_in m.history)) (listen m) (line_meaning line) refl
 
 module _ (t : TestValue) (m : Machine) (line : List ℕ) where
-  main_stops : 1 ≤ (take_in t (line_meaning line) (listen m)).stops → HasGivenMain (invocations_in m.history) (reply t m line)
+  main_stops : 1 ≤ (take_in t (line_meaning line) (listen m)).stops → HasGivenMain (invocations_in m.history) (take_line t m line)
   main_stops stopped =
       (elim (is_test_over m) as (λ b. is_test_over m ≡ b → HasGivenMain (invocations_in m.history) (if b then listen m else turn t (take_in t (line_meaning line) (listen m)))) [
         | true ↦ λ e. (inl (over_is m.phase e), λ _. refl)
@@ -167,7 +167,7 @@ module _ (t : TestValue) (m : Machine) (line : List ℕ) where
             (inr stopped, λ _. took_same t m line)
       ]) refl
 
-  all_stop : 2 ≤ (take_in t (line_meaning line) (listen m)).stops → HasGiven (invocations_in m.history) (reply t m line)
+  all_stop : 2 ≤ (take_in t (line_meaning line) (listen m)).stops → HasGiven (invocations_in m.history) (take_line t m line)
   all_stop stopped =
       (elim (is_test_over m) as (λ b. is_test_over m ≡ b → HasGiven (invocations_in m.history) (if b then listen m else turn t (take_in t (line_meaning line) (listen m)))) [
         | true ↦ λ e. (inl (over_is m.phase e), refl)
@@ -179,7 +179,7 @@ pub stop_ends_main : (t : TestValue) (d : Drivers t) (lines more : List (List �
     → IsBeforeFinal (run t d (lines ++ line ∷ more)).phase → invocations_in (run t d (lines ++ line ∷ more)).history ≡ invocations_in (run t d lines).history
 stop_ends_main t d lines more line stopped before =
     let n = invocations_in (run t d lines).history in
-    let late = kept_lines t (HasGivenMain n) (main_in_turn t n) (main_by_line t n) more (reply t (run t d lines) line) (main_stops t (run t d lines) line stopped) in
+    let late = kept_lines t (HasGivenMain n) (main_in_turn t n) (main_by_line t n) more (take_line t (run t d lines) line) (main_stops t (run t d lines) line stopped) in
     let both = after_both t (start t d) lines (line ∷ more) in
     ap (λ m. invocations_in m.history) both ∙ late.1 (subst (λ (m : Machine). IsBeforeFinal m.phase) both before)
 
@@ -187,7 +187,7 @@ pub two_stops_end : (t : TestValue) (d : Drivers t) (lines more : List (List ℕ
     → invocations_in (run t d (lines ++ line ∷ more)).history ≡ invocations_in (run t d lines).history
 two_stops_end t d lines more line stopped =
     let n = invocations_in (run t d lines).history in
-    let late = kept_lines t (HasGiven n) (given_in_turn t n) (given_by_line t n) more (reply t (run t d lines) line) (all_stop t (run t d lines) line stopped) in
+    let late = kept_lines t (HasGiven n) (given_in_turn t n) (given_by_line t n) more (take_line t (run t d lines) line) (all_stop t (run t d lines) line stopped) in
     ap (λ m. invocations_in m.history) (after_both t (start t d) lines (line ∷ more)) ∙ late.1
 
 -- Calls come in time.

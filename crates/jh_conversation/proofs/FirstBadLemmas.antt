@@ -3,19 +3,19 @@ use Rattle.std.proofs.Common.{◌≡◌, ℕ, ◌+◌, ◌==◌, Bool, true, fal
 use Rattle.std.proofs.Common.{ap, ◌∙◌}
 use Rattle.std.specs.Prelude.{Option, None, Some, if◌then◌else◌}
 use Rattle.jh_edn.specs.Edn.{is_keyword}
-use Rattle.jh_lines.specs.Replies.{after_lines}
+use Rattle.jh_lines.specs.Answering.{after_lines}
 use Rattle.jh_nemesis.specs.State.{first_state}
 use Rattle.jh_ops.specs.Operation.{Operation}
 use Rattle.jh_ops.specs.declared.operation.Process.{Process}
 use Rattle.jh_ops.specs.Requests.{request_name}
 use Rattle.jh_conversation.specs.Laws.{Drivers, complaint_of, complaint_of_answer}
 use Rattle.jh_conversation.specs.Laws.{complaint_of_completion, complaint_of_end}
-use Rattle.jh_conversation.specs.Laws.{complaint_of_reply, first_bad, first_bad_or, run, start}
+use Rattle.jh_conversation.specs.Laws.{complaint_of_operation, first_bad, first_bad_or, run, start}
 use Rattle.jh_ops.specs.Pairing.{is_invoke}
-use Rattle.jh_test_parts.specs.LineMeanings.{MeaningValue, Nothing, Clock, Stop, Reply, Bad}
+use Rattle.jh_test_parts.specs.LineMeanings.{MeaningValue, Nothing, Clock, Stop, Op, Bad}
 use Rattle.jh_conversation.specs.Lines.{answer_step, answers_step, at_first, at_time, finish, first}
-use Rattle.jh_conversation.specs.Lines.{is_test_over, listen, refuse, reply, take_answer}
-use Rattle.jh_conversation.specs.Lines.{take_completion, take_end, take_in, take_reply}
+use Rattle.jh_conversation.specs.Lines.{is_test_over, listen, refuse, take_line, take_answer}
+use Rattle.jh_conversation.specs.Lines.{take_completion, take_end, take_in, take_operation}
 use Rattle.jh_test_parts.specs.LineMeanings.{line_meaning}
 use Rattle.jh_test_parts.specs.Values.{fits_call}
 use Rattle.jh_test_parts.specs.Test.{thread_of_process}
@@ -116,9 +116,9 @@ finds_take t m Nothing none = (none, refl)
 finds_take t m (Clock time) none = (none, refl)
 finds_take t m Stop none = (none, refl)
 finds_take t m (Bad why) none = refused m why none
-finds_take t m (Reply op time) none = go op.process
+finds_take t m (Op op time) none = go op.process
   where
-    go : (p : Process) → FindsBad (bad_of (complaint_of_reply t m op p) m.read) m.read (take_reply t op time p m)
+    go : (p : Process) → FindsBad (bad_of (complaint_of_operation t m op p) m.read) m.read (take_operation t op time p m)
     go Process.Nemesis = finds_answer m op time none m.step
     go (Process.Client process) = finds_completion t m process op time none (caller_of m (thread_of_process t process)).call
 
@@ -128,15 +128,15 @@ same_complaint t m Nothing = refl
 same_complaint t m (Clock time) = refl
 same_complaint t m Stop = refl
 same_complaint t m (Bad why) = refl
-same_complaint t m (Reply op time) = go op.process
+same_complaint t m (Op op time) = go op.process
   where
-    go : (p : Process) → complaint_of_reply t (listen m) op p ≡ complaint_of_reply t m op p
+    go : (p : Process) → complaint_of_operation t (listen m) op p ≡ complaint_of_operation t m op p
     go Process.Nemesis = refl
     go (Process.Client process) = refl
 
-finds_reply : (t : TestValue) (m : Machine) (line : List ℕ) → m.bad ≡ None
-    → FindsBad (bad_of (if is_test_over m then None else complaint_of t m (line_meaning line)) (m.read + 1)) (m.read + 1) (reply t m line)
-finds_reply t m line none =
+finds_line : (t : TestValue) (m : Machine) (line : List ℕ) → m.bad ≡ None
+    → FindsBad (bad_of (if is_test_over m then None else complaint_of t m (line_meaning line)) (m.read + 1)) (m.read + 1) (take_line t m line)
+finds_line t m line none =
     elim (is_test_over m) as (λ b. FindsBad (bad_of (if b then None else complaint_of t m (line_meaning line)) (m.read + 1)) (m.read + 1) (if b then listen m else turn t (take_in t (line_meaning line) (listen m)))) [
       | true ↦ (none, refl)
       | false ↦
@@ -146,19 +146,19 @@ finds_reply t m line none =
           (took.0 ∙ ap (λ c. bad_of c (m.read + 1)) (same_complaint t m (line_meaning line)), took.1)
     ]
 
-finds_all : (t : TestValue) (d : Drivers t) (lines : List (List ℕ)) (m : Machine) (n : ℕ) → FindsBad None n m → (after_lines (reply t) m lines).bad ≡ first_bad t m n lines
+finds_all : (t : TestValue) (d : Drivers t) (lines : List (List ℕ)) (m : Machine) (n : ℕ) → FindsBad None n m → (after_lines (take_line t) m lines).bad ≡ first_bad t m n lines
 finds_all t d [] m n h = h.0
 finds_all t d (line ∷ lines) m n h =
-    let one = finds_reply t m line h.0 in
+    let one = finds_line t m line h.0 in
     let number : m.read + 1 ≡ n + 1 = ap (λ k. k + 1) h.1 in
     go (if is_test_over m then None else complaint_of t m (line_meaning line)) (one.0 ∙ ap (bad_of (if is_test_over m then None else complaint_of t m (line_meaning line))) number)
-    (λ none. finds_all t d lines (reply t m line) (n + 1) (none, one.1 ∙ number))
+    (λ none. finds_all t d lines (take_line t m line) (n + 1) (none, one.1 ∙ number))
   where
-    go : (c : Option Complaint) → (reply t m line).bad ≡ bad_of c (n + 1)
-        → ((reply t m line).bad ≡ None → (after_lines (reply t) (reply t m line) lines).bad ≡ first_bad t (reply t m line) (n + 1) lines)
-        → (after_lines (reply t) (reply t m line) lines).bad ≡ first_bad_or t c (n + 1) (first_bad t (reply t m line) (n + 1) lines)
+    go : (c : Option Complaint) → (take_line t m line).bad ≡ bad_of c (n + 1)
+        → ((take_line t m line).bad ≡ None → (after_lines (take_line t) (take_line t m line) lines).bad ≡ first_bad t (take_line t m line) (n + 1) lines)
+        → (after_lines (take_line t) (take_line t m line) lines).bad ≡ first_bad_or t c (n + 1) (first_bad t (take_line t m line) (n + 1) lines)
     go None e later = later e
-    go (Some why) e later = kept_lines t (HasBad (n + 1, why)) (bad_in_turn t (n + 1, why)) (bad_by_line t (n + 1, why)) lines (reply t m line) e
+    go (Some why) e later = kept_lines t (HasBad (n + 1, why)) (bad_in_turn t (n + 1, why)) (bad_by_line t (n + 1, why)) lines (take_line t m line) e
 
 pub first_bad_kept : (t : TestValue) (d : Drivers t) (lines : List (List ℕ)) → (run t d lines).bad ≡ first_bad t (start t d) 0 lines
 first_bad_kept t d lines =

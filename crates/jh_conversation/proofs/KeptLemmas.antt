@@ -15,12 +15,12 @@ use Rattle.jh_ops.specs.declared.call.Request.{Request}
 use Rattle.jh_ops.specs.declared.operation.Process.{Process}
 use Rattle.jh_ops.specs.Pairing.{is_invoke}
 use Rattle.jh_ops.specs.Requests.{request_name}
-use Rattle.jh_test_parts.specs.LineMeanings.{MeaningValue, Nothing, Clock, Stop, Reply, Bad}
-use Rattle.jh_lines.specs.Replies.{after_lines}
+use Rattle.jh_test_parts.specs.LineMeanings.{MeaningValue, Nothing, Clock, Stop, Op, Bad}
+use Rattle.jh_lines.specs.Answering.{after_lines}
 use Rattle.jh_nemesis.specs.State.{first_state}
 use Rattle.jh_conversation.specs.Lines.{answer_step, answers_step, at_first, at_time, finish}
-use Rattle.jh_conversation.specs.Lines.{is_test_over, listen, refuse, reply, stop, take_answer}
-use Rattle.jh_conversation.specs.Lines.{take_completion, take_end, take_in, take_reply}
+use Rattle.jh_conversation.specs.Lines.{is_test_over, listen, refuse, take_line, stop, take_answer}
+use Rattle.jh_conversation.specs.Lines.{take_completion, take_end, take_in, take_operation}
 use Rattle.jh_test_parts.specs.LineMeanings.{line_meaning}
 use Rattle.jh_test_parts.specs.Values.{fits_call}
 use Rattle.jh_test_parts.specs.Test.{thread_of_process}
@@ -205,22 +205,22 @@ module _ (t : TestValue) (P : Machine → Type 0) (l : IsKeptByLine t P) where
   kept_take_in m (Clock time) h = l.clocks m time h
   kept_take_in m Stop h = l.stops m h
   kept_take_in m (Bad why) h = l.refuses m why h
-  kept_take_in m (Reply op time) h = go op.process
+  kept_take_in m (Op op time) h = go op.process
     where
-      go : (p : Process) → P (take_reply t op time p m)
+      go : (p : Process) → P (take_operation t op time p m)
       go Process.Nemesis = kept_answer m op time m.step refl h
       go (Process.Client process) = kept_completion m process op time (caller_of m (thread_of_process t process)).call refl h
 
 module _ (t : TestValue) (P : Machine → Type 0) (k : IsKeptInTurn t P) (l : IsKeptByLine t P) where
-  pub kept_reply : (m : Machine) (line : List ℕ) → P m → P (reply t m line)
-  kept_reply m line h =
+  pub kept_line : (m : Machine) (line : List ℕ) → P m → P (take_line t m line)
+  kept_line m line h =
       cond_both (is_test_over m) (listen m) (turn t (take_in t (line_meaning line) (listen m))) P
       (λ _. l.listens m h)
       (λ _. kept_turn t P k (take_in t (line_meaning line) (listen m)) (kept_take_in t P l (listen m) (line_meaning line) (l.listens m h)))
 
-  pub kept_lines : (lines : List (List ℕ)) (m : Machine) → P m → P (after_lines (reply t) m lines)
+  pub kept_lines : (lines : List (List ℕ)) (m : Machine) → P m → P (after_lines (take_line t) m lines)
   kept_lines [] m h = h
-  kept_lines (line ∷ lines) m h = kept_lines lines (reply t m line) (kept_reply m line h)
+  kept_lines (line ∷ lines) m h = kept_lines lines (take_line t m line) (kept_line m line h)
 
 -- what holds at first holds after all lines
 pub kept_run : (t : TestValue) (d : Drivers t) (P : Machine → Type 0) → IsKeptInTurn t P → IsKeptByLine t P

@@ -5,8 +5,8 @@ use Rattle.std.specs.List.{AllByRecursion}
 use Rattle.jh_ops.specs.declared.operation.Process.{Process}
 use Rattle.jh_conversation.specs.Laws.{Drivers, IsHeard, IsSaid, answered_by, clock_at, ended_by}
 use Rattle.jh_conversation.specs.Laws.{heard, heard_from, is_end_of_call, run}
-use Rattle.jh_test_parts.specs.LineMeanings.{MeaningValue, Nothing, Clock, Stop, Reply, Bad}
-use Rattle.jh_conversation.specs.Lines.{answers_step, is_test_over, listen, reply, take_in}
+use Rattle.jh_test_parts.specs.LineMeanings.{MeaningValue, Nothing, Clock, Stop, Op, Bad}
+use Rattle.jh_conversation.specs.Lines.{answers_step, is_test_over, listen, take_line, take_in}
 use Rattle.jh_test_parts.specs.LineMeanings.{kept_pairs, line_meaning}
 use Rattle.jh_test_parts.specs.Test.{thread_of_process}
 use Rattle.jh_conversation.specs.Machine.{Machine, caller_of}
@@ -33,8 +33,8 @@ said_by_turn t = record {
   ends_final = λ m is e h. h;
 }
 
-reply_said : (t : TestValue) (m : Machine) (line : List ℕ) → AllByRecursion IsSaid (reply t m line).said
-reply_said t m line =
+line_said : (t : TestValue) (m : Machine) (line : List ℕ) → AllByRecursion IsSaid (take_line t m line).said
+line_said t m line =
     elim (is_test_over m) as (λ b. AllByRecursion IsSaid (if b then listen m else turn t (take_in t (line_meaning line) (listen m))).said) [
       | true ↦ tt
       | false ↦ kept_turn t SaysSaid (said_by_turn t) (take_in t (line_meaning line) (listen m)) (none_said (sym (hears t (listen m) (line_meaning line) refl).1))
@@ -48,7 +48,7 @@ all_heard t m Nothing = tt
 all_heard t m (Clock time) = tt
 all_heard t m Stop = tt
 all_heard t m (Bad why) = tt
-all_heard t m (Reply op time) = go op.process
+all_heard t m (Op op time) = go op.process
   where
     answer : (w : Option OpenStep) → AllByRecursion IsHeard (answered_by w op (clock_at time m.clock))
     answer None = tt
@@ -63,5 +63,5 @@ all_heard t m (Reply op time) = go op.process
     go (Process.Client process) = completion process (caller_of m (thread_of_process t process)).call
 
 pub kinds_apart : (t : TestValue) (d : Drivers t) (lines : List (List ℕ)) (line : List ℕ)
-    → AllByRecursion IsSaid (reply t (run t d lines) line).said × AllByRecursion IsHeard (heard t (run t d lines) (line_meaning line))
-kinds_apart t d lines line = (reply_said t (run t d lines) line, all_heard t (run t d lines) (line_meaning line))
+    → AllByRecursion IsSaid (take_line t (run t d lines) line).said × AllByRecursion IsHeard (heard t (run t d lines) (line_meaning line))
+kinds_apart t d lines line = (line_said t (run t d lines) line, all_heard t (run t d lines) (line_meaning line))

@@ -8,12 +8,12 @@ use Rattle.std.proofs.lemmas.Bool.{and_from, not_from_false, false≢true, true�
 use Rattle.std.proofs.lemmas.Bool.{eqb-false, leb-false, cases_Bool}
 use Rattle.jh_edn.specs.Edn.{is_empty}
 use Rattle.jh_gen.specs.DriverState.{DriverState}
-use Rattle.jh_lines.specs.Replies.{after_lines}
+use Rattle.jh_lines.specs.Answering.{after_lines}
 use Rattle.jh_nemesis.specs.State.{first_state}
 use Rattle.jh_conversation.specs.Laws.{Drivers, Waits, run, start}
 use Rattle.jh_conversation.specs.Laws.Waits.{IsOver, ForCall, ForStep, ForRate, ForRecovery}
 use Rattle.jh_conversation.specs.Laws.Waits.{ForGenerator}
-use Rattle.jh_conversation.specs.Lines.{at_first, is_test_over, listen, reply, take_in}
+use Rattle.jh_conversation.specs.Lines.{at_first, is_test_over, listen, take_line, take_in}
 use Rattle.jh_test_parts.specs.LineMeanings.{line_meaning}
 use Rattle.jh_conversation.specs.Machine.{Machine, are_free, has_no_call, no_caller, caller_of}
 use Rattle.jh_test_parts.specs.Test.{TestValue}
@@ -31,7 +31,7 @@ use Rattle.jh_conversation.specs.declared.phase.Phase.TheVariants.{Main, Heal, R
 use Rattle.jh_conversation.proofs.CallLemmas.{over_is}
 use Rattle.jh_conversation.proofs.FormedLemmas.{Holds, holds_at_first, holds_by_line, holds_in_turn}
 use Rattle.jh_conversation.proofs.KeptLemmas.{IfMoved, IsKeptByCalls, by_answers, kept_calls}
-use Rattle.jh_conversation.proofs.KeptLemmas.{kept_move, kept_reply, kept_round, kept_run}
+use Rattle.jh_conversation.proofs.KeptLemmas.{kept_move, kept_line, kept_round, kept_run}
 use Rattle.jh_conversation.proofs.KeptLemmas.{kept_step, kept_take_in, kept_turn, kept_work}
 
 -- rounds: each call takes a free caller
@@ -189,7 +189,7 @@ unfolding turn
 turn_settles s m h = passes_settle s 5 m h (rank_few m.phase)
 
 pub turn_law : (t : TestValue) (d : Drivers t) (lines : List (List ℕ)) (line : List ℕ) → is_test_over (run t d lines) ≡ false
-    → (last : Machine) × (reply t (run t d lines) line ≡ round t last)
+    → (last : Machine) × (take_line t (run t d lines) line ≡ round t last)
     × ((round t last).given ≡ last.given) × (move t (round t last) ≡ None)
 turn_law t d lines line goes =
     let h = turn_settles t (take_in t (line_meaning line) (listen (run t d lines))) (kept_take_in t (Holds t) (holds_by_line t) (listen (run t d lines)) (line_meaning line)
@@ -254,17 +254,17 @@ waits_settled t m h = go m.phase refl
     go Final is = in_final is (ended Final is (when_not _ _ (stays Final is)))
     go Over is = IsOver is
 
-waits_reply : (t : TestValue) (m : Machine) (line : List ℕ) → Holds t m → Waits t (reply t m line)
-waits_reply t m line h =
+waits_line : (t : TestValue) (m : Machine) (line : List ℕ) → Holds t m → Waits t (take_line t m line)
+waits_line t m line h =
     (elim (is_test_over m) as (λ b. is_test_over m ≡ b → Waits t (if b then listen m else turn t (take_in t (line_meaning line) (listen m)))) [
       | true ↦ λ e. IsOver (over_is m.phase e)
       | false ↦ λ _. waits_settled t (turn t (take_in t (line_meaning line) (listen m))) (turn_settles t (take_in t (line_meaning line) (listen m)) (kept_take_in t (Holds t) (holds_by_line t) (listen m) (line_meaning line) h))
     ]) refl
 
-waits_lines : (t : TestValue) (lines : List (List ℕ)) (m : Machine) → Holds t m → Waits t m → Waits t (after_lines (reply t) m lines)
+waits_lines : (t : TestValue) (lines : List (List ℕ)) (m : Machine) → Holds t m → Waits t m → Waits t (after_lines (take_line t) m lines)
 waits_lines t [] m h w = w
 waits_lines t (line ∷ lines) m h w =
-    waits_lines t lines (reply t m line) (kept_reply t (Holds t) (holds_in_turn t) (holds_by_line t) m line h) (waits_reply t m line h)
+    waits_lines t lines (take_line t m line) (kept_line t (Holds t) (holds_in_turn t) (holds_by_line t) m line h) (waits_line t m line h)
 
 pub always_waits : (t : TestValue) (d : Drivers t) (lines : List (List ℕ)) → Waits t (run t d lines)
 always_waits t d lines =

@@ -5,7 +5,7 @@ use Rattle.std.specs.Prelude.{Option, None, Some, if◌then◌else◌}
 use Rattle.std.proofs.lemmas.Bool.{eqb-true}
 use Rattle.std.proofs.lemmas.List.{append_assoc}
 use Rattle.jh_edn.specs.Edn.{is_keyword}
-use Rattle.jh_lines.specs.Replies.{after_lines}
+use Rattle.jh_lines.specs.Answering.{after_lines}
 use Rattle.jh_nemesis.specs.State.{faults_in, first_state}
 use Rattle.jh_nemesis.specs.Steps.{state_after}
 use Rattle.jh_ops.specs.Operation.{Operation}
@@ -15,10 +15,10 @@ use Rattle.jh_conversation.specs.Conversations.{ConversationIsRun, ConversationV
 use Rattle.jh_conversation.specs.Laws.{Drivers, answered_by, clock_at, ended_by, heard, heard_from}
 use Rattle.jh_conversation.specs.Laws.{run, start, talk, talk_at, talk_from}
 use Rattle.jh_ops.specs.Pairing.{is_invoke}
-use Rattle.jh_test_parts.specs.LineMeanings.{MeaningValue, Nothing, Clock, Stop, Reply, Bad}
+use Rattle.jh_test_parts.specs.LineMeanings.{MeaningValue, Nothing, Clock, Stop, Op, Bad}
 use Rattle.jh_conversation.specs.Lines.{answer_step, answers_step, at_first, at_time, clock_after}
-use Rattle.jh_conversation.specs.Lines.{finish, is_test_over, listen, refuse, reply, take_answer}
-use Rattle.jh_conversation.specs.Lines.{take_completion, take_end, take_in, take_reply}
+use Rattle.jh_conversation.specs.Lines.{finish, is_test_over, listen, refuse, take_line, take_answer}
+use Rattle.jh_conversation.specs.Lines.{take_completion, take_end, take_in, take_operation}
 use Rattle.jh_test_parts.specs.LineMeanings.{kept_pairs, line_meaning}
 use Rattle.jh_test_parts.specs.Values.{fits_call}
 use Rattle.jh_test_parts.specs.Test.{thread_of_process}
@@ -111,13 +111,13 @@ hears t m Nothing none = (refl, none)
 hears t m (Clock time) none = (refl, none)
 hears t m Stop none = (refl, none)
 hears t m (Bad why) none = (refl, none)
-hears t m (Reply op time) none = go op.process
+hears t m (Op op time) none = go op.process
   where
-    go : (p : Process) → Hears m (heard_from t m op (clock_at time m.clock) p) (take_reply t op time p m)
+    go : (p : Process) → Hears m (heard_from t m op (clock_at time m.clock) p) (take_operation t op time p m)
     go Process.Nemesis = heard_answer m op time none m.step
     go (Process.Client process) = heard_completion t m process op time none (caller_of m (thread_of_process t process)).call
 
-talked : (t : TestValue) (d : Drivers t) (m : Machine) (line : List ℕ) → (reply t m line).history ≡ talk_at t m line ++ m.history
+talked : (t : TestValue) (d : Drivers t) (m : Machine) (line : List ℕ) → (take_line t m line).history ≡ talk_at t m line ++ m.history
 talked t d m line =
     elim (is_test_over m) as (λ b. (if b then listen m else turn t (take_in t (line_meaning line) (listen m))).history
     ≡ ((if b then listen m else turn t (take_in t (line_meaning line) (listen m))).said ++ (if b then [] else heard t m (line_meaning line))) ++ m.history) [
@@ -130,11 +130,11 @@ talked t d m line =
           ∙ sym (append_assoc (turn t next).said (heard t m (line_meaning line)) m.history)
     ]
 
-talked_all : (t : TestValue) (d : Drivers t) (lines : List (List ℕ)) (m : Machine) → (after_lines (reply t) m lines).history ≡ talk_from t m lines ++ m.history
+talked_all : (t : TestValue) (d : Drivers t) (lines : List (List ℕ)) (m : Machine) → (after_lines (take_line t) m lines).history ≡ talk_from t m lines ++ m.history
 talked_all t d [] m = refl
 talked_all t d (line ∷ lines) m =
-    talked_all t d lines (reply t m line) ∙ ap (λ l. talk_from t (reply t m line) lines ++ l) (talked t d m line)
-    ∙ sym (append_assoc (talk_from t (reply t m line) lines) (talk_at t m line) m.history)
+    talked_all t d lines (take_line t m line) ∙ ap (λ l. talk_from t (take_line t m line) lines ++ l) (talked t d m line)
+    ∙ sym (append_assoc (talk_from t (take_line t m line) lines) (talk_at t m line) m.history)
 
 pub history_is_talk : (t : TestValue) (d : Drivers t) (lines : List (List ℕ)) → (run t d lines).history ≡ talk t d lines
 history_is_talk t d lines =
@@ -147,9 +147,9 @@ history_is_talk t d lines =
 
 -- a conversation keeps its test, and its machine takes each line
 after_is : (t : TestValue) (m : Machine) (lines : List (List ℕ))
-    → ◌≡◌ {A = ConversationValue} (after_lines conversation_after (record { test = t; machine = m }) lines) (record { test = t; machine = after_lines (reply t) m lines })
+    → ◌≡◌ {A = ConversationValue} (after_lines conversation_after (record { test = t; machine = m }) lines) (record { test = t; machine = after_lines (take_line t) m lines })
 after_is t m [] = refl
-after_is t m (line ∷ lines) = after_is t (reply t m line) lines
+after_is t m (line ∷ lines) = after_is t (take_line t m line) lines
 
 pub conversation_run : ConversationIsRun
 conversation_run t d lines = after_is t (start t d) lines

@@ -2,10 +2,10 @@
 -- project's own.
 use Rattle.std.specs.Prelude.{◌≡◌, ℕ, Bool, List}
 use Rattle.jh_conversation.specs.Laws.{Drivers, run, start}
-use Rattle.jh_conversation.specs.Lines.{is_test_over, reply}
+use Rattle.jh_conversation.specs.Lines.{is_test_over, take_line}
 use Rattle.jh_conversation.specs.Machine.{Machine}
 use Rattle.jh_conversation.specs.Text.{said_lines, text_to}
-use Rattle.jh_lines.specs.Replies.{after_lines}
+use Rattle.jh_lines.specs.Answering.{after_lines}
 use Rattle.jh_test_parts.specs.Test.{TestValue}
 
 pub record ConversationValue : Type 0 where
@@ -25,7 +25,7 @@ answer_to_line c line = text_to c.test c.machine line
 
 -- the conversation after a line
 abbrev pub conversation_after : ConversationValue → List ℕ → ConversationValue
-conversation_after c line = record { test = c.test; machine = reply c.test c.machine line }
+conversation_after c line = record { test = c.test; machine = take_line c.test c.machine line }
 
 -- it listens no more
 abbrev pub has_no_more : ConversationValue → Bool

@@ -8,7 +8,7 @@ use Rattle.jh_env.specs.Cells.{Link, NodeCell, link_at, node_at}
 use Rattle.jh_env.specs.Overlay.{link_over, node_over}
 use Rattle.jh_gen.specs.DriverState.{DriverState, IsDriverOf, IsFresh}
 use Rattle.jh_gen.specs.Generator.{Generator, clients, limit}
-use Rattle.jh_lines.specs.Replies.{after_lines}
+use Rattle.jh_lines.specs.Answering.{after_lines}
 use Rattle.jh_nemesis.specs.State.{faults_in, first_state}
 use Rattle.jh_ops.specs.Operation.{Operation}
 use Rattle.jh_ops.specs.declared.call.Request.{Request}
@@ -16,10 +16,10 @@ use Rattle.jh_ops.specs.declared.operation.Kind.{Kind}
 use Rattle.jh_ops.specs.declared.operation.Process.{Process}
 use Rattle.jh_ops.specs.Pairing.{is_invoke}
 use Rattle.jh_ops.specs.Requests.{request_name}
-use Rattle.jh_test_parts.specs.LineMeanings.{MeaningValue, Reply, Bad}
+use Rattle.jh_test_parts.specs.LineMeanings.{MeaningValue, Op, Bad}
 use Rattle.jh_conversation.specs.Lines.{answers_step, at_first, clock_after, is_test_over}
 use Rattle.jh_test_parts.specs.LineMeanings.{kept_pairs, line_meaning}
-use Rattle.jh_conversation.specs.Lines.{listen, reply, take_in}
+use Rattle.jh_conversation.specs.Lines.{listen, take_line, take_in}
 use Rattle.jh_test_parts.specs.Values.{fits_call}
 use Rattle.jh_test_parts.specs.Test.{thread_of_process}
 use Rattle.jh_conversation.specs.Machine.{Machine, are_free, caller_process, caller_of}
@@ -59,7 +59,7 @@ abbrev pub start : (t : TestValue) → Drivers t → Machine
 start t d = turn t (at_first t d.first d.last (first_state t.start))
 
 abbrev pub run : (t : TestValue) → Drivers t → List (List ℕ) → Machine
-run t d lines = after_lines (reply t) (start t d) lines
+run t d lines = after_lines (take_line t) (start t d) lines
 
 -- The history is the conversation.
 
@@ -93,19 +93,19 @@ heard_from t m op now Process.Nemesis = answered_by m.step op now
 heard_from t m op now (Process.Client process) =
     ended_by t m process (caller_of m (thread_of_process t process)).call op now
 
--- the record of what a line says, if it is a reply
+-- the record of what a line means, if it ends a call or a step
 abbrev pub heard : TestValue → Machine → MeaningValue → List Recorded
-heard t m (Reply op time) = heard_from t m op (clock_at time m.clock) op.process
+heard t m (Op op time) = heard_from t m op (clock_at time m.clock) op.process
 heard t m _ = []
 
 -- what is read and what is then said, the newest first; behind the end nothing is heard
 abbrev pub talk_at : TestValue → Machine → List ℕ → List Recorded
 talk_at t m line =
-    (reply t m line).said ++ (if is_test_over m then [] else heard t m (line_meaning line))
+    (take_line t m line).said ++ (if is_test_over m then [] else heard t m (line_meaning line))
 
 abbrev pub talk_from : TestValue → Machine → List (List ℕ) → List Recorded
 talk_from t m [] = []
-talk_from t m (line ∷ lines) = talk_from t (reply t m line) lines ++ talk_at t m line
+talk_from t m (line ∷ lines) = talk_from t (take_line t m line) lines ++ talk_at t m line
 
 abbrev pub talk : (t : TestValue) → Drivers t → List (List ℕ) → List Recorded
 talk t d lines = talk_from t (start t d) lines ++ (start t d).said
@@ -128,7 +128,7 @@ IsHeard _ = ⊥
 abbrev pub KindsAreApart : Type 0
 KindsAreApart =
     (t : TestValue) (d : Drivers t) (lines : List (List ℕ)) (line : List ℕ)
-    → AllByRecursion IsSaid (reply t (run t d lines) line).said
+    → AllByRecursion IsSaid (take_line t (run t d lines) line).said
     × AllByRecursion IsHeard (heard t (run t d lines) (line_meaning line))
 
 -- its times never go back
@@ -314,15 +314,15 @@ complaint_of_completion t m process (Some call) op =
     if caller_process t m (thread_of_process t process) == process then complaint_of_end t call op
     else Some complaint.NoCallOpen
 
-abbrev pub complaint_of_reply : TestValue → Machine → Operation → Process → Option Complaint
-complaint_of_reply t m op Process.Nemesis = complaint_of_answer m.step op
-complaint_of_reply t m op (Process.Client process) =
+abbrev pub complaint_of_operation : TestValue → Machine → Operation → Process → Option Complaint
+complaint_of_operation t m op Process.Nemesis = complaint_of_answer m.step op
+complaint_of_operation t m op (Process.Client process) =
     complaint_of_completion t m process (caller_of m (thread_of_process t process)).call op
 
 -- why a line is no reply, if it is none
 abbrev pub complaint_of : TestValue → Machine → MeaningValue → Option Complaint
 complaint_of t m (Bad why) = Some why
-complaint_of t m (Reply op time) = complaint_of_reply t m op op.process
+complaint_of t m (Op op time) = complaint_of_operation t m op op.process
 complaint_of t m _ = None
 
 -- the first line that is no reply with its number, counted on from n; what is read behind the end is not
@@ -337,7 +337,7 @@ abbrev pub first_bad : TestValue → Machine → ℕ → List (List ℕ)
 first_bad t m n [] = None
 first_bad t m n (line ∷ lines) =
     first_bad_or t (if is_test_over m then None else complaint_of t m (line_meaning line)) (n + 1)
-    (first_bad t (reply t m line) (n + 1) lines)
+    (first_bad t (take_line t m line) (n + 1) lines)
 
 abbrev pub FirstBadIsKept : Type 0
 FirstBadIsKept =
@@ -351,7 +351,7 @@ abbrev pub TurnSettles : Type 0
 TurnSettles =
     (t : TestValue) (d : Drivers t) (lines : List (List ℕ)) (line : List ℕ)
     → is_test_over (run t d lines) ≡ false
-    → (last : Machine) × (reply t (run t d lines) line ≡ round t last)
+    → (last : Machine) × (take_line t (run t d lines) line ≡ round t last)
     × ((round t last).given ≡ last.given) × (move t (round t last) ≡ None)
 
 -- What a machine waits for.

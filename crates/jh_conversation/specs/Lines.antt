@@ -1,5 +1,5 @@
--- What a line says that is read, and what the machine makes of it. This project's own; that a client
--- which crashed goes on as another process is jepsen.generator's.
+-- What the machine makes of a line that is read. This project's own; that a client which crashed goes on
+-- as another process is jepsen.generator's.
 use Rattle.std.specs.Prelude.{ℕ, ◌+◌, ◌-◌, ◌^◌, ◌==◌, max, min, Bool, true, false, ◌&&◌, ◌||◌, not}
 use Rattle.std.specs.Prelude.{pos, List}
 use Rattle.std.specs.Prelude.{[], set, codes, Option, None, Some}
@@ -21,7 +21,7 @@ use Rattle.jh_ops.specs.Requests.{request_name}
 use Rattle.jh_txn_histories.specs.Written.{is_equal}
 use Rattle.jh_conversation.specs.Machine.{Machine}
 use Rattle.jh_conversation.specs.Machine.{hear, new_callers, caller_process, caller_of}
-use Rattle.jh_test_parts.specs.LineMeanings.{MeaningValue, Nothing, Clock, Stop, Reply, Bad, kept_pairs, line_meaning}
+use Rattle.jh_test_parts.specs.LineMeanings.{MeaningValue, Nothing, Clock, Stop, Op, Bad, kept_pairs, line_meaning}
 use Rattle.jh_test_parts.specs.Test.{thread_of_process}
 use Rattle.jh_test_parts.specs.Values.{fits_call}
 use Rattle.jh_test_parts.specs.Transactions.{first_source}
@@ -34,8 +34,6 @@ use Rattle.jh_test_parts.specs.declared.complaints.Complaint.TheVariants as comp
 use Rattle.jh_conversation.specs.declared.phase.Phase.{Phase}
 use Rattle.jh_conversation.specs.declared.phase.Phase.TheVariants.{Main, Over}
 use Rattle.jh_test_parts.specs.declared.records.Recorded.TheVariants.{Answered, Ended as EndedCall}
-
--- What the machine makes of it.
 
 abbrev pub is_end_phase : Phase → Bool
 is_end_phase Over = true
@@ -131,9 +129,9 @@ take_answer op time m (Some step) =
     if answers_step step op then answer_step step op (at_time time m)
     else refuse complaint.OtherStep m
 
-abbrev pub take_reply : TestValue → Operation → Option ℕ → Process → Machine → Machine
-take_reply t op time Process.Nemesis m = take_answer op time m m.step
-take_reply t op time (Process.Client process) m =
+abbrev pub take_operation : TestValue → Operation → Option ℕ → Process → Machine → Machine
+take_operation t op time Process.Nemesis m = take_answer op time m m.step
+take_operation t op time (Process.Client process) m =
     take_completion t process op time m (caller_of m (thread_of_process t process)).call
 
 abbrev pub take_in : TestValue → MeaningValue → Machine → Machine
@@ -141,15 +139,15 @@ take_in t Nothing m = m
 take_in t (Clock time) m = at_time (Some time) m
 take_in t Stop m = stop m
 take_in t (Bad why) m = refuse why m
-take_in t (Reply op time) m = take_reply t op time op.process m
+take_in t (Op op time) m = take_operation t op time op.process m
 
 -- what was said is what is said to this line
 abbrev pub listen : Machine → Machine
 listen m = record m { read = m.read + 1; said = [] }
 
 -- The machine after a line. Nothing is said or heard behind the end.
-abbrev pub reply : TestValue → Machine → List ℕ → Machine
-reply t m line =
+abbrev pub take_line : TestValue → Machine → List ℕ → Machine
+take_line t m line =
     if is_test_over m then listen m else turn t (take_in t (line_meaning line) (listen m))
 
 -- the machine before its first turn

@@ -5,7 +5,7 @@ use Rattle.std.specs.Prelude.{if◌then◌else◌}
 use Rattle.jh_edn.specs.Print.{print}
 use Rattle.jh_ops.specs.Operation.{Operation}
 use Rattle.jh_ops.specs.OperationWritten.{value_written}
-use Rattle.jh_conversation.specs.Lines.{is_test_over, reply}
+use Rattle.jh_conversation.specs.Lines.{is_test_over, take_line}
 use Rattle.jh_conversation.specs.Machine.{Machine}
 use Rattle.jh_test_parts.specs.Records.{operation_of_record, recorded_operations}
 use Rattle.jh_test_parts.specs.Test.{TestValue}
@@ -30,7 +30,7 @@ said_lines t m =
 
 -- what it says to a line; nothing behind the end
 abbrev pub text_to : TestValue → Machine → List ℕ → List ℕ
-text_to t m line = if is_test_over m then [] else said_lines t (reply t m line)
+text_to t m line = if is_test_over m then [] else said_lines t (take_line t m line)
 
 -- the whole history, the oldest record first: as lines, and as operations
 abbrev pub recorded_lines : TestValue → Machine → List ℕ

@@ -155,7 +155,7 @@ impl jh_lines::Machine for Conversation {
     ghost use Rattle.std.proofs.Common.{ap, ◌∙◌};
     ghost use Rattle.jh_conversation.specs.Conversations.{answer_to_line, conversation_after};
     ghost use Rattle.jh_conversation.specs.Conversations.{has_no_more, opening_of};
-    ghost use Rattle.jh_conversation.specs.Lines.{is_test_over, listen, reply, take_in};
+    ghost use Rattle.jh_conversation.specs.Lines.{is_test_over, listen, take_line, take_in};
     ghost use Rattle.jh_test_parts.specs.LineMeanings.{line_meaning};
     ghost use Rattle.jh_conversation.specs.Text.{said_lines};
     ghost use Rattle.jh_conversation.specs.Turn.{turn};
@@ -164,12 +164,12 @@ impl jh_lines::Machine for Conversation {
 
     ghost after_line = { conversation_after };
 
-    ghost reply_to = { answer_to_line };
+    ghost answer_to = { answer_to_line };
 
     ghost has_finished = { has_no_more };
 
     ghost stays_over = { λ c line over. (
-      ap (λ b. if b then [] else said_lines c.test (reply c.test c.machine line)) over,
+      ap (λ b. if b then [] else said_lines c.test (take_line c.test c.machine line)) over,
       ap (λ b. is_test_over (if b then listen c.machine
           else turn c.test (take_in c.test (line_meaning line) (listen c.machine)))) over ∙ over,
     ) };
@@ -181,7 +181,7 @@ impl jh_lines::Machine for Conversation {
         self.machine.write_said(self.alloc, &self.test, out)
     }
 
-    fn reply(&mut self, line: &[u8], out: &mut Vec<u8>) -> Result<(), AllocError> {
+    fn answer(&mut self, line: &[u8], out: &mut Vec<u8>) -> Result<(), AllocError> {
         if self.has_failed {
             return Err(AllocError);
         }
@@ -189,7 +189,7 @@ impl jh_lines::Machine for Conversation {
         let _clients = self.test.clients();
         let was_over = self.machine.is_over();
         self.has_failed = true;
-        self.machine.reply(self.alloc, &self.test, line)?;
+        self.machine.take_line(self.alloc, &self.test, line)?;
         self.has_failed = false;
         if was_over {
             return Ok(());

@@ -263,7 +263,7 @@ impl Machine {
                 self.refuse(why);
                 Ok(())
             }
-            LineMeaning::Reply(op, time) => match op.process {
+            LineMeaning::Op(op, time) => match op.process {
                 Process::Nemesis => self.take_answer(alloc, test, op, time),
                 Process::Client(process) => self.take_completion(alloc, test, process, op, time),
             },
@@ -295,14 +295,14 @@ impl Machine {
     }
 
     /// Takes a line, without its line feed, and says all that can then be said.
-    pub(crate) fn reply(
+    pub(crate) fn take_line(
         &mut self,
         alloc: Global,
         test: &Test,
         line: &[u8],
     ) -> Result<(), AllocError>
         requires { IsSoundMachine test.now self.old }
-        ensures { OnOk result (self.new ≡ rule.reply test.now self.old line.now) }
+        ensures { OnOk result (self.new ≡ rule.take_line test.now self.old line.now) }
     {
         // The answer is not used: this call's contract says that the test can be made.
         let _clients = test.clients();

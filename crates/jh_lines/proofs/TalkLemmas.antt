@@ -5,13 +5,13 @@ use lib.Seq.{take-append_seam}
 use Rattle.std.specs.Io.{StartsWith}
 use Rattle.std.specs.declared.io.Error.{Error}
 use Rattle.jh_lines.specs.Lines.{lines_from, rest_from, last_line, whole_lines, all_lines}
-use Rattle.jh_lines.specs.Replies.{after_lines, replies_to, said_to_all}
+use Rattle.jh_lines.specs.Answering.{after_lines, answers_to_lines, said_to_all}
 use Rattle.jh_lines.specs.Events.{TalkEvent, Told, Heard, Ended, TellFailed, ListenFailed, heard_in, told_in}
 use Rattle.jh_lines.specs.Events.{is_at_end, lines_heard, machine_after, due_in, Went, IsPrompt}
 use Rattle.jh_lines.specs.Endings.{IsConversation, IsEndingOf}
 use Rattle.jh_lines.specs.declared.ending.Ending.{Ending}
 use Rattle.jh_lines.specs.declared.ending.Ending.TheVariants.{Over, InputEnded, ReadFailed, WriteFailed, OutOfMemory}
-use Rattle.jh_lines.proofs.LineLemmas.{rest_from-append, lines_from-append, after_lines-append, replies_to-append}
+use Rattle.jh_lines.proofs.LineLemmas.{rest_from-append, lines_from-append, after_lines-append, answers_to_lines-append}
 use Rattle.jh_lines.proofs.LineLemmas.{StaysOver, said_to_all-over}
 
 -- some bytes of what is due are a prefix of what is due with them
@@ -46,15 +46,15 @@ lines_at_end past line goes_on cut = ap (λ l. whole_lines (heard_in past) ++ la
 module _ {P M : Type 0} (told heard : P → List ℕ → P → Type 0) (ended : P → P → Type 0)
     (tell_failed : P → List ℕ → Error → P → Type 0)
     (listen_failed : P → Error → P → Type 0) (opening : M → List ℕ) (after_line : M → List ℕ → M)
-    (reply_to : M → List ℕ → List ℕ) (begin : P) (first : M) where
+    (answer_to : M → List ℕ → List ℕ) (begin : P) (first : M) where
   abbrev due : List TalkEvent → List ℕ
-  due = due_in opening after_line reply_to first
+  due = due_in opening after_line answer_to first
 
   abbrev after : List TalkEvent → M
   after = machine_after after_line first
 
-  abbrev replies : M → List (List ℕ) → List ℕ
-  replies = replies_to after_line reply_to
+  abbrev said_to_lines : M → List (List ℕ) → List ℕ
+  said_to_lines = answers_to_lines after_line answer_to
 
   -- the machine has taken all that was heard, and `out` is all that is due and not told
   pub record Answers (past : List TalkEvent) (peer : P) (machine : M) (out : List ℕ) : Type 0 where
@@ -75,7 +75,7 @@ module _ {P M : Type 0} (told heard : P → List ℕ → P → Type 0) (ended : 
   abbrev pub Holds : (M → Bool) → P → M → Ending → Type 0
   Holds has_finished peer machine ending =
       (past : List TalkEvent) × Went told heard ended tell_failed listen_failed begin past peer
-      × IsConversation opening after_line reply_to has_finished first past machine ending
+      × IsConversation opening after_line answer_to has_finished first past machine ending
 
   pub stands_first : (line out : List ℕ) → line ≡ [] → out ≡ [] ++ opening first → Stands 0 begin line first out
   stands_first line out no_line opened = record {
@@ -104,15 +104,15 @@ module _ {P M : Type 0} (told heard : P → List ℕ → P → Type 0) (ended : 
   -- what is due where there are more lines
   due_more : (past : List TalkEvent) (peer : P) (machine : M) (out cleared : List ℕ) (lines all : List (List ℕ))
       → Answers past peer machine []
-      → all ≡ lines_heard past ++ lines → cleared ≡ [] → out ≡ cleared ++ replies machine lines
-      → told_in past ++ out ≡ opening first ++ replies first all
+      → all ≡ lines_heard past ++ lines → cleared ≡ [] → out ≡ cleared ++ said_to_lines machine lines
+      → told_in past ++ out ≡ opening first ++ said_to_lines first all
   due_more past peer machine out cleared lines all a more clear said =
       ap (λ l. l ++ out) (all_told past peer machine a)
-      ∙ append_assoc (opening first) (replies first (lines_heard past)) out
+      ∙ append_assoc (opening first) (said_to_lines first (lines_heard past)) out
       ∙ ap (λ l. opening first ++ l)
-      (ap (λ l. replies first (lines_heard past) ++ l)
-      (said ∙ ap (λ l. l ++ replies machine lines) clear ∙ ap (λ m. replies m lines) a.has_heard)
-      ∙ sym (replies_to-append after_line reply_to first (lines_heard past) lines) ∙ ap (replies first) (sym more))
+      (ap (λ l. said_to_lines first (lines_heard past) ++ l)
+      (said ∙ ap (λ l. l ++ said_to_lines machine lines) clear ∙ ap (λ m. said_to_lines m lines) a.has_heard)
+      ∙ sym (answers_to_lines-append after_line answer_to first (lines_heard past) lines) ∙ ap (said_to_lines first) (sym more))
 
   after_more : (past : List TalkEvent) (peer : P) (machine machine' : M) (lines all : List (List ℕ))
       → Answers past peer machine []
@@ -120,7 +120,7 @@ module _ {P M : Type 0} (told heard : P → List ℕ → P → Type 0) (ended : 
       → machine' ≡ after_lines after_line first all
   after_more past peer machine machine' lines all a more taken =
       taken ∙ ap (λ m. after_lines after_line m lines) a.has_heard
-      ∙ sym (after_lines-append after_line reply_to first (lines_heard past) lines)
+      ∙ sym (after_lines-append after_line answer_to first (lines_heard past) lines)
       ∙ ap (after_lines after_line first) (sym more)
 
   module _ (has_finished : M → Bool) (turns : ℕ) (peer next : P) (line : List ℕ) (machine : M) (out shown : List ℕ)
@@ -153,7 +153,7 @@ module _ {P M : Type 0} (told heard : P → List ℕ → P → Type 0) (ended : 
       exit_unread last error s e step failed =
           let a = on s e step in
           let same : due (ListenFailed error ∷ Told shown ∷ s.past) ≡ due s.past =
-          ap (λ l. opening first ++ replies first l) (sym (lines_of s.past s.goes_on)) in (
+          ap (λ l. opening first ++ said_to_lines first l) (sym (lines_of s.past s.goes_on)) in (
             ListenFailed error ∷ Told shown ∷ s.past,
             (next, a.went, failed),
             (
@@ -171,7 +171,7 @@ module _ {P M : Type 0} (told heard : P → List ℕ → P → Type 0) (ended : 
           (s : Stands turns peer line machine out) → shown ≡ out → told peer shown next
           → ((count ≡ 0 → ended next last) × (count ≢ 0 → heard next bytes last)) → count ≡ 0 → cleared ≡ []
           → machine' ≡ after_lines after_line machine (last_line line)
-          → out' ≡ cleared ++ replies machine (last_line line) → Answers (Ended ∷ Told shown ∷ s.past) last machine' out'
+          → out' ≡ cleared ++ said_to_lines machine (last_line line) → Answers (Ended ∷ Told shown ∷ s.past) last machine' out'
       answers_end last machine' cleared out' bytes count s e step h none clear taken said =
           let a = on s e step in
           let more = lines_at_end (Told shown ∷ s.past) line s.goes_on s.cut in
@@ -186,7 +186,7 @@ module _ {P M : Type 0} (told heard : P → List ℕ → P → Type 0) (ended : 
           → Stands turns peer line machine out → shown ≡ out → told peer shown next
           → ((count ≡ 0 → ended next last) × (count ≢ 0 → heard next bytes last)) → count ≡ 0 → cleared ≡ []
           → machine' ≡ after_lines after_line machine (last_line line)
-          → out' ≡ cleared ++ replies machine (last_line line) → shown' ≡ out' → told last shown' final
+          → out' ≡ cleared ++ said_to_lines machine (last_line line) → shown' ≡ out' → told last shown' final
           → (ending : Ending) → ending ≡ InputEnded → Holds has_finished final machine' ending
       exit_told last final machine' cleared out' shown' bytes count s e step h none clear taken said e' step' ending is =
           let b =
@@ -203,7 +203,7 @@ module _ {P M : Type 0} (told heard : P → List ℕ → P → Type 0) (ended : 
           → told peer shown next → ((count ≡ 0 → ended next last) × (count ≢ 0 → heard next bytes last)) → count ≡ 0
           → cleared ≡ []
           → machine' ≡ after_lines after_line machine (last_line line)
-          → out' ≡ cleared ++ replies machine (last_line line) → shown' ≡ out'
+          → out' ≡ cleared ++ said_to_lines machine (last_line line) → shown' ≡ out'
           → ((n : ℕ) × tell_failed last (take n shown') error final) → (ending : Ending) → ending ≡ WriteFailed error
           → Holds has_finished final machine' ending
       exit_untold last final machine' cleared out' shown' bytes count error s e step h none clear taken said e' (n, step')
@@ -224,7 +224,7 @@ module _ {P M : Type 0} (told heard : P → List ℕ → P → Type 0) (ended : 
           → ((count ≡ 0 → ended next last) × (count ≢ 0 → heard next bytes last)) → (count ≡ 0 → ⊥) → cleared ≡ []
           → line' ≡ rest_from line bytes
           → machine' ≡ after_lines after_line machine (lines_from line bytes)
-          → out' ≡ cleared ++ replies machine (lines_from line bytes)
+          → out' ≡ cleared ++ said_to_lines machine (lines_from line bytes)
           → Stands (turns + 1) last line' machine' out'
       stands_on last line' machine' cleared out' bytes count s e step h some clear cut taken said =
           let a = on s e step in
@@ -261,26 +261,26 @@ module _ {P M : Type 0} (told heard : P → List ℕ → P → Type 0) (ended : 
           (Heard bytes ∷ Told shown ∷ s.past, (next, a.went, h.1 some), ((all_told _ next machine a, a.prompt), tt))
 
 -- what an ending says of what was told, where nothing failed
-module _ {M : Type 0} (opening : M → List ℕ) (after_line : M → List ℕ → M) (reply_to : M → List ℕ → List ℕ)
+module _ {M : Type 0} (opening : M → List ℕ) (after_line : M → List ℕ → M) (answer_to : M → List ℕ → List ℕ)
     (has_finished : M → Bool) (first machine : M)
     (past : List TalkEvent) (ending : Ending) where
   abbrev Ends : Ending → Type 0
   Ends =
-      IsEndingOf (due_in opening after_line reply_to first) (machine_after after_line first) has_finished past machine
+      IsEndingOf (due_in opening after_line answer_to first) (machine_after after_line first) has_finished past machine
 
   pub told_to_end : ending ≡ InputEnded → Ends ending
-      → (is_at_end past ≡ true) × (told_in past ≡ said_to_all opening after_line reply_to first (heard_in past))
+      → (is_at_end past ≡ true) × (told_in past ≡ said_to_all opening after_line answer_to first (heard_in past))
   told_to_end e h =
       let k : Ends InputEnded = subst Ends e h in
-      let said : List (List ℕ) → List ℕ = λ lines. opening first ++ replies_to after_line reply_to first lines in
+      let said : List (List ℕ) → List ℕ = λ lines. opening first ++ answers_to_lines after_line answer_to first lines in
       (k.2, k.0 ∙ ap (λ b. said (cond b (all_lines (heard_in past)) (whole_lines (heard_in past)))) k.2)
 
-  pub told_when_over : StaysOver after_line reply_to has_finished → ending ≡ Over → Ends ending → (rest : List ℕ)
-      → said_to_all opening after_line reply_to first (heard_in past ++ rest) ≡ told_in past
+  pub told_when_over : StaysOver after_line answer_to has_finished → ending ≡ Over → Ends ending → (rest : List ℕ)
+      → said_to_all opening after_line answer_to first (heard_in past ++ rest) ≡ told_in past
   told_when_over stays_over e h rest =
       let k : Ends Over = subst Ends e h in
       let lines : lines_heard past ≡ whole_lines (heard_in past) = lines_of past k.2 in
       let over : has_finished (after_lines after_line first (whole_lines (heard_in past))) ≡ true =
       ap has_finished (sym (k.1 ∙ ap (after_lines after_line first) lines)) ∙ k.3 in
-      said_to_all-over after_line reply_to has_finished stays_over opening first (heard_in past) rest over
-      ∙ ap (λ l. opening first ++ replies_to after_line reply_to first l) (sym lines) ∙ sym k.0
+      said_to_all-over after_line answer_to has_finished stays_over opening first (heard_in past) rest over
+      ∙ ap (λ l. opening first ++ answers_to_lines after_line answer_to first l) (sym lines) ∙ sym k.0

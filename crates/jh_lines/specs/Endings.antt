@@ -27,7 +27,7 @@ IsEndingOf due after has_finished past machine TooLong =
 -- left this machine.
 abbrev pub IsConversation : {M : Type 0} → (M → List ℕ) → (M → List ℕ → M)
     → (M → List ℕ → List ℕ) → (M → Bool) → M → List TalkEvent → M → Ending → Type 0
-IsConversation opening after_line reply_to has_finished first past machine ending =
-    IsPrompt (due_in opening after_line reply_to first) past
-    × IsEndingOf (due_in opening after_line reply_to first) (machine_after after_line first)
+IsConversation opening after_line answer_to has_finished first past machine ending =
+    IsPrompt (due_in opening after_line answer_to first) past
+    × IsEndingOf (due_in opening after_line answer_to first) (machine_after after_line first)
     has_finished past machine ending

@@ -4,7 +4,7 @@ use Rattle.std.specs.Prelude.{◌≡◌, ℕ, Bool, true, false, cond, List, [],
 use Rattle.std.specs.Io.{StartsWith}
 use Rattle.std.specs.declared.io.Error.{Error}
 use Rattle.jh_lines.specs.Lines.{whole_lines, all_lines}
-use Rattle.jh_lines.specs.Replies.{after_lines, replies_to}
+use Rattle.jh_lines.specs.Answering.{after_lines, answers_to_lines}
 
 pub data TalkEvent : Type 0 where
   Told : List ℕ → TalkEvent
@@ -77,8 +77,8 @@ machine_after after_line machine past = after_lines after_line machine (lines_he
 -- what is due by now: what it says before the first line, and to each line that was heard
 abbrev pub due_in : {M : Type 0} → (M → List ℕ) → (M → List ℕ → M) → (M → List ℕ → List ℕ)
     → M → List TalkEvent → List ℕ
-due_in opening after_line reply_to machine past =
-    opening machine ++ replies_to after_line reply_to machine (lines_heard past)
+due_in opening after_line answer_to machine past =
+    opening machine ++ answers_to_lines after_line answer_to machine (lines_heard past)
 
 -- Whenever it listens, it has told all that is due and nothing else; and it never tells more than is
 -- due.

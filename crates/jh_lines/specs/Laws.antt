@@ -2,7 +2,7 @@
 use Rattle.std.specs.Prelude.{◌≡◌, ◌≢◌, ℕ, Bool, true, List, [], ◌∷◌, ◌++◌}
 use Rattle.std.specs.List.{flat_map, AllByRecursion}
 use Rattle.jh_lines.specs.Lines.{rest_from, whole_lines}
-use Rattle.jh_lines.specs.Replies.{after_lines, replies_to, said_to_all}
+use Rattle.jh_lines.specs.Answering.{after_lines, answers_to_lines, said_to_all}
 use Rattle.jh_lines.specs.Events.{TalkEvent, Heard, told_in, IsPrompt}
 
 -- no byte of it is a line feed
@@ -30,10 +30,10 @@ TellsFirst = (due : List TalkEvent → List ℕ) (later earlier : List TalkEvent
     → IsPrompt due (later ++ Heard bytes ∷ earlier) → told_in earlier ≡ due earlier
 
 module _ {M : Type 0} (opening : M → List ℕ) (after_line : M → List ℕ → M)
-    (reply_to : M → List ℕ → List ℕ) (has_finished : M → Bool) where
+    (answer_to : M → List ℕ → List ℕ) (has_finished : M → Bool) where
   -- a machine that listens no more after some bytes says nothing to what comes behind them
   abbrev pub HearsNoMore : Type 0
   HearsNoMore = (machine : M) (bytes more : List ℕ)
       → has_finished (after_lines after_line machine (whole_lines bytes)) ≡ true
-      → said_to_all opening after_line reply_to machine (bytes ++ more)
-      ≡ opening machine ++ replies_to after_line reply_to machine (whole_lines bytes)
+      → said_to_all opening after_line answer_to machine (bytes ++ more)
+      ≡ opening machine ++ answers_to_lines after_line answer_to machine (whole_lines bytes)

@@ -1,5 +1,5 @@
 pub mod Lines
-pub mod Replies
+pub mod Answering
 pub mod Events
 pub mod Endings
 pub mod Laws

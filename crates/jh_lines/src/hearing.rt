@@ -1,7 +1,7 @@
 //! What is heard, cut into lines.
 ghost use Rattle.std.specs.Prelude.{◌≡◌, ◌++◌, [], OnOk};
 ghost use Rattle.jh_lines.specs.Lines.{lines_from, rest_from, last_line};
-ghost use Rattle.jh_lines.specs.Replies.{after_lines, replies_to};
+ghost use Rattle.jh_lines.specs.Answering.{after_lines, answers_to_lines};
 
 use crate::machine::Machine;
 use std::alloc::{AllocError, Global};
@@ -44,11 +44,11 @@ impl Hearing {
         ensures machine { OnOk result (machine.new ≡ after_lines M.after_line machine.old
             (lines_from self.old bytes.now)) }
         ensures said { OnOk result (out.new.items ≡ out.old.items
-            ++ replies_to M.after_line M.reply_to machine.old (lines_from self.old bytes.now)) }
+            ++ answers_to_lines M.after_line M.answer_to machine.old (lines_from self.old bytes.now)) }
     {
         for byte in bytes {
             if *byte == b'\n' {
-                machine.reply(self.line.as_slice(), out)?;
+                machine.answer(self.line.as_slice(), out)?;
                 self.line.clear();
             } else {
                 self.line.push(*byte)?;
@@ -66,10 +66,10 @@ impl Hearing {
         ensures machine { OnOk result (machine.new ≡ after_lines M.after_line machine.old
             (last_line self.old)) }
         ensures said { OnOk result (out.new.items ≡ out.old.items
-            ++ replies_to M.after_line M.reply_to machine.old (last_line self.old)) }
+            ++ answers_to_lines M.after_line M.answer_to machine.old (last_line self.old)) }
     {
         if !self.line.is_empty() {
-            machine.reply(self.line.as_slice(), out)?;
+            machine.answer(self.line.as_slice(), out)?;
         }
         Ok(())
     }

@@ -16,5 +16,5 @@ pub fn tells_first()
 /// Where a machine listens no more, what it says to the whole input is what it has said, whatever
 /// comes behind.
 pub fn hears_no_more<M: Machine>()
-    ensures { HearsNoMore M.opening M.after_line M.reply_to M.has_finished }
+    ensures { HearsNoMore M.opening M.after_line M.answer_to M.has_finished }
 {}

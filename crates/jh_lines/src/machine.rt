@@ -16,7 +16,7 @@ pub trait Machine {
     ghost after_line: { Self → List ℕ → Self };
 
     /// What it says to a line.
-    ghost reply_to: { Self → List ℕ → List ℕ };
+    ghost answer_to: { Self → List ℕ → List ℕ };
 
     /// Whether it listens no more.
     ghost has_finished: { Self → Bool };
@@ -27,9 +27,9 @@ pub trait Machine {
 
     /// Takes a line, without its line feed, and says the answer. After an error the machine is used
     /// no more.
-    fn reply(&mut self, line: &[u8], out: &mut Vec<u8>) -> Result<(), AllocError>
+    fn answer(&mut self, line: &[u8], out: &mut Vec<u8>) -> Result<(), AllocError>
         ensures machine { OnOk result (self.new ≡ after_line self.old line.now) }
-        ensures said { OnOk result (out.new.items ≡ out.old.items ++ reply_to self.old line.now) };
+        ensures said { OnOk result (out.new.items ≡ out.old.items ++ answer_to self.old line.now) };
 
     /// Whether it listens no more.
     fn is_over(&self) -> bool
@@ -37,5 +37,5 @@ pub trait Machine {
 
     /// One that listens no more says nothing to a line, and goes on to listen to none.
     ghost stays_over: { (machine : Self) (line : List ℕ) → has_finished machine ≡ true
-        → (reply_to machine line ≡ []) × (has_finished (after_line machine line) ≡ true) };
+        → (answer_to machine line ≡ []) × (has_finished (after_line machine line) ≡ true) };
 }

@@ -1,7 +1,7 @@
 //! A reader and a writer as a peer.
 ghost use Rattle.std.specs.Prelude.{◌≡◌, ◌⊎◌, List, [], IfSome};
 ghost use Rattle.std.specs.Io.KnownBytes.{Appends, Consumes, IsAtEnd, Keeps};
-ghost use Rattle.jh_lines.specs.Replies.{said_to_all};
+ghost use Rattle.jh_lines.specs.Answering.{said_to_all};
 ghost use Rattle.jh_lines.specs.Events.{TalkEvent, heard_in, told_in};
 ghost use Rattle.jh_lines.specs.Endings.{IsConversation};
 
@@ -57,14 +57,14 @@ pub fn converse_over<R: Read, W: Write, M: Machine>(
     ensures talk { (past : List TalkEvent)
         × Consumes (R.remaining streams.old.reader) (R.remaining streams.new.reader) (heard_in past)
         × Appends (W.contents streams.old.writer) (W.contents streams.new.writer) (told_in past)
-        × IsConversation M.opening M.after_line M.reply_to M.has_finished
+        × IsConversation M.opening M.after_line M.answer_to M.has_finished
         machine.old past machine.new result }
 
     // Where nothing failed, what was written is what the machine says to all of the input.
     ensures whole { (result ≡ Ending.Over) ⊎ (result ≡ Ending.InputEnded)
         → IfSome (R.remaining streams.old.reader) (λ input.
         Appends (W.contents streams.old.writer) (W.contents streams.new.writer)
-        (said_to_all M.opening M.after_line M.reply_to machine.old input)) }
+        (said_to_all M.opening M.after_line M.answer_to machine.old input)) }
 {
     converse(alloc, streams, machine)
 }

@@ -16,7 +16,7 @@ use std::alloc::Global;
 pub fn converse<P: Peer, M: Machine>(alloc: Global, peer: &mut P, machine: &mut M) -> Ending
     ensures { (past : List TalkEvent)
         × Went P.told P.heard P.ended P.tell_failed P.listen_failed peer.old past peer.new
-        × IsConversation M.opening M.after_line M.reply_to M.has_finished
+        × IsConversation M.opening M.after_line M.answer_to M.has_finished
         machine.old past machine.new result }
 {
     let mut hearing = Hearing::new(alloc);

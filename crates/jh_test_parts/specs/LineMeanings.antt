@@ -1,4 +1,4 @@
--- What a line says by itself that is read: its bytes are one element of EDN, or none. This project's own;
+-- What a line means by itself that is read: its bytes are one element of EDN, or none. This project's own;
 -- operations are Jepsen's (jepsen.history).
 use Rattle.std.specs.Prelude.{ℕ, Bool, not, ℤ, pos, List}
 use Rattle.std.specs.Prelude.{[], ◌∷◌, codes, filter, Option, None, Some, Result, Ok, Err}
@@ -18,13 +18,13 @@ use Rattle.jh_ops.specs.Operation.{operation}
 use Rattle.jh_test_parts.specs.declared.line.LineMeaning.{LineMeaning}
 use Rattle.jh_test_parts.specs.declared.line.LineMeaning.TheVariants as meant
 
--- What a line says by itself: nothing; a time in nanoseconds; stop; an operation, with its time, where
+-- What a line means by itself: nothing; a time in nanoseconds; stop; an operation, with its time, where
 -- it has one; or nothing that can be understood.
 pub data MeaningValue : Type 0 where
   Nothing : MeaningValue
   Clock : ℕ → MeaningValue
   Stop : MeaningValue
-  Reply : Operation → Option ℕ → MeaningValue
+  Op : Operation → Option ℕ → MeaningValue
   Bad : Complaint → MeaningValue
 
 -- a key of an operation that a conversation gives by itself
@@ -47,8 +47,8 @@ abbrev pub has_odd_time : Operation → Bool
 has_odd_time op = list_any (λ pair. is_keyword (codes "time") pair.0) op.rest
 
 abbrev pub meaning_at_time : Operation → Option ℤ → MeaningValue
-meaning_at_time op None = if has_odd_time op then Bad complaint.BadTime else Reply op None
-meaning_at_time op (Some (pos time)) = Reply op (Some time)
+meaning_at_time op None = if has_odd_time op then Bad complaint.BadTime else Op op None
+meaning_at_time op (Some (pos time)) = Op op (Some time)
 meaning_at_time op (Some _) = Bad complaint.BadTime
 
 abbrev pub meaning_of_parsed : Result Operation OpError → MeaningValue
@@ -58,12 +58,12 @@ meaning_of_parsed (Err refusal) = Bad (complaint.Op refusal)
 abbrev pub meaning_of_operation : Edn → MeaningValue
 meaning_of_operation value = meaning_of_parsed (parsed_op value)
 
--- what an integer says
+-- what an integer means
 abbrev pub meaning_of_number : ℤ → MeaningValue
 meaning_of_number (pos time) = Clock time
 meaning_of_number _ = Bad complaint.BadTime
 
--- what a value says, which may be an integer
+-- what a value means, which may be an integer
 abbrev pub meaning_of_number_or : Edn → Option ℤ → MeaningValue
 meaning_of_number_or value (Some number) = meaning_of_number number
 meaning_of_number_or value None =
@@ -77,22 +77,22 @@ meaning_of_values [] = Nothing
 meaning_of_values (value ∷ []) = meaning_of_value value
 meaning_of_values values = Bad complaint.MoreThanOne
 
--- what a text says by what was read of it, or by its first error
+-- what a text means by what was read of it, or by its first error
 abbrev pub meaning_of_read : {E : Type 0} → (E → EdnError) → Result (List Edn) E → MeaningValue
 meaning_of_read error (Ok values) = meaning_of_values values
 meaning_of_read error (Err e) = Bad (complaint.Edn (error e))
 
--- what the bytes of a line say
+-- what the bytes of a line mean
 abbrev pub line_meaning : List ℕ → MeaningValue
 line_meaning bytes =
     if is_utf8 bytes
     then meaning_of_read (λ e. error_at e.kind (line_at bytes e.left)) (values_in bytes)
     else Bad complaint.Utf8
 
--- what a line says, as the program holds it
+-- what a line means, as the program holds it
 abbrev pub line_meaning_by : LineMeaning → MeaningValue
 line_meaning_by meant.Nothing = Nothing
 line_meaning_by (meant.Clock time) = Clock time
 line_meaning_by meant.Stop = Stop
-line_meaning_by (meant.Reply op time) = Reply (operation op) time
+line_meaning_by (meant.Op op time) = Op (operation op) time
 line_meaning_by (meant.Bad why) = Bad why

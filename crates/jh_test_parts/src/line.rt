@@ -1,4 +1,4 @@
-//! What a line says by itself, and what is kept of it. `specs/LineMeanings.antt` has the rule.
+//! What a line means by itself, and what is kept of it. `specs/LineMeanings.antt` has the rule.
 
 ghost use Rattle.std.specs.Prelude.{◌≡◌, ◌↔◌, IfOk, IsTrue, filter};
 ghost use Rattle.std.specs.List.{list_any};
@@ -15,7 +15,7 @@ use jh_ops::{Op, OpError, op_of};
 use std::alloc::{AllocError, Global};
 use std::str;
 
-/// What a line says by itself.
+/// What a line means by itself.
 #[derive(Drop)]
 pub enum LineMeaning {
     Nothing,
@@ -23,7 +23,7 @@ pub enum LineMeaning {
     Clock(u64),
     Stop,
     /// An operation, with its time, where it has one.
-    Reply(Op, Option<u64>),
+    Op(Op, Option<u64>),
     /// Nothing that can be understood.
     Bad(Complaint),
 }
@@ -42,7 +42,7 @@ fn has_odd_time(op: &Op) -> bool
     has_key("time", op.rest.as_slice())
 }
 
-/// What an operation says with its time.
+/// What an operation means with its time.
 fn meaning_at_time(op: Op) -> LineMeaning
     ensures { line_meaning_by result ≡ rule.meaning_at_time (operation op) op.time }
 {
@@ -51,20 +51,20 @@ fn meaning_at_time(op: Op) -> LineMeaning
             if has_odd_time(&op) {
                 LineMeaning::Bad(Complaint::BadTime)
             } else {
-                LineMeaning::Reply(op, None)
+                LineMeaning::Op(op, None)
             }
         }
         Some(time) => {
             if time < 0 {
                 LineMeaning::Bad(Complaint::BadTime)
             } else {
-                LineMeaning::Reply(op, Some(time as u64))
+                LineMeaning::Op(op, Some(time as u64))
             }
         }
     }
 }
 
-/// What a value says that may be an operation.
+/// What a value means that may be an operation.
 fn meaning_of_operation(alloc: Global, value: Value) -> Result<LineMeaning, AllocError>
     ensures { IfOk result (λ meaning. line_meaning_by meaning ≡ rule.meaning_of_operation (view value)) }
 {
@@ -75,7 +75,7 @@ fn meaning_of_operation(alloc: Global, value: Value) -> Result<LineMeaning, Allo
     }
 }
 
-/// What an integer says.
+/// What an integer means.
 fn meaning_of_number(number: i64) -> LineMeaning
     ensures { line_meaning_by result ≡ rule.meaning_of_number number }
 {
@@ -86,7 +86,7 @@ fn meaning_of_number(number: i64) -> LineMeaning
     }
 }
 
-/// What a value says.
+/// What a value means.
 fn meaning_of_value(alloc: Global, value: Value) -> Result<LineMeaning, AllocError>
     ensures { IfOk result (λ meaning. line_meaning_by meaning ≡ rule.meaning_of_value (view value)) }
 {
@@ -99,7 +99,7 @@ fn meaning_of_value(alloc: Global, value: Value) -> Result<LineMeaning, AllocErr
     meaning_of_operation(alloc, value)
 }
 
-/// What the values of a line say.
+/// What the values of a line mean.
 fn meaning_of_values(alloc: Global, values: Vec<Value>) -> Result<LineMeaning, AllocError>
     ensures { IfOk result (λ meaning. line_meaning_by meaning ≡ rule.meaning_of_values (views values.items)) }
 {
@@ -120,7 +120,7 @@ fn is_memory(error: EdnError) -> bool
     matches!(error, EdnError::OutOfMemory)
 }
 
-/// What the bytes of a line say, which stand without its line feed.
+/// What the bytes of a line mean, which stand without its line feed.
 pub fn line_meaning(alloc: Global, line: &[u8]) -> Result<LineMeaning, AllocError>
     ensures { IfOk result (λ meaning. line_meaning_by meaning ≡ rule.line_meaning line.now) }
 {

@@ -21,7 +21,7 @@ impl Machine for Quoter {
 
     ghost after_line = { λ m line. record { is_over = m.is_over || bytes_eq line (codes "stop") } };
 
-    ghost reply_to = { λ m line. cond m.is_over [] (codes "[" ++ line ++ codes "]" ++ 10 ∷ []) };
+    ghost answer_to = { λ m line. cond m.is_over [] (codes "[" ++ line ++ codes "]" ++ 10 ∷ []) };
 
     ghost has_finished = { λ m. m.is_over };
 
@@ -34,7 +34,7 @@ impl Machine for Quoter {
         out.extend_from_slice(b"hello\n")
     }
 
-    fn reply(&mut self, line: &[u8], out: &mut Vec<u8>) -> Result<(), AllocError> {
+    fn answer(&mut self, line: &[u8], out: &mut Vec<u8>) -> Result<(), AllocError> {
         if self.is_over {
             return Ok(());
         }

@@ -1,5 +1,4 @@
--- What becomes of a machine by lines, one after another, and what it says to them (this project's
--- own).
+-- What becomes of a machine by lines, one after another, and what it answers (this project's own).
 use Rattle.std.specs.Prelude.{ℕ, List, [], ◌∷◌, ◌++◌}
 use Rattle.jh_lines.specs.Lines.{all_lines}
 
@@ -10,14 +9,14 @@ after_lines after_line machine (line ∷ lines) =
     after_lines after_line (after_line machine line) lines
 
 -- all that it says to them
-abbrev pub replies_to : {M : Type 0} → (M → List ℕ → M) → (M → List ℕ → List ℕ) → M
+abbrev pub answers_to_lines : {M : Type 0} → (M → List ℕ → M) → (M → List ℕ → List ℕ) → M
     → List (List ℕ) → List ℕ
-replies_to after_line reply_to machine [] = []
-replies_to after_line reply_to machine (line ∷ lines) =
-    reply_to machine line ++ replies_to after_line reply_to (after_line machine line) lines
+answers_to_lines after_line answer_to machine [] = []
+answers_to_lines after_line answer_to machine (line ∷ lines) =
+    answer_to machine line ++ answers_to_lines after_line answer_to (after_line machine line) lines
 
 -- all that it says where the input is these bytes and ends: before the first line, and to each line
 abbrev pub said_to_all : {M : Type 0} → (M → List ℕ) → (M → List ℕ → M)
     → (M → List ℕ → List ℕ) → M → List ℕ → List ℕ
-said_to_all opening after_line reply_to machine bytes =
-    opening machine ++ replies_to after_line reply_to machine (all_lines bytes)
+said_to_all opening after_line answer_to machine bytes =
+    opening machine ++ answers_to_lines after_line answer_to machine (all_lines bytes)

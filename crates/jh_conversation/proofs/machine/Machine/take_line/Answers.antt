@@ -3,7 +3,7 @@ use Rattle.jh_test_parts.specs.LineMeanings.{line_meaning_by}
 use Rattle.jh_conversation.specs.Sound.{IsSoundMachine}
 use Rattle.jh_conversation.proofs.KeptLemmas.{kept_take_in}
 use Rattle.jh_conversation.proofs.SoundLemmas.{sound_by_line}
-use Rattle.jh_conversation.proofs.machine.Machine.reply.Goals as goal
+use Rattle.jh_conversation.proofs.machine.Machine.take_line.Goals as goal
 
 pub turn-requires : goal.turn-requires
 turn-requires c =
