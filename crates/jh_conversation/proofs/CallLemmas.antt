@@ -103,7 +103,7 @@ main_by_line t n = record {
   clocks = λ m time h. h;
   stops = λ m h. (more_stops 1 m (stops_by m.phase) (omega arith) h.0, h.1);
   refuses = λ m why h. (more_stops 1 m 2 (omega arith) h.0, h.1);
-  answers = λ m w op e h. h;
+  step_ends = λ m w op e h. h;
   finishes = λ m thread c op e no fits h. h;
 }
 
@@ -128,7 +128,7 @@ given_by_line t n = record {
   clocks = λ m time h. h;
   stops = λ m h. (more_stops 2 m (stops_by m.phase) (omega arith) h.0, h.1);
   refuses = λ m why h. (more_stops 2 m 2 (omega arith) h.0, h.1);
-  answers = λ m w op e h. h;
+  step_ends = λ m w op e h. h;
   finishes = λ m thread c op e no fits h. h;
 }
 
@@ -139,7 +139,7 @@ same_calls t n = record {
   clocks = λ m time h. h;
   stops = λ m h. h;
   refuses = λ m why h. h;
-  answers = λ m w op e h. h;
+  step_ends = λ m w op e h. h;
   finishes = λ m thread c op e no fits h. h;
 }
 
@@ -237,7 +237,7 @@ timely_by_line t = record {
   clocks = λ m time h. h;
   stops = λ m h. h;
   refuses = λ m why h. h;
-  answers = λ m w op e h. h;
+  step_ends = λ m w op e h. h;
   finishes = λ m thread c op e no fits h. h;
 }
 

@@ -296,7 +296,7 @@ node_by_line t start a n = record {
   clocks = λ m time h. h;
   stops = λ m h. h;
   refuses = λ m why h. h;
-  answers = λ m w op e h. h;
+  step_ends = λ m w op e h. h;
   finishes = λ m thread c op e no fits h. h;
 }
 
@@ -323,7 +323,7 @@ link_by_line t start a b l = record {
   clocks = λ m time h. h;
   stops = λ m h. h;
   refuses = λ m why h. h;
-  answers = λ m w op e h. h;
+  step_ends = λ m w op e h. h;
   finishes = λ m thread c op e no fits h. h;
 }
 

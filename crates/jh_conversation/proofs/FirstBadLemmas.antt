@@ -8,13 +8,13 @@ use Rattle.jh_nemesis.specs.State.{first_state}
 use Rattle.jh_ops.specs.Operation.{Operation}
 use Rattle.jh_ops.specs.declared.operation.Process.{Process}
 use Rattle.jh_ops.specs.Requests.{request_name}
-use Rattle.jh_conversation.specs.Laws.{Drivers, complaint_of, complaint_of_answer}
+use Rattle.jh_conversation.specs.Laws.{Drivers, complaint_of, complaint_of_step_end}
 use Rattle.jh_conversation.specs.Laws.{complaint_of_completion, complaint_of_end}
 use Rattle.jh_conversation.specs.Laws.{complaint_of_operation, first_bad, first_bad_or, run, start}
 use Rattle.jh_ops.specs.Pairing.{is_invoke}
 use Rattle.jh_test_parts.specs.LineMeanings.{MeaningValue, Nothing, Clock, Stop, Op, Bad}
-use Rattle.jh_conversation.specs.Lines.{answer_step, answers_step, at_first, at_time, finish, first}
-use Rattle.jh_conversation.specs.Lines.{is_test_over, listen, refuse, take_line, take_answer}
+use Rattle.jh_conversation.specs.Lines.{end_step, ends_step, at_first, at_time, finish, first}
+use Rattle.jh_conversation.specs.Lines.{is_test_over, listen, refuse, take_line, take_step_end}
 use Rattle.jh_conversation.specs.Lines.{take_completion, take_end, take_in, take_operation}
 use Rattle.jh_test_parts.specs.LineMeanings.{line_meaning}
 use Rattle.jh_test_parts.specs.Values.{fits_call}
@@ -64,7 +64,7 @@ bad_by_line t found = record {
   clocks = λ m time h. h;
   stops = λ m h. h;
   refuses = λ m why h. ap (λ b. first b (m.read, why)) h;
-  answers = λ m w op e h. h;
+  step_ends = λ m w op e h. h;
   finishes = λ m thread c op e no fits h. h;
 }
 
@@ -80,11 +80,11 @@ timed : (m : Machine) (time : Option ℕ) → m.bad ≡ None → FindsBad None m
 timed m None none = (none, refl)
 timed m (Some time) none = (none, refl)
 
-finds_answer : (m : Machine) (op : Operation) (time : Option ℕ) → m.bad ≡ None → (w : Option OpenStep)
-    → FindsBad (bad_of (complaint_of_answer w op) m.read) m.read (take_answer op time m w)
-finds_answer m op time none None = refused m complaint.NoStepOpen none
-finds_answer m op time none (Some w) =
-    elim (answers_step w op) as (λ b. FindsBad (bad_of (if b then None else Some complaint.OtherStep) m.read) m.read (if b then answer_step w op (at_time time m) else refuse complaint.OtherStep m)) [
+finds_step_end : (m : Machine) (op : Operation) (time : Option ℕ) → m.bad ≡ None → (w : Option OpenStep)
+    → FindsBad (bad_of (complaint_of_step_end w op) m.read) m.read (take_step_end op time m w)
+finds_step_end m op time none None = refused m complaint.NoStepOpen none
+finds_step_end m op time none (Some w) =
+    elim (ends_step w op) as (λ b. FindsBad (bad_of (if b then None else Some complaint.OtherStep) m.read) m.read (if b then end_step w op (at_time time m) else refuse complaint.OtherStep m)) [
       | true ↦ timed m time none
       | false ↦ refused m complaint.OtherStep none
     ]
@@ -119,7 +119,7 @@ finds_take t m (Bad why) none = refused m why none
 finds_take t m (Op op time) none = go op.process
   where
     go : (p : Process) → FindsBad (bad_of (complaint_of_operation t m op p) m.read) m.read (take_operation t op time p m)
-    go Process.Nemesis = finds_answer m op time none m.step
+    go Process.Nemesis = finds_step_end m op time none m.step
     go (Process.Client process) = finds_completion t m process op time none (caller_of m (thread_of_process t process)).call
 
 -- a complaint is the same behind a listening

@@ -207,7 +207,7 @@ holds_by_line s = record {
   clocks = λ m time h. h;
   stops = λ m h. h;
   refuses = λ m why h. h;
-  answers = λ m w op e h. (record { wide = h.0.wide; low = h.0.low; stands = h.0.stands; later = h.0.later; formed = h.0.formed }, h.1);
+  step_ends = λ m w op e h. (record { wide = h.0.wide; low = h.0.low; stands = h.0.stands; later = h.0.later; formed = h.0.formed }, h.1);
   finishes = λ m thread call op is no fits h.
       let within : thread < s.clients = let k = in_callers m.callers thread call is in omega (arith, h.0.wide) in (
         callers_next s s.clients m.callers m.crashed (m.crashed + more_crashes op.kind) m.history

@@ -18,8 +18,8 @@ use Rattle.jh_ops.specs.Requests.{request_name}
 use Rattle.jh_test_parts.specs.LineMeanings.{MeaningValue, Nothing, Clock, Stop, Op, Bad}
 use Rattle.jh_lines.specs.Answering.{after_lines}
 use Rattle.jh_nemesis.specs.State.{first_state}
-use Rattle.jh_conversation.specs.Lines.{answer_step, answers_step, at_first, at_time, finish}
-use Rattle.jh_conversation.specs.Lines.{is_test_over, listen, refuse, take_line, stop, take_answer}
+use Rattle.jh_conversation.specs.Lines.{end_step, ends_step, at_first, at_time, finish}
+use Rattle.jh_conversation.specs.Lines.{is_test_over, listen, refuse, take_line, stop, take_step_end}
 use Rattle.jh_conversation.specs.Lines.{take_completion, take_end, take_in, take_operation}
 use Rattle.jh_test_parts.specs.LineMeanings.{line_meaning}
 use Rattle.jh_test_parts.specs.Values.{fits_call}
@@ -27,7 +27,7 @@ use Rattle.jh_test_parts.specs.Test.{thread_of_process}
 use Rattle.jh_conversation.specs.Machine.{Machine, has_no_call, caller_process, caller_of}
 use Rattle.jh_conversation.specs.Laws.{Drivers, start, run}
 use Rattle.jh_test_parts.specs.Test.{TestValue}
-use Rattle.jh_conversation.specs.Turn.{after_rest, answer_to, ask, begin, begin_due, calls}
+use Rattle.jh_conversation.specs.Turn.{after_rest, driver_answer, ask, begin, begin_due, calls}
 use Rattle.jh_conversation.specs.Turn.{calls_ended, due_in_phase, end, final, go_on, has_healed}
 use Rattle.jh_conversation.specs.Turn.{has_recovered, heal, invoke, may_call, move, move_from}
 use Rattle.jh_conversation.specs.Turn.{passes, rest, round, rounds, step, after_answer, turn, visit, visits}
@@ -54,7 +54,7 @@ pub by_answers : (t : TestValue) (P : Machine → Type 0) → IsKeptByAnswers t 
 by_answers t P k = record {
   visits = λ m thread within idle may h.
       let word = pcg64 m.random_numbers in
-      let answer = answer_to m.driver thread word.0 in
+      let answer = driver_answer m.driver thread word.0 in
       go (record m { driver = answer.1; random_numbers = word.1 }) thread answer.0 within idle may (k.asks m answer.1 word.1 h);
 }
   where
@@ -80,7 +80,7 @@ pub record IsKeptByLine (t : TestValue) (P : Machine → Type 0) : Type 0 where
   pub clocks : (m : Machine) (time : ℕ) → P m → P (at_time (Some time) m)
   pub stops : (m : Machine) → P m → P (stop m)
   pub refuses : (m : Machine) (why : Complaint) → P m → P (refuse why m)
-  pub answers : (m : Machine) (open_step : OpenStep) (op : Operation) → m.step ≡ Some open_step → P m → P (answer_step open_step op m)
+  pub step_ends : (m : Machine) (open_step : OpenStep) (op : Operation) → m.step ≡ Some open_step → P m → P (end_step open_step op m)
   pub finishes : (m : Machine) (thread : ℕ) (open_call : ValuedCall) (op : Operation) → (caller_of m thread).call ≡ Some open_call → is_invoke op.kind ≡ false → fits_call t open_call op.kind op.value ≡ true → P m → P (finish t thread open_call.request op m)
 
 -- P holds where there is a machine
@@ -173,11 +173,11 @@ module _ (t : TestValue) (P : Machine → Type 0) (l : IsKeptByLine t P) where
   same_call m None thread = refl
   same_call m (Some time) thread = refl
 
-  kept_answer : (m : Machine) (op : Operation) (time : Option ℕ) (w : Option OpenStep) → m.step ≡ w → P m → P (take_answer op time m w)
-  kept_answer m op time None e h = l.refuses m _ h
-  kept_answer m op time (Some w) e h =
-      cond_both (answers_step w op) (answer_step w op (at_time time m)) (refuse complaint.OtherStep m) P
-      (λ _. l.answers (at_time time m) w op (same_step m time ∙ e) (kept_time m time h))
+  kept_step_end : (m : Machine) (op : Operation) (time : Option ℕ) (w : Option OpenStep) → m.step ≡ w → P m → P (take_step_end op time m w)
+  kept_step_end m op time None e h = l.refuses m _ h
+  kept_step_end m op time (Some w) e h =
+      cond_both (ends_step w op) (end_step w op (at_time time m)) (refuse complaint.OtherStep m) P
+      (λ _. l.step_ends (at_time time m) w op (same_step m time ∙ e) (kept_time m time h))
       (λ _. l.refuses m _ h)
 
   or_parts_false : (a b : Bool) → (a || b) ≡ false → a ≡ false
@@ -208,7 +208,7 @@ module _ (t : TestValue) (P : Machine → Type 0) (l : IsKeptByLine t P) where
   kept_take_in m (Op op time) h = go op.process
     where
       go : (p : Process) → P (take_operation t op time p m)
-      go Process.Nemesis = kept_answer m op time m.step refl h
+      go Process.Nemesis = kept_step_end m op time m.step refl h
       go (Process.Client process) = kept_completion m process op time (caller_of m (thread_of_process t process)).call refl h
 
 module _ (t : TestValue) (P : Machine → Type 0) (k : IsKeptInTurn t P) (l : IsKeptByLine t P) where

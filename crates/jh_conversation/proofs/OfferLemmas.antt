@@ -21,7 +21,7 @@ use Rattle.jh_conversation.specs.Lines.{ended_as}
 use Rattle.jh_conversation.specs.Machine.{Machine, caller_of}
 use Rattle.jh_conversation.specs.Offered.{AreAllOffers, AreCallsOf, AreFinalCalls, AreOffers, CallsAreOffers}
 use Rattle.jh_conversation.specs.Offered.{MainCallsAreOffers, given_calls}
-use Rattle.jh_conversation.specs.Turn.{answer_to, may_call_in, after_answer}
+use Rattle.jh_conversation.specs.Turn.{driver_answer, may_call_in, after_answer}
 use Rattle.jh_conversation.specs.declared.phase.Phase.{Phase}
 use Rattle.jh_conversation.specs.declared.phase.Phase.TheVariants.{Main, Heal, Rest, Final, Over}
 use Rattle.jh_conversation.proofs.KeptLemmas.{IsKeptByLine, IsKeptInTurn, kept_run}
@@ -91,7 +91,7 @@ module _ (asked_answers : AskedAnswers) (end_keeps : EndKeepsGenerator) (t : Tes
   answered d g calls n w is s (Call p (call.Step place)) e a = (a.4.clients ∙ is, spent_source false d e g calls s)
 
   source_after : (d : DriverState) (g : Generator) (calls : List (ℕ × Request)) (n w : ℕ) → d.clients ≡ t.clients → n < t.clients → Source false d g calls
-      → SourceAfter g calls n (answer_to d n w).0 (answer_to d n w).1
+      → SourceAfter g calls n (driver_answer d n w).0 (driver_answer d n w).1
   source_after d g calls n w is within s =
       cond_both (nat_le max_calls d.given) (Done, d) (asked d (thread.Client n) w) (λ a. SourceAfter g calls n a.0 a.1)
       (λ _. (is, spent_source false d d g calls s))
@@ -125,13 +125,13 @@ module _ (asked_answers : AskedAnswers) (end_keeps : EndKeepsGenerator) (t : Tes
   final_after d last calls n f (Call p (call.Step place)) e s = (s.0, with_source false true d e calls f s.1)
 
   part_after : (phase : Phase) (stops given now : ℕ) (d : DriverState) (last : Option DriverState) (calls : List (ℕ × Request)) (n w : ℕ) → may_call_in phase t stops given now ≡ true
-      → d.clients ≡ t.clients → n < t.clients → Part phase false d last calls → PartAfter phase last calls n (answer_to d n w).0 (answer_to d n w).1
+      → d.clients ≡ t.clients → n < t.clients → Part phase false d last calls → PartAfter phase last calls n (driver_answer d n w).0 (driver_answer d n w).1
   part_after Main stops given now d last calls n w may is within h =
-      main_after last calls n h.1 (answer_to d n w).0 (answer_to d n w).1 (source_after d (clients (limit t.ops t.generator)) calls n w is within h.0)
+      main_after last calls n h.1 (driver_answer d n w).0 (driver_answer d n w).1 (source_after d (clients (limit t.ops t.generator)) calls n w is within h.0)
   part_after Heal stops given now d last calls n w may is within h = absurd (false≢true may)
   part_after Rest stops given now d last calls n w may is within h = absurd (false≢true may)
   part_after Final stops given now d last calls n w may is within h =
-      final_after d last calls n h (answer_to d n w).0 (answer_to d n w).1 (source_after d (clients (limit t.ops h.g)) h.last n w is within h.source)
+      final_after d last calls n h (driver_answer d n w).0 (driver_answer d n w).1 (source_after d (clients (limit t.ops h.g)) h.last n w is within h.source)
   part_after Over stops given now d last calls n w may is within h = absurd (false≢true may)
 
   answer_offers : (m : Machine) (n : ℕ) → n < t.clients → m.has_spent ≡ false → (answer : GenAnswer) → PartAfter m.phase m.last (given_calls t m.history) n answer m.driver → Offered (after_answer t n answer m)
@@ -193,7 +193,7 @@ module _ (asked_answers : AskedAnswers) (end_keeps : EndKeepsGenerator) (t : Tes
     calls = record {
       visits = λ m n within idle may h.
           let word = pcg64 m.random_numbers in
-          let answer = answer_to m.driver n word.0 in
+          let answer = driver_answer m.driver n word.0 in
           let both = and_parts (not m.has_spent) (may_call_in m.phase t m.stops m.given m.clock) may in
           let unspent : m.has_spent ≡ false = not-true m.has_spent both.0 in
           answer_offers (record m { driver = answer.1; random_numbers = word.1 }) n within unspent answer.0
@@ -216,7 +216,7 @@ module _ (asked_answers : AskedAnswers) (end_keeps : EndKeepsGenerator) (t : Tes
     clocks = λ m time h. h;
     stops = λ m h. h;
     refuses = λ m why h. h;
-    answers = λ m w op e h. h;
+    step_ends = λ m w op e h. h;
     finishes = λ m n c op e no fits h. (h.0, part_ended m.phase m.has_spent m.driver (thread.Client n) (ended_as op.kind) m.last (given_calls t m.history) h.1);
   }
 

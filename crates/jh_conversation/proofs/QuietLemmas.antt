@@ -44,7 +44,7 @@ quiet_by_line t = record {
   clocks = λ m time h. h;
   stops = λ m h. h;
   refuses = λ m why h. h;
-  answers = λ m w op e h. h;
+  step_ends = λ m w op e h. h;
   finishes = λ m thread c op e no fits h. h;
 }
 

@@ -39,7 +39,7 @@ use Rattle.jh_conversation.specs.Sound.{AreGivenByDrivers, AreGroups, HasSmallCo
 use Rattle.jh_conversation.specs.Sound.{IsFreshIfThere, IsSmallStep, IsSoundMachine, IsTied}
 use Rattle.jh_conversation.specs.Sound.{earlier_calls, is_busy_for, is_idle, open_calls}
 use Rattle.jh_test_parts.specs.Test.{IsFitTest, TestValue}
-use Rattle.jh_conversation.specs.Turn.{answer_to, call_made, calls_ended, counts_after}
+use Rattle.jh_conversation.specs.Turn.{driver_answer, call_made, calls_ended, counts_after}
 use Rattle.jh_conversation.specs.Turn.{due_in_phase, group_of, has_come_to, if_due, invoke}
 use Rattle.jh_conversation.specs.Turn.{may_call, after_answer}
 use Rattle.jh_test_parts.specs.declared.calls.ValuedCall.{ValuedCall}
@@ -61,7 +61,7 @@ HasAsked d n (Call p c, e) = (e.clients ≡ d.clients) × (e.given ≡ d.given +
 HasAsked d n (Pending, e) = e ≡ d
 HasAsked d n (Done, e) = e ≡ d
 
-pub has_asked : (d : DriverState) (n random_number : ℕ) → HasAsked d n (answer_to d n random_number)
+pub has_asked : (d : DriverState) (n random_number : ℕ) → HasAsked d n (driver_answer d n random_number)
 has_asked d n random_number = cond_both (nat_le max_calls d.given) (Done, d) (asked d (thread.Client n) random_number) (HasAsked d n) (λ _. refl) may
   where
     may : nat_le max_calls d.given ≡ false → HasAsked d n (asked d (thread.Client n) random_number)
@@ -330,7 +330,7 @@ module _ (t : TestValue) (fit : IsFitTest t) (m : Machine) (n : ℕ) (random_num
         record {
           time = h.7.time;
           entries = (let a = h.7.entries in omega (arith, a));
-          answer = h.7.answer;
+          open_step = h.7.open_step;
           records = ((h.7.time, (let p = small_process t m n fit (small_counts t m h) within in omega (arith, p))), h.7.records);
         },
       )
@@ -348,7 +348,7 @@ pub sound_by_calls : (t : TestValue) → IsFitTest t → IsKeptByCalls t (IsSoun
 sound_by_calls t fit = record {
   visits = λ m n within none may h.
       let word = pcg64 m.random_numbers in
-      sound_answer t fit m n word.1 within (idle_is m.callers n none) may h (answer_to m.driver n word.0) (has_asked m.driver n word.0);
+      sound_answer t fit m n word.1 within (idle_is m.callers n none) may h (driver_answer m.driver n word.0) (has_asked m.driver n word.0);
 }
 
 -- A turn.
@@ -399,7 +399,7 @@ sound_in_turn t fit = record {
         record {
           time = h.7.time;
           entries = (let a = h.7.entries in omega (arith, a));
-          answer = ((omega (arith, few)), small_code (answer_of m.nemesis due.step));
+          open_step = ((omega (arith, few)), small_code (answer_of m.nemesis due.step));
           records = ((h.7.time, omega (arith, few), fits.1), h.7.records);
         },
       );
@@ -430,11 +430,11 @@ sound_in_turn t fit = record {
 pub sound_by_line : (t : TestValue) → IsFitTest t → IsKeptByLine t (IsSoundMachine t)
 sound_by_line t fit = record {
   listens = λ m h. h;
-  clocks = λ m time h. (h.0, h.1, h.2, h.3, h.4, h.5, h.6, record { time = omega arith; entries = h.7.entries; answer = h.7.answer; records = h.7.records });
+  clocks = λ m time h. (h.0, h.1, h.2, h.3, h.4, h.5, h.6, record { time = omega arith; entries = h.7.entries; open_step = h.7.open_step; records = h.7.records });
   stops = λ m h. h;
   refuses = λ m why h. h;
-  answers = λ m step op is h.
-      let small : (step.entry < 2 ^ 63) × (step.code < 2 ^ 63) = subst IsSmallStep is h.7.answer in (
+  step_ends = λ m step op is h.
+      let small : (step.entry < 2 ^ 63) × (step.code < 2 ^ 63) = subst IsSmallStep is h.7.open_step in (
         h.0,
         h.1,
         h.2,
@@ -445,7 +445,7 @@ sound_by_line t fit = record {
         record {
           time = h.7.time;
           entries = (let a = h.7.entries in omega (arith, a));
-          answer = tt;
+          open_step = tt;
           records = ((h.7.time, small.0, small.1), h.7.records);
         },
       );
@@ -469,7 +469,7 @@ sound_by_line t fit = record {
         record {
           time = h.7.time;
           entries = (let a = h.7.entries in omega (arith, a));
-          answer = h.7.answer;
+          open_step = h.7.open_step;
           records = ((h.7.time, (let p = small_process t m n fit (small_counts t m h) within in omega (arith, p))), h.7.records);
         },
       );
@@ -503,7 +503,7 @@ sound_at_first t d =
       (λ b. absurd b),
       fresh_if_there t t.final d.last d.is_last,
       (refl, refl),
-      record { time = omega arith; entries = omega arith; answer = tt; records = tt },
+      record { time = omega arith; entries = omega arith; open_step = tt; records = tt },
     )
   where
     none_given : (n k : ℕ) → slice_index_or (replicate n 0) k 0 ≤ 0

@@ -12,12 +12,12 @@ use Rattle.jh_ops.specs.Operation.{Operation}
 use Rattle.jh_ops.specs.declared.operation.Process.{Process}
 use Rattle.jh_ops.specs.Requests.{request_name}
 use Rattle.jh_conversation.specs.Conversations.{ConversationIsRun, ConversationValue, conversation_after}
-use Rattle.jh_conversation.specs.Laws.{Drivers, answered_by, clock_at, ended_by, heard, heard_from}
+use Rattle.jh_conversation.specs.Laws.{Drivers, step_ended_by, clock_at, ended_by, heard, heard_from}
 use Rattle.jh_conversation.specs.Laws.{run, start, talk, talk_at, talk_from}
 use Rattle.jh_ops.specs.Pairing.{is_invoke}
 use Rattle.jh_test_parts.specs.LineMeanings.{MeaningValue, Nothing, Clock, Stop, Op, Bad}
-use Rattle.jh_conversation.specs.Lines.{answer_step, answers_step, at_first, at_time, clock_after}
-use Rattle.jh_conversation.specs.Lines.{finish, is_test_over, listen, refuse, take_line, take_answer}
+use Rattle.jh_conversation.specs.Lines.{end_step, ends_step, at_first, at_time, clock_after}
+use Rattle.jh_conversation.specs.Lines.{finish, is_test_over, listen, refuse, take_line, take_step_end}
 use Rattle.jh_conversation.specs.Lines.{take_completion, take_end, take_in, take_operation}
 use Rattle.jh_test_parts.specs.LineMeanings.{kept_pairs, line_meaning}
 use Rattle.jh_test_parts.specs.Values.{fits_call}
@@ -29,8 +29,8 @@ use Rattle.jh_conversation.specs.Turn.{call_made, turn}
 use Rattle.jh_test_parts.specs.Test.{node_of_thread}
 use Rattle.jh_test_parts.specs.declared.calls.ValuedCall.{ValuedCall}
 use Rattle.jh_conversation.specs.declared.callers.OpenStep.{OpenStep}
-use Rattle.jh_test_parts.specs.declared.records.Recorded.TheVariants.{Invoked, Ended, Begun}
-use Rattle.jh_test_parts.specs.declared.records.Recorded.TheVariants.{Answered}
+use Rattle.jh_test_parts.specs.declared.records.Recorded.TheVariants.{Invoked, Ended, StepBegun}
+use Rattle.jh_test_parts.specs.declared.records.Recorded.TheVariants.{StepEnded}
 use Rattle.jh_test_parts.specs.declared.records.Recorded.{Recorded}
 use Rattle.jh_test_parts.specs.declared.complaints.Complaint.TheVariants as complaint
 use Rattle.jh_conversation.proofs.KeptLemmas.{IsKeptInTurn, by_answers, kept_turn}
@@ -48,7 +48,7 @@ said_in_turn t before = record {
   });
   begins = λ m due w d h.
       let after = state_after m.nemesis due.step in
-      ap (λ l. Begun m.clock due.entry due.step (changed_cells m.nemesis.start (faults_in m.nemesis.active) (faults_in after.active)) ∷ l) h;
+      ap (λ l. StepBegun m.clock due.entry due.step (changed_cells m.nemesis.start (faults_in m.nemesis.active) (faults_in after.active)) ∷ l) h;
   heals = λ m is e h. h;
   rests = λ m is w q h. h;
   ends_rest = λ m is h. h;
@@ -60,19 +60,19 @@ said_in_turn t before = record {
 abbrev pub Hears : Machine → List Recorded → Machine → Type 0
 Hears m records next = (next.history ≡ records ++ m.history) × (next.said ≡ [])
 
-heard_answer : (m : Machine) (op : Operation) (time : Option ℕ) → m.said ≡ [] → (w : Option OpenStep)
-    → Hears m (answered_by w op (clock_at time m.clock)) (take_answer op time m w)
-heard_answer m op time none None = (refl, none)
-heard_answer m op time none (Some w) =
-    elim (answers_step w op) as (λ b. Hears m (if b then Answered (clock_at time m.clock) w.entry w.code (kept_pairs op) ∷ [] else [])
-    (if b then answer_step w op (at_time time m) else refuse complaint.OtherStep m)) [
-      | true ↦ answered time
+heard_step_end : (m : Machine) (op : Operation) (time : Option ℕ) → m.said ≡ [] → (w : Option OpenStep)
+    → Hears m (step_ended_by w op (clock_at time m.clock)) (take_step_end op time m w)
+heard_step_end m op time none None = (refl, none)
+heard_step_end m op time none (Some w) =
+    elim (ends_step w op) as (λ b. Hears m (if b then StepEnded (clock_at time m.clock) w.entry w.code (kept_pairs op) ∷ [] else [])
+    (if b then end_step w op (at_time time m) else refuse complaint.OtherStep m)) [
+      | true ↦ ended time
       | false ↦ (refl, none)
     ]
   where
-    answered : (time : Option ℕ) → Hears m (Answered (clock_at time m.clock) w.entry w.code (kept_pairs op) ∷ []) (answer_step w op (at_time time m))
-    answered None = (refl, none)
-    answered (Some time) = (refl, none)
+    ended : (time : Option ℕ) → Hears m (StepEnded (clock_at time m.clock) w.entry w.code (kept_pairs op) ∷ []) (end_step w op (at_time time m))
+    ended None = (refl, none)
+    ended (Some time) = (refl, none)
 
 heard_finish : (t : TestValue) (m : Machine) (process : ℕ) (op : Operation) (time : Option ℕ) (c : ValuedCall) → m.said ≡ [] → caller_process t m (thread_of_process t process) ≡ process
     → Hears m (Ended (clock_at time m.clock) process op.kind c.request op.value (kept_pairs op) ∷ []) (finish t (thread_of_process t process) c.request op (at_time time m))
@@ -114,7 +114,7 @@ hears t m (Bad why) none = (refl, none)
 hears t m (Op op time) none = go op.process
   where
     go : (p : Process) → Hears m (heard_from t m op (clock_at time m.clock) p) (take_operation t op time p m)
-    go Process.Nemesis = heard_answer m op time none m.step
+    go Process.Nemesis = heard_step_end m op time none m.step
     go (Process.Client process) = heard_completion t m process op time none (caller_of m (thread_of_process t process)).call
 
 talked : (t : TestValue) (d : Drivers t) (m : Machine) (line : List ℕ) → (take_line t m line).history ≡ talk_at t m line ++ m.history

@@ -31,7 +31,7 @@ time_by_line t = record {
   clocks = λ m time h. (omega arith, later m.clock (clock_after m.clock time) m.history (omega (arith, h.0)) h.1);
   stops = λ m h. h;
   refuses = λ m why h. h;
-  answers = λ m w op e h. (h.0, (omega arith, h.1));
+  step_ends = λ m w op e h. (h.0, (omega arith, h.1));
   finishes = λ m thread c op e no fits h. (h.0, (omega arith, h.1));
 }
 

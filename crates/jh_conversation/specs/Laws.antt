@@ -17,7 +17,7 @@ use Rattle.jh_ops.specs.declared.operation.Process.{Process}
 use Rattle.jh_ops.specs.Pairing.{is_invoke}
 use Rattle.jh_ops.specs.Requests.{request_name}
 use Rattle.jh_test_parts.specs.LineMeanings.{MeaningValue, Op, Bad}
-use Rattle.jh_conversation.specs.Lines.{answers_step, at_first, clock_after, is_test_over}
+use Rattle.jh_conversation.specs.Lines.{ends_step, at_first, clock_after, is_test_over}
 use Rattle.jh_test_parts.specs.LineMeanings.{kept_pairs, line_meaning}
 use Rattle.jh_conversation.specs.Lines.{listen, take_line, take_in}
 use Rattle.jh_test_parts.specs.Values.{fits_call}
@@ -34,8 +34,8 @@ use Rattle.jh_conversation.specs.declared.phase.Phase.TheVariants.{Main, Heal, R
 use Rattle.jh_test_parts.specs.declared.records.ChangedLink.{ChangedLink}
 use Rattle.jh_test_parts.specs.declared.records.ChangedNode.{ChangedNode}
 use Rattle.jh_test_parts.specs.declared.records.Recorded.{Recorded}
-use Rattle.jh_test_parts.specs.declared.records.Recorded.TheVariants.{Invoked, Ended, Begun}
-use Rattle.jh_test_parts.specs.declared.records.Recorded.TheVariants.{Answered}
+use Rattle.jh_test_parts.specs.declared.records.Recorded.TheVariants.{Invoked, Ended, StepBegun}
+use Rattle.jh_test_parts.specs.declared.records.Recorded.TheVariants.{StepEnded}
 
 -- a driver of the test before its first call, of this generator
 abbrev pub IsDriverAtFirst : TestValue → Generator → DriverState → Type 0
@@ -75,11 +75,11 @@ is_end_of_call t m process call op =
     && (not (is_invoke op.kind)
     && (is_keyword (request_name call.request) op.f && fits_call t call op.kind op.value))
 
--- the record of an answer of the nemesis, if it is one to the step that is open
-abbrev pub answered_by : Option OpenStep → Operation → ℕ → List Recorded
-answered_by None op now = []
-answered_by (Some step) op now =
-    if answers_step step op then Answered now step.entry step.code (kept_pairs op) ∷ [] else []
+-- the record of the end of the step that is open, if it is one
+abbrev pub step_ended_by : Option OpenStep → Operation → ℕ → List Recorded
+step_ended_by None op now = []
+step_ended_by (Some step) op now =
+    if ends_step step op then StepEnded now step.entry step.code (kept_pairs op) ∷ [] else []
 
 -- the record of a completion, if it is one
 abbrev pub ended_by : TestValue → Machine → ℕ → Option ValuedCall → Operation → ℕ → List Recorded
@@ -89,7 +89,7 @@ ended_by t m process (Some call) op now =
     then Ended now process op.kind call.request op.value (kept_pairs op) ∷ [] else []
 
 abbrev pub heard_from : TestValue → Machine → Operation → ℕ → Process → List Recorded
-heard_from t m op now Process.Nemesis = answered_by m.step op now
+heard_from t m op now Process.Nemesis = step_ended_by m.step op now
 heard_from t m op now (Process.Client process) =
     ended_by t m process (caller_of m (thread_of_process t process)).call op now
 
@@ -114,15 +114,15 @@ abbrev pub HistoryIsTalk : Type 0
 HistoryIsTalk =
     (t : TestValue) (d : Drivers t) (lines : List (List ℕ)) → (run t d lines).history ≡ talk t d lines
 
--- What is said are calls and steps, what is heard completions and answers.
+-- What is said are calls and steps, what is heard the ends of calls and of steps.
 abbrev pub IsSaid : Recorded → Type 0
 IsSaid (Invoked time process node call) = Unit {0}
-IsSaid (Begun time entry step cells) = Unit {0}
+IsSaid (StepBegun time entry step cells) = Unit {0}
 IsSaid _ = ⊥
 
 abbrev pub IsHeard : Recorded → Type 0
 IsHeard (Ended time process kind request value rest) = Unit {0}
-IsHeard (Answered time entry code rest) = Unit {0}
+IsHeard (StepEnded time entry code rest) = Unit {0}
 IsHeard _ = ⊥
 
 abbrev pub KindsAreApart : Type 0
@@ -135,8 +135,8 @@ KindsAreApart =
 abbrev pub time_of : Recorded → ℕ
 time_of (Invoked time process node call) = time
 time_of (Ended time process kind request value rest) = time
-time_of (Begun time entry step cells) = time
-time_of (Answered time entry code rest) = time
+time_of (StepBegun time entry step cells) = time
+time_of (StepEnded time entry code rest) = time
 
 abbrev pub AreTimesInOrder : ℕ → List Recorded → Type 0
 AreTimesInOrder now [] = Unit {0}
@@ -201,13 +201,13 @@ node_after_changes (one ∷ more) a n = node_after_changes more a (if one.node =
 -- what it is after all steps of a history, the newest record first
 abbrev pub link_after_steps : List Recorded → ℕ → ℕ → Link → Link
 link_after_steps [] a b l = l
-link_after_steps (Begun time entry step cells ∷ past) a b l =
+link_after_steps (StepBegun time entry step cells ∷ past) a b l =
     link_after_changes cells.links a b (link_after_steps past a b l)
 link_after_steps (_ ∷ past) a b l = link_after_steps past a b l
 
 abbrev pub node_after_steps : List Recorded → ℕ → NodeCell → NodeCell
 node_after_steps [] a n = n
-node_after_steps (Begun time entry step cells ∷ past) a n = node_after_changes cells.nodes a (node_after_steps past a n)
+node_after_steps (StepBegun time entry step cells ∷ past) a n = node_after_changes cells.nodes a (node_after_steps past a n)
 node_after_steps (_ ∷ past) a n = node_after_steps past a n
 
 -- at each moment the changes of all steps, applied to the start in order, are what the active faults
@@ -296,9 +296,9 @@ CallsAreTimely =
 
 -- The first line that is no reply is the one that is kept.
 
-abbrev pub complaint_of_answer : Option OpenStep → Operation → Option Complaint
-complaint_of_answer None op = Some complaint.NoStepOpen
-complaint_of_answer (Some step) op = if answers_step step op then None else Some complaint.OtherStep
+abbrev pub complaint_of_step_end : Option OpenStep → Operation → Option Complaint
+complaint_of_step_end None op = Some complaint.NoStepOpen
+complaint_of_step_end (Some step) op = if ends_step step op then None else Some complaint.OtherStep
 
 -- why the completion of a call that its process has open is none
 abbrev pub complaint_of_end : TestValue → ValuedCall → Operation → Option Complaint
@@ -315,7 +315,7 @@ complaint_of_completion t m process (Some call) op =
     else Some complaint.NoCallOpen
 
 abbrev pub complaint_of_operation : TestValue → Machine → Operation → Process → Option Complaint
-complaint_of_operation t m op Process.Nemesis = complaint_of_answer m.step op
+complaint_of_operation t m op Process.Nemesis = complaint_of_step_end m.step op
 complaint_of_operation t m op (Process.Client process) =
     complaint_of_completion t m process (caller_of m (thread_of_process t process)).call op
 

@@ -33,7 +33,7 @@ use Rattle.jh_test_parts.specs.declared.complaints.Complaint.{Complaint}
 use Rattle.jh_test_parts.specs.declared.complaints.Complaint.TheVariants as complaint
 use Rattle.jh_conversation.specs.declared.phase.Phase.{Phase}
 use Rattle.jh_conversation.specs.declared.phase.Phase.TheVariants.{Main, Over}
-use Rattle.jh_test_parts.specs.declared.records.Recorded.TheVariants.{Answered, Ended as EndedCall}
+use Rattle.jh_test_parts.specs.declared.records.Recorded.TheVariants.{StepEnded, Ended as EndedCall}
 
 abbrev pub is_end_phase : Phase → Bool
 is_end_phase Over = true
@@ -113,24 +113,24 @@ take_completion t process op time m (Some call) =
     then take_end t (thread_of_process t process) call op time m
     else refuse complaint.NoCallOpen m
 
--- Answers of the nemesis.
+-- The ends of steps.
 
-abbrev pub answers_step : OpenStep → Operation → Bool
-answers_step step op =
+abbrev pub ends_step : OpenStep → Operation → Bool
+ends_step step op =
     is_info op.kind && (is_keyword (codes "step") op.f && is_equal (int (pos step.entry)) op.value)
 
-abbrev pub answer_step : OpenStep → Operation → Machine → Machine
-answer_step step op m =
-    hear (Answered m.clock step.entry step.code (kept_pairs op)) (record m { step = None })
+abbrev pub end_step : OpenStep → Operation → Machine → Machine
+end_step step op m =
+    hear (StepEnded m.clock step.entry step.code (kept_pairs op)) (record m { step = None })
 
-abbrev pub take_answer : Operation → Option ℕ → Machine → Option OpenStep → Machine
-take_answer op time m None = refuse complaint.NoStepOpen m
-take_answer op time m (Some step) =
-    if answers_step step op then answer_step step op (at_time time m)
+abbrev pub take_step_end : Operation → Option ℕ → Machine → Option OpenStep → Machine
+take_step_end op time m None = refuse complaint.NoStepOpen m
+take_step_end op time m (Some step) =
+    if ends_step step op then end_step step op (at_time time m)
     else refuse complaint.OtherStep m
 
 abbrev pub take_operation : TestValue → Operation → Option ℕ → Process → Machine → Machine
-take_operation t op time Process.Nemesis m = take_answer op time m m.step
+take_operation t op time Process.Nemesis m = take_step_end op time m m.step
 take_operation t op time (Process.Client process) m =
     take_completion t process op time m (caller_of m (thread_of_process t process)).call
 

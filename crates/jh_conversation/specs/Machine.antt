@@ -31,7 +31,7 @@ pub record Machine : Type 0 where
   pub given : ℕ
   pub answered : ℕ
   pub crashed : ℕ
-  -- the nemesis, how many entries were taken, and the step that waits for its answer
+  -- the nemesis, how many entries were taken, and the step that is open: the adapter has not ended it
   pub nemesis : State
   pub taken : ℕ
   pub step : Option OpenStep

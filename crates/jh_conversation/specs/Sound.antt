@@ -81,7 +81,7 @@ AreGivenByDrivers phase given d = (given ≤ earlier_calls phase + d.given) × (
 pub record HasSmallNumbers (nodes clock taken : ℕ) (step : Option OpenStep) (history : List Recorded) : Type 0 where
   pub time : clock < 2 ^ 63
   pub entries : taken ≤ length history
-  pub answer : IsSmallStep step
+  pub open_step : IsSmallStep step
   pub records : AllByRecursion (IsWritableRecord nodes) history
 
 abbrev pub IsSoundMachine : TestValue → Machine → Type 0

@@ -36,7 +36,7 @@ use Rattle.jh_conversation.specs.declared.phase.Phase.{Phase}
 use Rattle.jh_conversation.specs.declared.phase.Phase.TheVariants.{Main, Heal, Rest, Final, Over}
 use Rattle.jh_test_parts.specs.declared.parts.When.{When}
 use Rattle.jh_test_parts.specs.declared.parts.When.TheVariants.{Calls, Milliseconds}
-use Rattle.jh_test_parts.specs.declared.records.Recorded.TheVariants.{Begun, Invoked}
+use Rattle.jh_test_parts.specs.declared.records.Recorded.TheVariants.{StepBegun, Invoked}
 
 -- How many nanoseconds a second has, and a millisecond.
 abbrev pub second : ℕ
@@ -96,13 +96,13 @@ due_in_phase Heal t m =
     else Some (record { entry = length t.schedule; step = WithdrawAll })
 due_in_phase _ t m = None
 
--- 1. The step that is due, where none waits for its answer.
+-- 1. The step that is due, where none is open.
 
 abbrev pub begin : Due → Machine → Machine
 begin due m =
     let after = state_after m.nemesis due.step in
     say
-    (Begun m.clock due.entry due.step
+    (StepBegun m.clock due.entry due.step
     (changed_cells m.nemesis.start (faults_in m.nemesis.active) (faults_in after.active)))
     (record m {
       nemesis = after;
@@ -180,14 +180,14 @@ after_answer t number (Call process (call.Client request)) m = invoke t number r
 after_answer t number (Call process (call.Step place)) m = record m { has_spent = true }
 
 -- a driver that has given all the calls that it may has no more
-abbrev pub answer_to : DriverState → ℕ → ℕ → GenAnswer × DriverState
-answer_to d number random_number =
+abbrev pub driver_answer : DriverState → ℕ → ℕ → GenAnswer × DriverState
+driver_answer d number random_number =
     if nat_le max_calls d.given then (Done, d) else asked d (thread.Client number) random_number
 
 abbrev pub ask : TestValue → ℕ → Machine → Machine
 ask t number m =
     let word = pcg64 m.random_numbers in
-    let answer = answer_to m.driver number word.0 in
+    let answer = driver_answer m.driver number word.0 in
     after_answer t number answer.0 (record m { driver = answer.1; random_numbers = word.1 })
 
 abbrev pub visit : TestValue → ℕ → Machine → Machine

@@ -1,5 +1,4 @@
-//! The threads of a test, and the step that waits for its answer. `specs/Machine.antt` says what is
-//! known of them.
+//! The threads of a test, and the step that is open. `specs/Machine.antt` says what is known of them.
 
 use jh_test_parts::ValuedCall;
 
@@ -10,7 +9,8 @@ pub struct Caller {
     pub call: Option<ValuedCall>,
 }
 
-/// A step that waits for its answer: the place of its entry, and the code of the nemesis' answer.
+/// A step that is open, since the adapter has not done it: the place of its entry, and the code of
+/// what the nemesis answered.
 #[derive(Clone, Copy, Debug, PartialEq, Eq)]
 pub struct OpenStep {
     pub entry: u64,

@@ -41,7 +41,7 @@ pub struct Machine {
     pub(crate) nemesis: Nemesis,
     /// How many entries of the schedule were taken.
     pub(crate) taken: usize,
-    /// The step that waits for its answer.
+    /// The step that is open: the adapter has not said that it is done.
     pub(crate) step: Option<OpenStep>,
     /// How often a stop was read, up to twice.
     pub(crate) stops: u64,

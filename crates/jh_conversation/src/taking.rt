@@ -46,10 +46,10 @@ fn ended_as(kind: Kind) -> Ended
     }
 }
 
-/// Whether an operation answers the step that waits for its answer.
-fn answers_step(alloc: Global, step: OpenStep, op: &Op) -> Result<bool, AllocError>
+/// Whether an operation ends the step that is open.
+fn ends_step(alloc: Global, step: OpenStep, op: &Op) -> Result<bool, AllocError>
     requires { step.entry < 2 ^ 63 }
-    ensures { IfOk result (λ yes. yes ≡ rule.answers_step step (operation op.now)) }
+    ensures { IfOk result (λ yes. yes ≡ rule.ends_step step (operation op.now)) }
 {
     if !op.kind.is(Kind::Info) || !op.f.is_keyword("step") {
         return Ok(false);
@@ -127,7 +127,14 @@ impl Machine {
             call: None,
         };
         let value = Datum::of(value);
-        self.hear(Recorded::Ended(self.clock, process, kind, request, value, rest))
+        self.hear(Recorded::Ended {
+            time: self.clock,
+            process,
+            kind,
+            request,
+            value,
+            rest,
+        })
     }
 
     /// The request whose call an operation of a process ends, or why it ends none.
@@ -207,8 +214,8 @@ impl Machine {
         self.take_ended(alloc, test, test.thread_of(process), ended, op, time)
     }
 
-    /// Takes the answer of the nemesis.
-    fn take_answer(
+    /// Takes the end of a step.
+    fn take_step_end(
         &mut self,
         alloc: Global,
         test: &Test,
@@ -218,13 +225,13 @@ impl Machine {
         requires sound { IsSoundMachine test.now self.old }
         requires silent { self.old.said ≡ [] }
         ensures { OnOk result
-            (self.new ≡ rule.take_answer (operation op) time self.old self.old.step) }
+            (self.new ≡ rule.take_step_end (operation op) time self.old self.old.step) }
     {
         let Some(step) = self.step else {
             self.refuse(Complaint::NoStepOpen);
             return Ok(());
         };
-        if !answers_step(alloc, step, &op)? {
+        if !ends_step(alloc, step, &op)? {
             self.refuse(Complaint::OtherStep);
             return Ok(());
         }
@@ -240,7 +247,12 @@ impl Machine {
             rest,
         } = op;
         let rest = kept_pairs(alloc, rest)?;
-        self.hear(Recorded::Answered(self.clock, step.entry, step.code, rest))
+        self.hear(Recorded::StepEnded {
+            time: self.clock,
+            entry: step.entry,
+            code: step.code,
+            rest,
+        })
     }
 
     /// Takes in what a line says.
@@ -264,7 +276,7 @@ impl Machine {
                 Ok(())
             }
             LineMeaning::Op(op, time) => match op.process {
-                Process::Nemesis => self.take_answer(alloc, test, op, time),
+                Process::Nemesis => self.take_step_end(alloc, test, op, time),
                 Process::Client(process) => self.take_completion(alloc, test, process, op, time),
             },
         }

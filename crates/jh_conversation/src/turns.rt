@@ -189,10 +189,15 @@ impl Machine {
         let (code, cells) = take_step(alloc, &mut self.nemesis, step)?;
         self.step = Some(OpenStep { entry, code });
         self.taken += 1;
-        self.say(Recorded::Begun(self.clock, entry, kept, cells))
+        self.say(Recorded::StepBegun {
+            time: self.clock,
+            entry,
+            step: kept,
+            cells,
+        })
     }
 
-    /// Takes the step that is due, where none waits for its answer.
+    /// Takes the step that is due, where none is open.
     fn step(&mut self, alloc: Global, test: &Test) -> Result<(), AllocError>
         requires { IsSoundMachine test.now self.old }
         ensures { OnOk result (self.new ≡ rule.step test.now self.old) }
@@ -306,7 +311,12 @@ impl Machine {
             call: Some(call),
         };
         let node = test.node_of(thread);
-        self.say(Recorded::Invoked(self.clock, process, node, kept))
+        self.say(Recorded::Invoked {
+            time: self.clock,
+            process,
+            node,
+            call: kept,
+        })
     }
 
     /// Lets a thread ask that has no call open.
@@ -385,7 +395,7 @@ impl Machine {
         Ok(())
     }
 
-    /// Whether *heal* is over: no step waits for its answer, and no fault is active.
+    /// Whether *heal* is over: no step is open, and no fault is active.
     fn has_healed(&self) -> bool
         ensures { result ≡ rule.has_healed self.now self.now.step }
     {

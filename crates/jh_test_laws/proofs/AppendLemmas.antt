@@ -23,7 +23,7 @@ use Rattle.jh_test_parts.specs.Test.{IsGoodShape, TestValue, thread_of_process}
 use Rattle.jh_test_parts.specs.Transactions.{TransactionSource}
 use Rattle.jh_test_parts.specs.declared.parts.KeyShares.{KeyShares}
 use Rattle.jh_test_parts.specs.declared.records.Recorded.{Recorded}
-use Rattle.jh_test_parts.specs.declared.records.Recorded.TheVariants.{Invoked, Ended, Begun, Answered}
+use Rattle.jh_test_parts.specs.declared.records.Recorded.TheVariants.{Invoked, Ended, StepBegun, StepEnded}
 use Rattle.jh_txn_histories.specs.Histories.{IsRepeatedAt, appends_of_pair, appends_of_pairs, asked_by}
 use Rattle.jh_txn_histories.specs.Written.{appends_of, has_repeat, is_same_append}
 use Rattle.jh_test_laws.specs.HistoryInside.{ops_asked}
@@ -88,8 +88,8 @@ shape_behind : (t : TestValue) (past : List Recorded) → (source_behind t past)
 shape_behind t [] = refl
 shape_behind t (Invoked time process node call ∷ past) = shape_after (source_behind t past) call.request ∙ shape_behind t past
 shape_behind t (Ended time process kind request value rest ∷ past) = shape_behind t past
-shape_behind t (Begun time entry step cells ∷ past) = shape_behind t past
-shape_behind t (Answered time entry code rest ∷ past) = shape_behind t past
+shape_behind t (StepBegun time entry step cells ∷ past) = shape_behind t past
+shape_behind t (StepEnded time entry code rest ∷ past) = shape_behind t past
 
 stands : (t : TestValue) → IsGoodShape t.transactions → (past : List Recorded) → invocations_in past ≤ most → Stands (source_behind t past) (appends_behind t past) (invocations_in past)
 stands t good [] few = (first_clean t.transactions t.seed (room 0) good (omega arith), refl)
@@ -97,8 +97,8 @@ stands t good (Invoked time process node call ∷ past) few =
     stands_more (source_behind t past) (appends_behind t past) (invocations_in past) call.request (subst IsGoodShape (sym (shape_behind t past)) good) few
     (stands t good past (omega (arith, few)))
 stands t good (Ended time process kind request value rest ∷ past) few = stands t good past few
-stands t good (Begun time entry step cells ∷ past) few = stands t good past few
-stands t good (Answered time entry code rest ∷ past) few = stands t good past few
+stands t good (StepBegun time entry step cells ∷ past) few = stands t good past few
+stands t good (StepEnded time entry code rest ∷ past) few = stands t good past few
 
 -- ---- what the operations of a history append
 
@@ -175,11 +175,11 @@ records_append t names none (Ended time process kind request value rest ∷ past
     appends_back op (newest names past)
     ∙ (ap (λ l. appends_in (reverse (newest names past)) ++ l) (no_appends kind process op (no_invocation t (status process past) kind request value f.0))
     ∙ (append-nil (appends_in (reverse (newest names past))) ∙ records_append t names none past f.1 a))
-records_append t names none (Begun time entry step cells ∷ past) f a =
-    appends_back (operation_of_record names (length past) (Begun time entry step cells)) (newest names past)
+records_append t names none (StepBegun time entry step cells ∷ past) f a =
+    appends_back (operation_of_record names (length past) (StepBegun time entry step cells)) (newest names past)
     ∙ (append-nil (appends_in (reverse (newest names past))) ∙ records_append t names none past f a)
-records_append t names none (Answered time entry code rest ∷ past) f a =
-    appends_back (operation_of_record names (length past) (Answered time entry code rest)) (newest names past)
+records_append t names none (StepEnded time entry code rest ∷ past) f a =
+    appends_back (operation_of_record names (length past) (StepEnded time entry code rest)) (newest names past)
     ∙ (append-nil (appends_in (reverse (newest names past))) ∙ records_append t names none past f a)
 
 -- ---- refusals

@@ -19,7 +19,7 @@ use Rattle.jh_test_parts.specs.Test.{TestValue, node_of_thread, thread_of_proces
 use Rattle.jh_test_parts.specs.declared.calls.ValuedCall.{ValuedCall}
 use Rattle.jh_test_parts.specs.declared.parts.KeyShares.{KeyShares}
 use Rattle.jh_test_parts.specs.declared.records.Recorded.{Recorded}
-use Rattle.jh_test_parts.specs.declared.records.Recorded.TheVariants.{Invoked, Ended, Begun, Answered}
+use Rattle.jh_test_parts.specs.declared.records.Recorded.TheVariants.{Invoked, Ended, StepBegun, StepEnded}
 use Rattle.jh_test_laws.specs.Asking.{AreAsked, CallsAsk, calls_of_group, source_behind, with_key_in_turn}
 
 -- the calls of each group are counted
@@ -80,8 +80,8 @@ no_call : (t : TestValue) (keys : Option KeyShares) (counts : List ℕ) (past : 
 no_call t None counts past r is h = tt
 no_call t (Some shares) counts past (Invoked time process node call) is h = absurd is
 no_call t (Some shares) counts past (Ended time process kind request value rest) is h = h
-no_call t (Some shares) counts past (Begun time entry step cells) is h = h
-no_call t (Some shares) counts past (Answered time entry code rest) is h = h
+no_call t (Some shares) counts past (StepBegun time entry step cells) is h = h
+no_call t (Some shares) counts past (StepEnded time entry code rest) is h = h
 
 stands_in_turn : (t : TestValue) → IsKeptInTurn t (Stands t)
 stands_in_turn t = record {
@@ -107,7 +107,7 @@ stands_in_turn t = record {
           );
         };
   });
-  begins = λ m due w d h. record { wide = h.wide; counts = no_call t t.keys m.calls_by_group m.history (Begun m.clock due.entry due.step _) tt h.counts; source = h.source; given = h.given; asked = h.asked };
+  begins = λ m due w d h. record { wide = h.wide; counts = no_call t t.keys m.calls_by_group m.history (StepBegun m.clock due.entry due.step _) tt h.counts; source = h.source; given = h.given; asked = h.asked };
   heals = λ m is e h. record { wide = h.wide; counts = h.counts; source = h.source; given = h.given; asked = h.asked };
   rests = λ m is w q h. record { wide = h.wide; counts = h.counts; source = h.source; given = h.given; asked = h.asked };
   ends_rest = λ m is h. record { wide = h.wide; counts = h.counts; source = h.source; given = h.given; asked = h.asked };
@@ -125,7 +125,7 @@ stands_by_line t = record {
   clocks = λ m time h. record { wide = h.wide; counts = h.counts; source = h.source; given = h.given; asked = h.asked };
   stops = λ m h. record { wide = h.wide; counts = h.counts; source = h.source; given = h.given; asked = h.asked };
   refuses = λ m why h. record { wide = h.wide; counts = h.counts; source = h.source; given = h.given; asked = h.asked };
-  answers = λ m w op e h. record { wide = h.wide; counts = no_call t t.keys m.calls_by_group m.history (Answered m.clock w.entry w.code _) tt h.counts; source = h.source; given = h.given; asked = h.asked };
+  step_ends = λ m w op e h. record { wide = h.wide; counts = no_call t t.keys m.calls_by_group m.history (StepEnded m.clock w.entry w.code _) tt h.counts; source = h.source; given = h.given; asked = h.asked };
   finishes = λ m thread call op is no fits h. record { wide = h.wide; counts = no_call t t.keys m.calls_by_group m.history (Ended m.clock (caller_process t m thread) op.kind call.request op.value _) tt h.counts; source = h.source; given = h.given; asked = h.asked };
 }
 

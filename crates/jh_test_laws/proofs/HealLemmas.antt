@@ -140,7 +140,7 @@ module _ (t : TestValue) (fit : IsFitTest t) where
     clocks = λ m time h. record { few = h.few; healed = h.healed };
     stops = λ m h. record { few = h.few; healed = h.healed };
     refuses = λ m why h. record { few = h.few; healed = h.healed };
-    answers = λ m w op e h. record { few = h.few; healed = h.healed };
+    step_ends = λ m w op e h. record { few = h.few; healed = h.healed };
     finishes = λ m thread call op is no fits h. record { few = h.few; healed = h.healed };
   }
 

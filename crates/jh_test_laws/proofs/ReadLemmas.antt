@@ -10,7 +10,7 @@ use Rattle.jh_ops.specs.Requests.{request_name}
 use Rattle.jh_ops.specs.declared.call.Request.{Request}
 use Rattle.jh_ops.specs.declared.call.Request.TheVariants.{Read, Write, Cas, Add, Generate, Txn}
 use Rattle.jh_ops.specs.declared.operation.Kind.{Kind}
-use Rattle.jh_test_parts.specs.Values.{is_good_answer, is_readable}
+use Rattle.jh_test_parts.specs.Values.{fits_request, is_readable}
 use Rattle.jh_txn_histories.specs.Written.{is_answered}
 use Rattle.jh_test_laws.specs.HistoryInside.{CompletesOk}
 
@@ -25,7 +25,7 @@ good_read checker f asked value Kind.Fail h is read = absurd cc
 good_read checker f asked value Kind.Info h is read = absurd cc
 good_read checker f asked value Kind.Ok (request, name, good) is read = by request name good
   where
-    by : (r : Request) → f ≡ keyword (request_name r) → is_good_answer checker r asked value ≡ true → is_readable checker value ≡ true
+    by : (r : Request) → f ≡ keyword (request_name r) → fits_request checker r asked value ≡ true → is_readable checker value ≡ true
     by Read name good = good
     by (Write v) name good = absurd (other_name (codes "read") f (codes "write") name read refl)
     by (Cas a b) name good = absurd (other_name (codes "read") f (codes "cas") name read refl)
@@ -40,7 +40,7 @@ good_transaction checker f asked value Kind.Fail h is read = absurd cc
 good_transaction checker f asked value Kind.Info h is read = absurd cc
 good_transaction checker f asked value Kind.Ok (request, name, good) is txn = by request name good
   where
-    by : (r : Request) → f ≡ keyword (request_name r) → is_good_answer checker r asked value ≡ true → is_answered asked value ≡ true
+    by : (r : Request) → f ≡ keyword (request_name r) → fits_request checker r asked value ≡ true → is_answered asked value ≡ true
     by Read name good = absurd (other_name (codes "txn") f (codes "read") name txn refl)
     by (Write v) name good = absurd (other_name (codes "txn") f (codes "write") name txn refl)
     by (Cas a b) name good = absurd (other_name (codes "txn") f (codes "cas") name txn refl)

@@ -21,11 +21,11 @@ use Rattle.jh_ops.specs.declared.operation.Kind.{Kind}
 use Rattle.jh_test_parts.specs.Records.{operation_of_record, recorded_operations}
 use Rattle.jh_test_parts.specs.Test.{TestValue, thread_of_process}
 use Rattle.jh_test_parts.specs.Transactions.{TransactionSource}
-use Rattle.jh_test_parts.specs.Values.{answers_with_key, fits_call, is_good_answer, is_good_value, list_or_none}
+use Rattle.jh_test_parts.specs.Values.{fits_with_key, fits_call, fits_request, is_good_value, list_or_none}
 use Rattle.jh_test_parts.specs.declared.calls.ValuedCall.{ValuedCall}
 use Rattle.jh_test_parts.specs.declared.parts.KeyShares.{KeyShares}
 use Rattle.jh_test_parts.specs.declared.records.Recorded.{Recorded}
-use Rattle.jh_test_parts.specs.declared.records.Recorded.TheVariants.{Invoked, Ended, Begun, Answered}
+use Rattle.jh_test_parts.specs.declared.records.Recorded.TheVariants.{Invoked, Ended, StepBegun, StepEnded}
 use Rattle.jh_txn_histories.specs.Written.{is_equal}
 use Rattle.jh_test_laws.specs.Asking.{AreAsked, calls_of_group, source_behind, with_key_in_turn}
 use Rattle.jh_test_laws.specs.HistoryInside.{AllFit, AllFitBehind, InvokesBy, Doing, CompletesBy, CompletesOk, FitsDoing, IsAskedValue, doing, doing_after, suits_call}
@@ -97,8 +97,8 @@ same_status t names p (Ended time process kind request value rest ∷ past) h =
     let op = operation_of_record names (length past) (Ended time process kind request value rest) in
     pick p process (after_end kind) (status p past) (doing_after kind op) (doing p (newest names past))
     (λ _. after_is kind op (no_invocation t (status process past) kind request value h.0)) (same_status t names p past h.1)
-same_status t names p (Begun time entry step cells ∷ past) h = same_status t names p past h
-same_status t names p (Answered time entry code rest ∷ past) h = same_status t names p past h
+same_status t names p (StepBegun time entry step cells ∷ past) h = same_status t names p past h
+same_status t names p (StepEnded time entry code rest ∷ past) h = same_status t names p past h
 
 -- ---- an invocation
 
@@ -162,18 +162,18 @@ calls_have_tuples t p (Ended time process kind request value rest ∷ past) h ca
     go : (process ≡ p) ⊎ (process ≡ p → ⊥) → (status p past ≡ Status.Busy call → HasTuple t.keys call.value) → HasTuple t.keys call.value
     go (inl is) earlier = absurd (not_busy kind (sym (ap (λ b. if b then after_end kind else status p past) (eq-eqb process p is)) ∙ e))
     go (inr ne) earlier = earlier (sym (ap (λ b. if b then after_end kind else status p past) (ne_eqb process p ne)) ∙ e)
-calls_have_tuples t p (Begun time entry step cells ∷ past) h call e = calls_have_tuples t p past h call e
-calls_have_tuples t p (Answered time entry code rest ∷ past) h call e = calls_have_tuples t p past h call e
+calls_have_tuples t p (StepBegun time entry step cells ∷ past) h call e = calls_have_tuples t p past h call e
+calls_have_tuples t p (StepEnded time entry code rest ∷ past) h call e = calls_have_tuples t p past h call e
 
 -- what a completion with a key fits
 with_key : (checker : Checker) (request : Request) (key asked value : Edn) (elements : Option (List Edn)) → elements_of value ≡ elements
-    → answers_with_key checker request (key ∷ asked ∷ []) elements ≡ true
-    → (answer : Edn × Edn) × (tuple_of value ≡ Some answer) × (is_equal key answer.0 ≡ true) × (is_good_answer checker request asked answer.1 ≡ true)
+    → fits_with_key checker request (key ∷ asked ∷ []) elements ≡ true
+    → (answer : Edn × Edn) × (tuple_of value ≡ Some answer) × (is_equal key answer.0 ≡ true) × (fits_request checker request asked answer.1 ≡ true)
 with_key checker request key asked value None is e = absurd (false≢true e)
 with_key checker request key asked value (Some []) is e = absurd (false≢true e)
 with_key checker request key asked value (Some (x ∷ [])) is e = absurd (false≢true e)
 with_key checker request key asked value (Some (x ∷ y ∷ [])) is e =
-    let both = and_parts (is_equal key x) (is_good_answer checker request asked y) e in
+    let both = and_parts (is_equal key x) (fits_request checker request asked y) e in
     ((x, y), ap (λ o. option_and_then two_of o) is, both.0, both.1)
 with_key checker request key asked value (Some (x ∷ y ∷ z ∷ zs)) is e = absurd (false≢true e)
 
@@ -196,7 +196,7 @@ ends_by t None kind call op asked is f g v tuple fits = (f ∙ sym g, subst (Com
   where
     ok : (k : Kind) → fits_by t None k call op.value ≡ true → CompletesOk t.checker asked.f asked.value op.value k
     ok Kind.Invoke e = tt
-    ok Kind.Ok e = (call.request, g, subst (λ x. is_good_answer t.checker call.request x op.value ≡ true) (sym v) e)
+    ok Kind.Ok e = (call.request, g, subst (λ x. fits_request t.checker call.request x op.value ≡ true) (sym v) e)
     ok Kind.Fail e = tt
     ok Kind.Info e = tt
 ends_by t (Some shares) kind call op asked is f g v ((key, value), at) fits = go kind is fits
@@ -211,7 +211,7 @@ ends_by t (Some shares) kind call op asked is f g v ((key, value), at) fits = go
     go Kind.Invoke is e = let w = equal e in by_tuple Kind.Invoke is w.tuple w.is w.same tt
     go Kind.Ok is e =
         let w = with_key t.checker call.request key value op.value (elements_of op.value) refl
-        (subst (λ x. answers_with_key t.checker call.request (list_or_none (elements_of x)) (elements_of op.value) ≡ true) at e) in
+        (subst (λ x. fits_with_key t.checker call.request (list_or_none (elements_of x)) (elements_of op.value) ≡ true) at e) in
         by_tuple Kind.Ok is w.0 w.1 w.2 (call.request, g, w.3)
     go Kind.Fail is e = let w = equal e in by_tuple Kind.Fail is w.tuple w.is w.same tt
     go Kind.Info is e = let w = equal e in by_tuple Kind.Info is w.tuple w.is w.same tt
@@ -257,8 +257,8 @@ shaped_behind t names (Ended time process kind request value rest ∷ past) f =
       fits_open t Whatever WhateverEnds (status process past) (doing process (newest names past)) kind request op (same_status t names process past f.1) f.0 (λ call asked busy like end. tt),
       shaped_behind t names past f.1,
     )
-shaped_behind t names (Begun time entry step cells ∷ past) f = (tt, shaped_behind t names past f)
-shaped_behind t names (Answered time entry code rest ∷ past) f = (tt, shaped_behind t names past f)
+shaped_behind t names (StepBegun time entry step cells ∷ past) f = (tt, shaped_behind t names past f)
+shaped_behind t names (StepEnded time entry code rest ∷ past) f = (tt, shaped_behind t names past f)
 
 -- each operation of a test fits behind those before it
 pub all_behind : (t : TestValue) (names : List (List ℕ)) (past : List Recorded) → IsFormed t past → AreAsked t past → AllSuit t.checker (given_calls t past)
@@ -276,5 +276,5 @@ all_behind t names (Ended time process kind request value rest ∷ past) f a s =
           (calls_have_tuples t process past a),
       all_behind t names past f.1 a s,
     )
-all_behind t names (Begun time entry step cells ∷ past) f a s = (tt, all_behind t names past f a s)
-all_behind t names (Answered time entry code rest ∷ past) f a s = (tt, all_behind t names past f a s)
+all_behind t names (StepBegun time entry step cells ∷ past) f a s = (tt, all_behind t names past f a s)
+all_behind t names (StepEnded time entry code rest ∷ past) f a s = (tt, all_behind t names past f a s)

@@ -8,12 +8,12 @@ use Rattle.jh_nemesis.specs.declared.steps.Step.TheVariants.{WithdrawAll}
 use Rattle.jh_nemesis.specs.declared.steps.StepAnswer.TheVariants.{Ok}
 use Rattle.jh_test_parts.specs.Test.{IsFitTest, TestValue}
 use Rattle.jh_test_parts.specs.declared.records.Recorded.{Recorded}
-use Rattle.jh_test_parts.specs.declared.records.Recorded.TheVariants.{Begun}
+use Rattle.jh_test_parts.specs.declared.records.Recorded.TheVariants.{StepBegun}
 
 -- how many steps of a history end all faults for the test: their number is the length of its schedule
 abbrev pub heals_in : TestValue → List Recorded → ℕ
 heals_in t [] = 0
-heals_in t (Begun time entry step cells ∷ past) =
+heals_in t (StepBegun time entry step cells ∷ past) =
     if entry == length t.schedule then suc (heals_in t past) else heals_in t past
 heals_in t (_ ∷ past) = heals_in t past
 

@@ -19,7 +19,7 @@ use Rattle.jh_ops.specs.declared.call.Request.TheVariants.{Txn}
 use Rattle.jh_ops.specs.declared.call.Workload.TheVariants as workload
 use Rattle.jh_ops.specs.declared.operation.Kind.{Kind}
 use Rattle.jh_ops.specs.declared.operation.Process.{Process}
-use Rattle.jh_test_parts.specs.Values.{is_good_answer}
+use Rattle.jh_test_parts.specs.Values.{fits_request}
 use Rattle.jh_test_parts.specs.declared.parts.KeyShares.{KeyShares}
 use Rattle.jh_txn_histories.specs.Histories.{asked_by}
 use Rattle.jh_txn_histories.specs.Written.{Written, is_equal}
@@ -96,7 +96,7 @@ InvokesValue checker f value =
 abbrev pub CompletesOk : Checker → (f asked value : Edn) → Kind → Type 0
 CompletesOk checker f asked value Kind.Ok =
     (request : Request) × (f ≡ keyword (request_name request))
-    × (is_good_answer checker request asked value ≡ true)
+    × (fits_request checker request asked value ≡ true)
 CompletesOk checker f asked value _ = Unit {0}
 
 abbrev pub Invokes : Checker → Operation → Type 0
@@ -113,8 +113,8 @@ InvokesOfKey checker op =
 
 abbrev pub CompletesOfKey : Checker → Operation → Operation → Type 0
 CompletesOfKey checker call op =
-    (asked answer : Edn × Edn) × (tuple_of call.value ≡ Some asked) × (tuple_of op.value ≡ Some answer)
-    × (is_equal asked.0 answer.0 ≡ true) × (op.f ≡ call.f) × CompletesOk checker call.f asked.1 answer.1 op.kind
+    (asked got : Edn × Edn) × (tuple_of call.value ≡ Some asked) × (tuple_of op.value ≡ Some got)
+    × (is_equal asked.0 got.0 ≡ true) × (op.f ≡ call.f) × CompletesOk checker call.f asked.1 got.1 op.kind
 
 -- ---- as a test has it
 

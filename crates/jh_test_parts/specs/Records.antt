@@ -19,8 +19,8 @@ use Rattle.jh_test_parts.specs.Changes.{ChangedCells}
 use Rattle.jh_test_parts.specs.declared.records.ChangedLink.{ChangedLink}
 use Rattle.jh_test_parts.specs.declared.records.ChangedNode.{ChangedNode}
 use Rattle.jh_test_parts.specs.declared.records.Recorded.{Recorded}
-use Rattle.jh_test_parts.specs.declared.records.Recorded.TheVariants.{Invoked, Ended, Begun}
-use Rattle.jh_test_parts.specs.declared.records.Recorded.TheVariants.{Answered}
+use Rattle.jh_test_parts.specs.declared.records.Recorded.TheVariants.{Invoked, Ended, StepBegun}
+use Rattle.jh_test_parts.specs.declared.records.Recorded.TheVariants.{StepEnded}
 
 -- `{:cut true, :delay 0, :loss 0}`
 abbrev pub link_value : Link → Edn
@@ -79,10 +79,10 @@ operation_of_record names index (Invoked time process node call) =
     ((keyword (codes "node"), name_text names node) ∷ [])
 operation_of_record names index (Ended time process kind request value rest) =
     operation_placed index time kind (Process.Client process) (request_name request) value rest
-operation_of_record names index (Begun time entry step cells) =
+operation_of_record names index (StepBegun time entry step cells) =
     operation_placed index time Kind.Info Process.Nemesis (codes "step") (int (pos entry))
     (step_pairs names step cells)
-operation_of_record names index (Answered time entry code rest) =
+operation_of_record names index (StepEnded time entry code rest) =
     operation_placed index time Kind.Info Process.Nemesis (codes "step")
     (vector_of (int (pos entry) ∷ int (pos code) ∷ [])) rest
 
@@ -97,7 +97,7 @@ recorded_operations names index (r ∷ rs) =
 abbrev pub IsWritableRecord : ℕ → Recorded → Type 0
 IsWritableRecord nodes (Invoked time process node call) = (time < 2 ^ 63) × (process < 2 ^ 63)
 IsWritableRecord nodes (Ended time process kind request value rest) = (time < 2 ^ 63) × (process < 2 ^ 63)
-IsWritableRecord nodes (Begun time entry step cells) =
+IsWritableRecord nodes (StepBegun time entry step cells) =
     (time < 2 ^ 63) × (entry < 2 ^ 63) × FitsNodes nodes step
-IsWritableRecord nodes (Answered time entry code rest) =
+IsWritableRecord nodes (StepEnded time entry code rest) =
     (time < 2 ^ 63) × (entry < 2 ^ 63) × (code < 2 ^ 63)

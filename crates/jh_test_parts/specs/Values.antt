@@ -32,28 +32,28 @@ is_readable Set value = is_collection value
 is_readable Ids value = true
 is_readable ListAppend value = true
 
--- what a call that was done may be answered, but for its key; a transaction does the same, with what
+-- what a call that was done may have got, but for its key; a transaction has done the same, with what
 -- its reads saw
-abbrev pub is_good_answer : Checker → Request → (asked answer : Edn) → Bool
-is_good_answer checker Read asked answer = is_readable checker answer
-is_good_answer checker Generate asked answer = true
-is_good_answer checker Txn asked answer = is_answered asked answer
-is_good_answer checker _ asked answer = is_equal asked answer
+abbrev pub fits_request : Checker → Request → (asked got : Edn) → Bool
+fits_request checker Read asked got = is_readable checker got
+fits_request checker Generate asked got = true
+fits_request checker Txn asked got = is_answered asked got
+fits_request checker _ asked got = is_equal asked got
 
-abbrev pub answers_with_key : Checker → Request → List Edn → Option (List Edn) → Bool
-answers_with_key checker request (key ∷ asked ∷ []) (Some (other ∷ answer ∷ [])) =
-    is_equal key other && is_good_answer checker request asked answer
-answers_with_key checker request _ _ = false
+abbrev pub fits_with_key : Checker → Request → List Edn → Option (List Edn) → Bool
+fits_with_key checker request (key ∷ asked ∷ []) (Some (other ∷ got ∷ [])) =
+    is_equal key other && fits_request checker request asked got
+fits_with_key checker request _ _ = false
 
 abbrev pub list_or_none : Option (List Edn) → List Edn
 list_or_none None = []
 list_or_none (Some values) = values
 
--- of independent keys a tuple of the same key and such an answer
+-- of independent keys a tuple of the same key and such a value
 abbrev pub is_good_value : TestValue → Option KeyShares → ValuedCall → Edn → Bool
-is_good_value t None call value = is_good_answer t.checker call.request call.value value
+is_good_value t None call value = fits_request t.checker call.request call.value value
 is_good_value t (Some shares) call value =
-    answers_with_key t.checker call.request (list_or_none (elements_of call.value))
+    fits_with_key t.checker call.request (list_or_none (elements_of call.value))
     (elements_of value)
 
 -- a completion that is not `:ok` has the call's own value

@@ -3,6 +3,7 @@
 #![tactic(auto)]
 
 mod calls;
+mod changes;
 mod complaints;
 mod line;
 mod named;
@@ -10,7 +11,6 @@ mod operations;
 mod parts;
 mod records;
 mod test;
-mod changes;
 mod transactions;
 mod values;
 

@@ -73,7 +73,11 @@ fn node_value(alloc: Global, cell: NodeCell) -> Result<Value, AllocError>
 }
 
 /// The value of a link that a step changed.
-fn changed_link_value(alloc: Global, nodes: &Nodes, changed: ChangedLink) -> Result<Value, AllocError>
+fn changed_link_value(
+    alloc: Global,
+    nodes: &Nodes,
+    changed: ChangedLink,
+) -> Result<Value, AllocError>
     requires { IsLinkInRange changed.link }
     ensures { IfOk result (λ value. view value ≡ rule.changed_link_value nodes.now changed) }
 {
@@ -85,7 +89,11 @@ fn changed_link_value(alloc: Global, nodes: &Nodes, changed: ChangedLink) -> Res
 }
 
 /// The value of a node that a step changed.
-fn changed_node_value(alloc: Global, nodes: &Nodes, changed: ChangedNode) -> Result<Value, AllocError>
+fn changed_node_value(
+    alloc: Global,
+    nodes: &Nodes,
+    changed: ChangedNode,
+) -> Result<Value, AllocError>
     ensures { IfOk result (λ value. view value ≡ rule.changed_node_value nodes.now changed) }
 {
     let mut values = Vec::new(alloc);
@@ -146,7 +154,7 @@ fn node_pairs(alloc: Global, nodes: &Nodes, node: Node) -> Result<Pairs, AllocEr
 }
 
 /// The vector of an entry's place and of a code.
-fn answer_value(alloc: Global, entry: u64, code: u64) -> Result<Value, AllocError>
+fn code_value(alloc: Global, entry: u64, code: u64) -> Result<Value, AllocError>
     requires { (entry < 2 ^ 63) × (code < 2 ^ 63) }
     ensures { IfOk result (λ value. view value
         ≡ vector_of (int (pos entry) ∷ int (pos code) ∷ [])) }
@@ -217,7 +225,12 @@ pub fn operation_of(
         (λ op. operation op ≡ rule.operation_of_record nodes.now index recorded.now) }
 {
     match recorded {
-        Recorded::Invoked(time, process, node, call) => {
+        Recorded::Invoked {
+            time,
+            process,
+            node,
+            call,
+        } => {
             let value = call.value.value().copy(alloc)?;
             let rest = node_pairs(alloc, nodes, *node)?;
             let name = call.request.name();
@@ -231,18 +244,35 @@ pub fn operation_of(
                 rest,
             )
         }
-        Recorded::Ended(time, process, kind, request, value, rest) => {
+        Recorded::Ended {
+            time,
+            process,
+            kind,
+            request,
+            value,
+            rest,
+        } => {
             let value = value.value().copy(alloc)?;
             let rest = rest.copy(alloc)?;
             let name = request.name();
             client_operation(alloc, (index, *time), *kind, *process, name, value, rest)
         }
-        Recorded::Begun(time, entry, step, cells) => {
+        Recorded::StepBegun {
+            time,
+            entry,
+            step,
+            cells,
+        } => {
             let rest = step_pairs(alloc, nodes, step, cells)?;
             step_operation(alloc, (index, *time), Value::Int(*entry as i64), rest)
         }
-        Recorded::Answered(time, entry, code, rest) => {
-            let value = answer_value(alloc, *entry, *code)?;
+        Recorded::StepEnded {
+            time,
+            entry,
+            code,
+            rest,
+        } => {
+            let value = code_value(alloc, *entry, *code)?;
             step_operation(alloc, (index, *time), value, rest.copy(alloc)?)
         }
     }

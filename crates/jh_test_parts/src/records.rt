@@ -42,15 +42,38 @@ impl Model for ChangedCells {
     ghost invariant = { λ a. All (λ changed. IsLinkInRange changed.link) a.links.items };
 }
 
-/// A record of a test. Its first number is the time at which it was made, in nanoseconds.
+/// A record of a test. Its time is that at which it was made, in nanoseconds.
 #[derive(Debug, Drop)]
 pub enum Recorded {
     /// This process calls this node.
-    Invoked(u64, u64, Node, ValuedCall),
+    Invoked {
+        time: u64,
+        process: u64,
+        node: Node,
+        call: ValuedCall,
+    },
     /// A call of this process ended, with a value and other keys as they came.
-    Ended(u64, u64, Kind, Request, Datum, Pairs),
+    Ended {
+        time: u64,
+        process: u64,
+        kind: Kind,
+        request: Request,
+        value: Datum,
+        rest: Pairs,
+    },
     /// The step of the entry at this place was taken, and these cells have changed.
-    Begun(u64, u64, Step, ChangedCells),
-    /// The adapter has done so; the nemesis had answered the step of this entry with this code.
-    Answered(u64, u64, u64, Pairs),
+    StepBegun {
+        time: u64,
+        entry: u64,
+        step: Step,
+        cells: ChangedCells,
+    },
+    /// The step of this entry ended: the adapter has done so. The code is that of what the nemesis
+    /// answered when it was taken; other keys are as they came.
+    StepEnded {
+        time: u64,
+        entry: u64,
+        code: u64,
+        rest: Pairs,
+    },
 }

@@ -46,46 +46,46 @@ fn is_readable(checker: Checker, value: &Value) -> bool
     }
 }
 
-/// Whether a call that was done may be answered so, but for its key.
-fn is_good_answer(
+/// Whether a call that was done may have got this, but for its key.
+fn fits_request(
     alloc: Global,
     checker: Checker,
     request: Request,
     asked: &Value,
-    answer: &Value,
+    got: &Value,
 ) -> Result<bool, AllocError>
     ensures { IfOk result
-        (λ yes. yes ≡ rule.is_good_answer checker request (view asked.now) (view answer.now)) }
+        (λ yes. yes ≡ rule.fits_request checker request (view asked.now) (view got.now)) }
 {
     match request {
-        Request::Read => Ok(is_readable(checker, answer)),
+        Request::Read => Ok(is_readable(checker, got)),
         Request::Generate => Ok(true),
-        Request::Txn => is_answered(alloc, asked, answer),
-        Request::Write(_) | Request::Cas(_, _) | Request::Add(_) => is_equal(alloc, asked, answer),
+        Request::Txn => is_answered(alloc, asked, got),
+        Request::Write(_) | Request::Cas(_, _) | Request::Add(_) => is_equal(alloc, asked, got),
     }
 }
 
-/// Whether a pair of a key and a value is answered by a pair of the same key and a good answer.
-fn answers_with_key(
+/// Whether one pair has the same key as another, and what a call with the other's value may have got.
+fn fits_with_key(
     alloc: Global,
     checker: Checker,
     request: Request,
     asked: &[Value],
-    answer: &[Value],
+    got: &[Value],
 ) -> Result<bool, AllocError>
     ensures { IfOk result (λ yes. yes
-        ≡ rule.answers_with_key checker request (views asked.now) (Some (views answer.now))) }
+        ≡ rule.fits_with_key checker request (views asked.now) (Some (views got.now))) }
 {
-    if asked.len() != 2 || answer.len() != 2 {
+    if asked.len() != 2 || got.len() != 2 {
         return Ok(false);
     }
     Ok(
-        is_equal(alloc, &asked[0], &answer[0])?
-            && is_good_answer(alloc, checker, request, &asked[1], &answer[1])?,
+        is_equal(alloc, &asked[0], &got[0])?
+            && fits_request(alloc, checker, request, &asked[1], &got[1])?,
     )
 }
 
-/// Whether a call that was done may be answered so.
+/// Whether a call that was done may have this value.
 fn is_good_value(
     alloc: Global,
     test: &Test,
@@ -97,12 +97,12 @@ fn is_good_value(
 {
     let asked = call.value.value();
     if test.keys().is_none() {
-        return is_good_answer(alloc, test.checker(), call.request, asked, value);
+        return fits_request(alloc, test.checker(), call.request, asked, value);
     }
-    let (Some(asked), Some(answer)) = (asked.elements(), value.elements()) else {
+    let (Some(asked), Some(got)) = (asked.elements(), value.elements()) else {
         return Ok(false);
     };
-    answers_with_key(alloc, test.checker(), call.request, asked, answer)
+    fits_with_key(alloc, test.checker(), call.request, asked, got)
 }
 
 /// Whether a call can end as this kind, with this value.
