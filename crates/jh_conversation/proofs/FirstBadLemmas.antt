@@ -1,28 +1,24 @@
 -- The first line that is no reply is the one that is kept.
-use Rattle.std.proofs.Common.{◌≡◌, ℕ, ◌+◌, ◌==◌, Bool, true, false, not, ◌||◌, List, [], ◌∷◌, refl}
+use Rattle.std.proofs.Common.{◌≡◌, ℕ, ◌+◌, true, false, List, [], ◌∷◌, refl}
 use Rattle.std.proofs.Common.{ap, ◌∙◌}
-use Rattle.std.specs.Prelude.{Option, None, Some, if◌then◌else◌}
-use Rattle.jh_edn.specs.Edn.{is_keyword}
+use Rattle.std.specs.Prelude.{Option, None, Some, Result, Ok, Err, if◌then◌else◌}
 use Rattle.jh_lines.specs.Answering.{after_lines}
 use Rattle.jh_nemesis.specs.State.{first_state}
 use Rattle.jh_ops.specs.Operation.{Operation}
+use Rattle.jh_ops.specs.declared.call.Request.{Request}
 use Rattle.jh_ops.specs.declared.operation.Process.{Process}
-use Rattle.jh_ops.specs.Requests.{request_name}
 use Rattle.jh_conversation.specs.Laws.{Drivers, complaint_of, complaint_of_step_end}
-use Rattle.jh_conversation.specs.Laws.{complaint_of_completion, complaint_of_end}
+use Rattle.jh_conversation.specs.Laws.{complaint_of_end}
 use Rattle.jh_conversation.specs.Laws.{complaint_of_operation, first_bad, first_bad_or, run, start}
-use Rattle.jh_ops.specs.Pairing.{is_invoke}
 use Rattle.jh_test_parts.specs.LineMeanings.{MeaningValue, Nothing, Clock, Stop, Op, Bad}
-use Rattle.jh_conversation.specs.Lines.{end_step, ends_step, at_first, at_time, finish, first}
+use Rattle.jh_conversation.specs.Lines.{end_step, ends_step, at_first, at_time, first}
 use Rattle.jh_conversation.specs.Lines.{is_test_over, listen, refuse, take_line, take_step_end}
-use Rattle.jh_conversation.specs.Lines.{take_completion, take_end, take_in, take_operation}
+use Rattle.jh_conversation.specs.Lines.{ended_request, take_completion, take_in, take_operation}
 use Rattle.jh_test_parts.specs.LineMeanings.{line_meaning}
-use Rattle.jh_test_parts.specs.Values.{fits_call}
 use Rattle.jh_test_parts.specs.Test.{thread_of_process}
-use Rattle.jh_conversation.specs.Machine.{Machine, caller_process, caller_of}
+use Rattle.jh_conversation.specs.Machine.{Machine, caller_of}
 use Rattle.jh_test_parts.specs.Test.{TestValue}
 use Rattle.jh_conversation.specs.Turn.{turn}
-use Rattle.jh_test_parts.specs.declared.calls.ValuedCall.{ValuedCall}
 use Rattle.jh_conversation.specs.declared.callers.OpenStep.{OpenStep}
 use Rattle.jh_test_parts.specs.declared.complaints.Complaint.{Complaint}
 use Rattle.jh_test_parts.specs.declared.complaints.Complaint.TheVariants as complaint
@@ -89,26 +85,10 @@ finds_step_end m op time none (Some w) =
       | false ↦ refused m complaint.OtherStep none
     ]
 
-finds_end : (t : TestValue) (m : Machine) (thread : ℕ) (c : ValuedCall) (op : Operation) (time : Option ℕ) → m.bad ≡ None
-    → FindsBad (bad_of (complaint_of_end t c op) m.read) m.read (take_end t thread c op time m)
-finds_end t m thread c op time none = by_two (is_invoke op.kind || not (is_keyword (request_name c.request) op.f)) (not (fits_call t c op.kind op.value))
-  where
-    by_two : (other odd : Bool)
-        → FindsBad (bad_of (if other then Some complaint.OtherCall else if odd then Some complaint.BadValue else None) m.read) m.read
-        (if other then refuse complaint.OtherCall m else if odd then refuse complaint.BadValue m else finish t thread c.request op (at_time time m))
-    by_two true odd = refused m complaint.OtherCall none
-    by_two false true = refused m complaint.BadValue none
-    by_two false false = timed m time none
-
-finds_completion : (t : TestValue) (m : Machine) (process : ℕ) (op : Operation) (time : Option ℕ) → m.bad ≡ None → (c : Option ValuedCall)
-    → FindsBad (bad_of (complaint_of_completion t m process c op) m.read) m.read (take_completion t process op time m c)
-finds_completion t m process op time none None = refused m complaint.NoCallOpen none
-finds_completion t m process op time none (Some c) =
-    elim (caller_process t m (thread_of_process t process) == process) as (λ b. FindsBad (bad_of (if b then complaint_of_end t c op else Some complaint.NoCallOpen) m.read) m.read
-    (if b then take_end t (thread_of_process t process) c op time m else refuse complaint.NoCallOpen m)) [
-      | true ↦ finds_end t m (thread_of_process t process) c op time none
-      | false ↦ refused m complaint.NoCallOpen none
-    ]
+finds_completion : (t : TestValue) (m : Machine) (thread : ℕ) (op : Operation) (time : Option ℕ) → m.bad ≡ None → (e : Result Request Complaint)
+    → FindsBad (bad_of (complaint_of_end e) m.read) m.read (take_completion t thread op time m e)
+finds_completion t m thread op time none (Err why) = refused m why none
+finds_completion t m thread op time none (Ok request) = timed m time none
 
 -- what one line brings
 finds_take : (t : TestValue) (m : Machine) (line : MeaningValue) → m.bad ≡ None → FindsBad (bad_of (complaint_of t m line) m.read) m.read (take_in t line m)
@@ -120,7 +100,7 @@ finds_take t m (Op op time) none = go op.process
   where
     go : (p : Process) → FindsBad (bad_of (complaint_of_operation t m op p) m.read) m.read (take_operation t op time p m)
     go Process.Nemesis = finds_step_end m op time none m.step
-    go (Process.Client process) = finds_completion t m process op time none (caller_of m (thread_of_process t process)).call
+    go (Process.Client process) = finds_completion t m (thread_of_process t process) op time none (ended_request t m process op (caller_of m (thread_of_process t process)).call)
 
 -- a complaint is the same behind a listening
 same_complaint : (t : TestValue) (m : Machine) (line : MeaningValue) → complaint_of t (listen m) line ≡ complaint_of t m line

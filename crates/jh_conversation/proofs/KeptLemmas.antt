@@ -1,7 +1,7 @@
 -- What each single change keeps is kept by a turn, by a line and by every list of lines.
 use Rattle.std.proofs.Common.{◌≡◌, ℕ, zero, suc, ◌+◌, ◌<◌, ◌≤◌, ◌==◌, Bool, true, false, ◌&&◌, ◌||◌}
 use Rattle.std.proofs.Common.{not, nat_le, List, [], ◌∷◌, refl, ◌∙◌, arith}
-use Rattle.std.specs.Prelude.{Option, None, Some, if◌then◌else◌}
+use Rattle.std.specs.Prelude.{Option, None, Some, Result, Ok, Err, if◌then◌else◌}
 use Rattle.std.proofs.lemmas.Bool.{cond_both, and_parts, false≢true, not-false}
 use Rattle.rand_pcg.specs.Lcg.{Lcg}
 use Rattle.rand_pcg.specs.Pcg.{pcg64}
@@ -20,7 +20,7 @@ use Rattle.jh_lines.specs.Answering.{after_lines}
 use Rattle.jh_nemesis.specs.State.{first_state}
 use Rattle.jh_conversation.specs.Lines.{end_step, ends_step, at_first, at_time, finish}
 use Rattle.jh_conversation.specs.Lines.{is_test_over, listen, refuse, take_line, stop, take_step_end}
-use Rattle.jh_conversation.specs.Lines.{take_completion, take_end, take_in, take_operation}
+use Rattle.jh_conversation.specs.Lines.{ended_call, ended_request, take_completion, take_in, take_operation}
 use Rattle.jh_test_parts.specs.LineMeanings.{line_meaning}
 use Rattle.jh_test_parts.specs.Values.{fits_call}
 use Rattle.jh_test_parts.specs.Test.{thread_of_process}
@@ -184,19 +184,22 @@ module _ (t : TestValue) (P : Machine → Type 0) (l : IsKeptByLine t P) where
   or_parts_false true b e = e
   or_parts_false false b e = refl
 
-  kept_end : (m : Machine) (thread : ℕ) (open_call : ValuedCall) (op : Operation) (time : Option ℕ) → (caller_of m thread).call ≡ Some open_call → P m → P (take_end t thread open_call op time m)
+  abbrev Takes : Machine → ℕ → Operation → Option ℕ → Result Request Complaint → Type 0
+  Takes m thread op time e = P (take_completion t thread op time m e)
+
+  kept_end : (m : Machine) (thread : ℕ) (open_call : ValuedCall) (op : Operation) (time : Option ℕ) → (caller_of m thread).call ≡ Some open_call → P m → Takes m thread op time (ended_call t open_call op)
   kept_end m thread open_call op time e h =
-      cond_both (is_invoke op.kind || not (is_keyword (request_name open_call.request) op.f)) (refuse complaint.OtherCall m)
-      (if not (fits_call t open_call op.kind op.value) then refuse complaint.BadValue m else finish t thread open_call.request op (at_time time m)) P
+      cond_both (is_invoke op.kind || not (is_keyword (request_name open_call.request) op.f)) (Err complaint.OtherCall)
+      (if not (fits_call t open_call op.kind op.value) then Err complaint.BadValue else Ok open_call.request) (Takes m thread op time)
       (λ _. l.refuses m _ h)
-      (λ no. cond_both (not (fits_call t open_call op.kind op.value)) (refuse complaint.BadValue m) (finish t thread open_call.request op (at_time time m)) P
+      (λ no. cond_both (not (fits_call t open_call op.kind op.value)) (Err complaint.BadValue) (Ok open_call.request) (Takes m thread op time)
       (λ _. l.refuses m _ h)
       (λ fits. l.finishes (at_time time m) thread open_call op (same_call m time thread ∙ e) (or_parts_false _ _ no) (not-false _ fits) (kept_time m time h)))
 
-  kept_completion : (m : Machine) (process : ℕ) (op : Operation) (time : Option ℕ) (c : Option ValuedCall) → (caller_of m (thread_of_process t process)).call ≡ c → P m → P (take_completion t process op time m c)
+  kept_completion : (m : Machine) (process : ℕ) (op : Operation) (time : Option ℕ) (c : Option ValuedCall) → (caller_of m (thread_of_process t process)).call ≡ c → P m → Takes m (thread_of_process t process) op time (ended_request t m process op c)
   kept_completion m process op time None e h = l.refuses m _ h
   kept_completion m process op time (Some c) e h =
-      cond_both (caller_process t m (thread_of_process t process) == process) (take_end t (thread_of_process t process) c op time m) (refuse complaint.NoCallOpen m) P
+      cond_both (caller_process t m (thread_of_process t process) == process) (ended_call t c op) (Err complaint.NoCallOpen) (Takes m (thread_of_process t process) op time)
       (λ _. kept_end m (thread_of_process t process) c op time e h)
       (λ _. l.refuses m _ h)
 

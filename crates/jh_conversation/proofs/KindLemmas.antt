@@ -1,20 +1,21 @@
 -- What is said are calls and steps, what is heard the ends of calls and of steps.
 use Rattle.std.proofs.Common.{◌≡◌, ℕ, true, false, List, [], ◌∷◌, refl, sym, subst}
-use Rattle.std.specs.Prelude.{Option, None, Some, if◌then◌else◌}
+use Rattle.std.specs.Prelude.{Option, None, Some, Result, Ok, Err, if◌then◌else◌}
 use Rattle.std.specs.List.{AllByRecursion}
+use Rattle.jh_ops.specs.declared.call.Request.{Request}
 use Rattle.jh_ops.specs.declared.operation.Process.{Process}
 use Rattle.jh_conversation.specs.Laws.{Drivers, IsHeard, IsSaid, step_ended_by, clock_at, ended_by}
-use Rattle.jh_conversation.specs.Laws.{heard, heard_from, is_end_of_call, run}
+use Rattle.jh_conversation.specs.Laws.{heard, heard_from, run}
 use Rattle.jh_test_parts.specs.LineMeanings.{MeaningValue, Nothing, Clock, Stop, Op, Bad}
-use Rattle.jh_conversation.specs.Lines.{ends_step, is_test_over, listen, take_line, take_in}
+use Rattle.jh_conversation.specs.Lines.{ended_request, ends_step, is_test_over, listen, take_line, take_in}
 use Rattle.jh_test_parts.specs.LineMeanings.{kept_pairs, line_meaning}
 use Rattle.jh_test_parts.specs.Test.{thread_of_process}
 use Rattle.jh_conversation.specs.Machine.{Machine, caller_of}
 use Rattle.jh_test_parts.specs.Test.{TestValue}
 use Rattle.jh_conversation.specs.Turn.{turn}
-use Rattle.jh_test_parts.specs.declared.calls.ValuedCall.{ValuedCall}
+use Rattle.jh_test_parts.specs.declared.complaints.Complaint.{Complaint}
 use Rattle.jh_conversation.specs.declared.callers.OpenStep.{OpenStep}
-use Rattle.jh_test_parts.specs.declared.records.Recorded.TheVariants.{StepEnded, Ended}
+use Rattle.jh_test_parts.specs.declared.records.Recorded.TheVariants.{StepEnded}
 use Rattle.jh_test_parts.specs.declared.records.Recorded.{Recorded}
 use Rattle.jh_conversation.proofs.KeptLemmas.{IsKeptInTurn, by_answers, kept_turn}
 use Rattle.jh_conversation.proofs.TalkLemmas.{hears}
@@ -54,13 +55,13 @@ all_heard t m (Op op time) = go op.process
     step_end None = tt
     step_end (Some w) = elim (ends_step w op) as (λ b. AllByRecursion IsHeard (if b then StepEnded (clock_at time m.clock) w.entry w.code (kept_pairs op) ∷ [] else [])) [ true ↦ (tt, tt) | false ↦ tt ]
 
-    completion : (process : ℕ) (c : Option ValuedCall) → AllByRecursion IsHeard (ended_by t m process c op (clock_at time m.clock))
-    completion process None = tt
-    completion process (Some c) = elim (is_end_of_call t m process c op) as (λ b. AllByRecursion IsHeard (if b then Ended (clock_at time m.clock) process op.kind c.request op.value (kept_pairs op) ∷ [] else [])) [ true ↦ (tt, tt) | false ↦ tt ]
+    completion : (process : ℕ) (ended : Result Request Complaint) → AllByRecursion IsHeard (ended_by process op (clock_at time m.clock) ended)
+    completion process (Err why) = tt
+    completion process (Ok request) = (tt, tt)
 
     go : (p : Process) → AllByRecursion IsHeard (heard_from t m op (clock_at time m.clock) p)
     go Process.Nemesis = step_end m.step
-    go (Process.Client process) = completion process (caller_of m (thread_of_process t process)).call
+    go (Process.Client process) = completion process (ended_request t m process op (caller_of m (thread_of_process t process)).call)
 
 pub kinds_apart : (t : TestValue) (d : Drivers t) (lines : List (List ℕ)) (line : List ℕ)
     → AllByRecursion IsSaid (take_line t (run t d lines) line).said × AllByRecursion IsHeard (heard t (run t d lines) (line_meaning line))

@@ -1,39 +1,36 @@
 -- The history is what was said and what was heard.
 use Rattle.std.proofs.Common.{◌≡◌, ℕ, ◌==◌, Bool, true, false, ◌&&◌, ◌||◌, not, List, [], ◌∷◌, ◌++◌}
 use Rattle.std.proofs.Common.{refl, sym, ap, ◌∙◌}
-use Rattle.std.specs.Prelude.{Option, None, Some, if◌then◌else◌}
-use Rattle.std.proofs.lemmas.Bool.{eqb-true}
+use Rattle.std.specs.Prelude.{Option, None, Some, Result, Ok, Err, IfOk, if◌then◌else◌}
 use Rattle.std.proofs.lemmas.List.{append_assoc}
-use Rattle.jh_edn.specs.Edn.{is_keyword}
 use Rattle.jh_lines.specs.Answering.{after_lines}
 use Rattle.jh_nemesis.specs.State.{faults_in, first_state}
 use Rattle.jh_nemesis.specs.Steps.{state_after}
 use Rattle.jh_ops.specs.Operation.{Operation}
+use Rattle.jh_ops.specs.declared.call.Request.{Request}
 use Rattle.jh_ops.specs.declared.operation.Process.{Process}
-use Rattle.jh_ops.specs.Requests.{request_name}
 use Rattle.jh_conversation.specs.Conversations.{ConversationIsRun, ConversationValue, conversation_after}
 use Rattle.jh_conversation.specs.Laws.{Drivers, step_ended_by, clock_at, ended_by, heard, heard_from}
 use Rattle.jh_conversation.specs.Laws.{run, start, talk, talk_at, talk_from}
-use Rattle.jh_ops.specs.Pairing.{is_invoke}
 use Rattle.jh_test_parts.specs.LineMeanings.{MeaningValue, Nothing, Clock, Stop, Op, Bad}
 use Rattle.jh_conversation.specs.Lines.{end_step, ends_step, at_first, at_time, clock_after}
 use Rattle.jh_conversation.specs.Lines.{finish, is_test_over, listen, refuse, take_line, take_step_end}
-use Rattle.jh_conversation.specs.Lines.{take_completion, take_end, take_in, take_operation}
+use Rattle.jh_conversation.specs.Lines.{ended_request, take_completion, take_in, take_operation}
 use Rattle.jh_test_parts.specs.LineMeanings.{kept_pairs, line_meaning}
-use Rattle.jh_test_parts.specs.Values.{fits_call}
 use Rattle.jh_test_parts.specs.Test.{thread_of_process}
 use Rattle.jh_conversation.specs.Machine.{Machine, caller_process, caller_of}
 use Rattle.jh_test_parts.specs.Test.{TestValue}
 use Rattle.jh_test_parts.specs.Changes.{changed_cells}
 use Rattle.jh_conversation.specs.Turn.{call_made, turn}
 use Rattle.jh_test_parts.specs.Test.{node_of_thread}
-use Rattle.jh_test_parts.specs.declared.calls.ValuedCall.{ValuedCall}
 use Rattle.jh_conversation.specs.declared.callers.OpenStep.{OpenStep}
 use Rattle.jh_test_parts.specs.declared.records.Recorded.TheVariants.{Invoked, Ended, StepBegun}
 use Rattle.jh_test_parts.specs.declared.records.Recorded.TheVariants.{StepEnded}
 use Rattle.jh_test_parts.specs.declared.records.Recorded.{Recorded}
+use Rattle.jh_test_parts.specs.declared.complaints.Complaint.{Complaint}
 use Rattle.jh_test_parts.specs.declared.complaints.Complaint.TheVariants as complaint
 use Rattle.jh_conversation.proofs.KeptLemmas.{IsKeptInTurn, by_answers, kept_turn}
+use Rattle.jh_conversation.proofs.LineLemmas.{ended_own}
 
 -- what was said stands before what was there
 abbrev HasSaid : List Recorded → Machine → Type 0
@@ -74,34 +71,16 @@ heard_step_end m op time none (Some w) =
     ended None = (refl, none)
     ended (Some time) = (refl, none)
 
-heard_finish : (t : TestValue) (m : Machine) (process : ℕ) (op : Operation) (time : Option ℕ) (c : ValuedCall) → m.said ≡ [] → caller_process t m (thread_of_process t process) ≡ process
-    → Hears m (Ended (clock_at time m.clock) process op.kind c.request op.value (kept_pairs op) ∷ []) (finish t (thread_of_process t process) c.request op (at_time time m))
-heard_finish t m process op None c none e = (ap (λ p. Ended m.clock p op.kind c.request op.value (kept_pairs op) ∷ m.history) e, none)
-heard_finish t m process op (Some time) c none e = (ap (λ p. Ended (clock_after m.clock time) p op.kind c.request op.value (kept_pairs op) ∷ m.history) e, none)
+heard_finish : (t : TestValue) (m : Machine) (process : ℕ) (op : Operation) (time : Option ℕ) (request : Request) → m.said ≡ [] → caller_process t m (thread_of_process t process) ≡ process
+    → Hears m (ended_by process op (clock_at time m.clock) (Ok request)) (finish t (thread_of_process t process) request op (at_time time m))
+heard_finish t m process op None request none e = (ap (λ p. Ended m.clock p op.kind request op.value (kept_pairs op) ∷ m.history) e, none)
+heard_finish t m process op (Some time) request none e = (ap (λ p. Ended (clock_after m.clock time) p op.kind request op.value (kept_pairs op) ∷ m.history) e, none)
 
-heard_end : (t : TestValue) (m : Machine) (process : ℕ) (op : Operation) (time : Option ℕ) (c : ValuedCall) → m.said ≡ [] → caller_process t m (thread_of_process t process) ≡ process
-    → Hears m (if not (is_invoke op.kind) && (is_keyword (request_name c.request) op.f && fits_call t c op.kind op.value) then Ended (clock_at time m.clock) process op.kind c.request op.value (kept_pairs op) ∷ [] else [])
-    (take_end t (thread_of_process t process) c op time m)
-heard_end t m process op time c none e = by_three (is_invoke op.kind) (is_keyword (request_name c.request) op.f) (fits_call t c op.kind op.value)
-  where
-    by_three : (invokes named suited : Bool)
-        → Hears m (if not invokes && (named && suited) then Ended (clock_at time m.clock) process op.kind c.request op.value (kept_pairs op) ∷ [] else [])
-        (if invokes || not named then refuse complaint.OtherCall m else if not suited then refuse complaint.BadValue m else finish t (thread_of_process t process) c.request op (at_time time m))
-    by_three true named suited = (refl, none)
-    by_three false false suited = (refl, none)
-    by_three false true false = (refl, none)
-    by_three false true true = heard_finish t m process op time c none e
-
-heard_completion : (t : TestValue) (m : Machine) (process : ℕ) (op : Operation) (time : Option ℕ) → m.said ≡ [] → (c : Option ValuedCall)
-    → Hears m (ended_by t m process c op (clock_at time m.clock)) (take_completion t process op time m c)
-heard_completion t m process op time none None = (refl, none)
-heard_completion t m process op time none (Some c) =
-    (elim (caller_process t m (thread_of_process t process) == process) as (λ b. (caller_process t m (thread_of_process t process) == process) ≡ b
-    → Hears m (if b && (not (is_invoke op.kind) && (is_keyword (request_name c.request) op.f && fits_call t c op.kind op.value)) then Ended (clock_at time m.clock) process op.kind c.request op.value (kept_pairs op) ∷ [] else [])
-    (if b then take_end t (thread_of_process t process) c op time m else refuse complaint.NoCallOpen m)) [
-      | true ↦ λ e. heard_end t m process op time c none (eqb-true _ _ e)
-      | false ↦ λ _. (refl, none)
-    ]) refl
+heard_completion : (t : TestValue) (m : Machine) (process : ℕ) (op : Operation) (time : Option ℕ) → m.said ≡ [] → (e : Result Request Complaint)
+    → IfOk e (λ _. caller_process t m (thread_of_process t process) ≡ process)
+    → Hears m (ended_by process op (clock_at time m.clock) e) (take_completion t (thread_of_process t process) op time m e)
+heard_completion t m process op time none (Err why) own = (refl, none)
+heard_completion t m process op time none (Ok request) own = heard_finish t m process op time request none own
 
 hears_time : (m : Machine) (time : ℕ) → m.said ≡ [] → Hears m [] (at_time (Some time) m)
 hears_time m time none = (refl, none)
@@ -115,7 +94,9 @@ hears t m (Op op time) none = go op.process
   where
     go : (p : Process) → Hears m (heard_from t m op (clock_at time m.clock) p) (take_operation t op time p m)
     go Process.Nemesis = heard_step_end m op time none m.step
-    go (Process.Client process) = heard_completion t m process op time none (caller_of m (thread_of_process t process)).call
+    go (Process.Client process) =
+        let call = (caller_of m (thread_of_process t process)).call in
+        heard_completion t m process op time none (ended_request t m process op call) (ended_own t m process op call)
 
 talked : (t : TestValue) (d : Drivers t) (m : Machine) (line : List ℕ) → (take_line t m line).history ≡ talk_at t m line ++ m.history
 talked t d m line =

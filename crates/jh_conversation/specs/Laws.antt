@@ -1,9 +1,10 @@
 -- What holds of every test and every list of lines that is read. Each law is proved as the clause of a
 -- function that does nothing. This project's own.
-use Rattle.std.specs.Prelude.{◌≡◌, ℕ, suc, ◌+◌, ◌==◌, ◌<◌, ◌≤◌, Bool, true, false, not, ◌&&◌, ◌||◌}
+use Rattle.std.specs.Prelude.{◌≡◌, ℕ, suc, ◌+◌, ◌==◌, ◌<◌, ◌≤◌, Bool, true, false, ◌&&◌}
 use Rattle.std.specs.Prelude.{◌*◌, ◌^◌, List, [], ◌∷◌, ◌++◌, Option, Some, None, if◌then◌else◌}
+use Rattle.std.specs.Prelude.{Result, Ok, Err}
 use Rattle.std.specs.List.{AllByRecursion}
-use Rattle.jh_edn.specs.Edn.{Edn, is_empty, is_keyword}
+use Rattle.jh_edn.specs.Edn.{Edn, is_empty}
 use Rattle.jh_env.specs.Cells.{Link, NodeCell, link_at, node_at}
 use Rattle.jh_env.specs.Overlay.{link_over, node_over}
 use Rattle.jh_gen.specs.DriverState.{DriverState, IsDriverOf, IsFresh}
@@ -15,14 +16,13 @@ use Rattle.jh_ops.specs.declared.call.Request.{Request}
 use Rattle.jh_ops.specs.declared.operation.Kind.{Kind}
 use Rattle.jh_ops.specs.declared.operation.Process.{Process}
 use Rattle.jh_ops.specs.Pairing.{is_invoke}
-use Rattle.jh_ops.specs.Requests.{request_name}
 use Rattle.jh_test_parts.specs.LineMeanings.{MeaningValue, Op, Bad}
-use Rattle.jh_conversation.specs.Lines.{ends_step, at_first, clock_after, is_test_over}
+use Rattle.jh_conversation.specs.Lines.{ends_step, at_first, clock_after, ended_request, is_test_over}
 use Rattle.jh_test_parts.specs.LineMeanings.{kept_pairs, line_meaning}
 use Rattle.jh_conversation.specs.Lines.{listen, take_line, take_in}
 use Rattle.jh_test_parts.specs.Values.{fits_call}
 use Rattle.jh_test_parts.specs.Test.{thread_of_process}
-use Rattle.jh_conversation.specs.Machine.{Machine, are_free, caller_process, caller_of}
+use Rattle.jh_conversation.specs.Machine.{Machine, are_free, caller_of}
 use Rattle.jh_test_parts.specs.Test.{TestValue}
 use Rattle.jh_conversation.specs.Turn.{keeps_rate, may_call, millisecond, move, round, turn}
 use Rattle.jh_test_parts.specs.declared.calls.ValuedCall.{ValuedCall}
@@ -68,30 +68,23 @@ abbrev pub clock_at : Option ℕ → ℕ → ℕ
 clock_at None now = now
 clock_at (Some time) now = clock_after now time
 
--- the completion of the call that its process has open
-abbrev pub is_end_of_call : TestValue → Machine → ℕ → ValuedCall → Operation → Bool
-is_end_of_call t m process call op =
-    (caller_process t m (thread_of_process t process) == process)
-    && (not (is_invoke op.kind)
-    && (is_keyword (request_name call.request) op.f && fits_call t call op.kind op.value))
-
 -- the record of the end of the step that is open, if it is one
 abbrev pub step_ended_by : Option OpenStep → Operation → ℕ → List Recorded
 step_ended_by None op now = []
 step_ended_by (Some step) op now =
     if ends_step step op then StepEnded now step.entry step.code (kept_pairs op) ∷ [] else []
 
--- the record of a completion, if it is one
-abbrev pub ended_by : TestValue → Machine → ℕ → Option ValuedCall → Operation → ℕ → List Recorded
-ended_by t m process None op now = []
-ended_by t m process (Some call) op now =
-    if is_end_of_call t m process call op
-    then Ended now process op.kind call.request op.value (kept_pairs op) ∷ [] else []
+-- the record of the end of a call, if it is one
+abbrev pub ended_by : ℕ → Operation → ℕ → Result Request Complaint → List Recorded
+ended_by process op now (Err why) = []
+ended_by process op now (Ok request) =
+    Ended now process op.kind request op.value (kept_pairs op) ∷ []
 
 abbrev pub heard_from : TestValue → Machine → Operation → ℕ → Process → List Recorded
 heard_from t m op now Process.Nemesis = step_ended_by m.step op now
 heard_from t m op now (Process.Client process) =
-    ended_by t m process (caller_of m (thread_of_process t process)).call op now
+    ended_by process op now
+    (ended_request t m process op (caller_of m (thread_of_process t process)).call)
 
 -- the record of what a line means, if it ends a call or a step
 abbrev pub heard : TestValue → Machine → MeaningValue → List Recorded
@@ -300,24 +293,15 @@ abbrev pub complaint_of_step_end : Option OpenStep → Operation → Option Comp
 complaint_of_step_end None op = Some complaint.NoStepOpen
 complaint_of_step_end (Some step) op = if ends_step step op then None else Some complaint.OtherStep
 
--- why the completion of a call that its process has open is none
-abbrev pub complaint_of_end : TestValue → ValuedCall → Operation → Option Complaint
-complaint_of_end t call op =
-    if is_invoke op.kind || not (is_keyword (request_name call.request) op.f) then Some complaint.OtherCall
-    else if not (fits_call t call op.kind op.value) then Some complaint.BadValue
-    else None
-
-abbrev pub complaint_of_completion : TestValue → Machine → ℕ → Option ValuedCall → Operation
-    → Option Complaint
-complaint_of_completion t m process None op = Some complaint.NoCallOpen
-complaint_of_completion t m process (Some call) op =
-    if caller_process t m (thread_of_process t process) == process then complaint_of_end t call op
-    else Some complaint.NoCallOpen
+-- why no call is ended, if none is
+abbrev pub complaint_of_end : Result Request Complaint → Option Complaint
+complaint_of_end (Ok request) = None
+complaint_of_end (Err why) = Some why
 
 abbrev pub complaint_of_operation : TestValue → Machine → Operation → Process → Option Complaint
 complaint_of_operation t m op Process.Nemesis = complaint_of_step_end m.step op
 complaint_of_operation t m op (Process.Client process) =
-    complaint_of_completion t m process (caller_of m (thread_of_process t process)).call op
+    complaint_of_end (ended_request t m process op (caller_of m (thread_of_process t process)).call)
 
 -- why a line is no reply, if it is none
 abbrev pub complaint_of : TestValue → Machine → MeaningValue → Option Complaint

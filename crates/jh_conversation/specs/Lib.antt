@@ -4,7 +4,6 @@ pub mod Sound
 pub mod Turn
 pub mod TurnInside
 pub mod Lines
-pub mod LinesInside
 pub mod Laws
 pub mod Offered
 pub mod Text

@@ -2,7 +2,7 @@
 -- as another process is jepsen.generator's.
 use Rattle.std.specs.Prelude.{ℕ, ◌+◌, ◌-◌, ◌^◌, ◌==◌, max, min, Bool, true, false, ◌&&◌, ◌||◌, not}
 use Rattle.std.specs.Prelude.{pos, List}
-use Rattle.std.specs.Prelude.{[], set, codes, Option, None, Some}
+use Rattle.std.specs.Prelude.{[], set, codes, Option, None, Some, Result, Ok, Err}
 use Rattle.std.specs.Prelude.{if◌then◌else◌, replicate}
 use Rattle.jh_edn.specs.Edn.{int, is_keyword}
 use Rattle.jh_gen.specs.DriverState.{DriverState, driver_after_end}
@@ -98,20 +98,27 @@ finish t number request op m =
       });
     })
 
-abbrev pub take_end : TestValue → ℕ → ValuedCall → Operation → Option ℕ → Machine → Machine
-take_end t number call op time m =
-    if is_invoke op.kind || not (is_keyword (request_name call.request) op.f) then refuse complaint.OtherCall m
-    else if not (fits_call t call op.kind op.value) then refuse complaint.BadValue m
-    else finish t number call.request op (at_time time m)
+-- The request whose call an operation ends, or why it ends none: the thread of its process has a call open
+-- under this number, whose function it has, and a value that this call can have.
+abbrev pub ended_call : TestValue → ValuedCall → Operation → Result Request Complaint
+ended_call t call op =
+    if is_invoke op.kind || not (is_keyword (request_name call.request) op.f)
+    then Err complaint.OtherCall
+    else if not (fits_call t call op.kind op.value) then Err complaint.BadValue
+    else Ok call.request
 
--- the call of a process, where the thread has it open under this number
-abbrev pub take_completion : TestValue → ℕ → Operation → Option ℕ → Machine → Option ValuedCall
+abbrev pub ended_request : TestValue → Machine → ℕ → Operation → Option ValuedCall
+    → Result Request Complaint
+ended_request t m process op None = Err complaint.NoCallOpen
+ended_request t m process op (Some call) =
+    if caller_process t m (thread_of_process t process) == process then ended_call t call op
+    else Err complaint.NoCallOpen
+
+-- the machine behind an operation of a thread's process, which ends a call or none
+abbrev pub take_completion : TestValue → ℕ → Operation → Option ℕ → Machine → Result Request Complaint
     → Machine
-take_completion t process op time m None = refuse complaint.NoCallOpen m
-take_completion t process op time m (Some call) =
-    if caller_process t m (thread_of_process t process) == process
-    then take_end t (thread_of_process t process) call op time m
-    else refuse complaint.NoCallOpen m
+take_completion t number op time m (Err why) = refuse why m
+take_completion t number op time m (Ok request) = finish t number request op (at_time time m)
 
 -- The ends of steps.
 
@@ -132,7 +139,8 @@ take_step_end op time m (Some step) =
 abbrev pub take_operation : TestValue → Operation → Option ℕ → Process → Machine → Machine
 take_operation t op time Process.Nemesis m = take_step_end op time m m.step
 take_operation t op time (Process.Client process) m =
-    take_completion t process op time m (caller_of m (thread_of_process t process)).call
+    take_completion t (thread_of_process t process) op time m
+    (ended_request t m process op (caller_of m (thread_of_process t process)).call)
 
 abbrev pub take_in : TestValue → MeaningValue → Machine → Machine
 take_in t Nothing m = m

@@ -3,7 +3,6 @@
 ghost use Rattle.std.specs.Prelude.{◌≡◌, ◌<◌, ◌≤◌, ◌^◌, [], IfOk, OnOk, false};
 ghost use Rattle.jh_ops.specs.Operation.{operation};
 ghost use Rattle.jh_conversation.specs.Lines as rule;
-ghost use Rattle.jh_conversation.specs.LinesInside as inside;
 ghost use Rattle.jh_test_parts.specs.LineMeanings.{line_meaning_by};
 ghost use Rattle.jh_conversation.specs.Machine as machine;
 ghost use Rattle.jh_test_parts.specs.Test.{thread_of_process};
@@ -146,7 +145,7 @@ impl Machine {
         op: &Op,
     ) -> Result<Result<Request, Complaint>, AllocError>
         requires { IsSoundMachine test.now self.now }
-        ensures { IfOk result (λ ended. ended ≡ inside.ended_request test.now self.now process
+        ensures { IfOk result (λ ended. ended ≡ rule.ended_request test.now self.now process
             (operation op.now)
             (machine.caller_of self.now (thread_of_process test.now process)).call) }
     {
@@ -182,7 +181,7 @@ impl Machine {
             (λ _. machine.has_no_call (machine.caller_of self.old thread).call ≡ false) }
         requires silent { self.old.said ≡ [] }
         ensures { OnOk result (self.new
-            ≡ inside.after_completion test.now thread (operation op) time self.old ended) }
+            ≡ rule.take_completion test.now thread (operation op) time self.old ended) }
     {
         match ended {
             Err(why) => {
@@ -207,8 +206,10 @@ impl Machine {
     ) -> Result<(), AllocError>
         requires sound { IsSoundMachine test.now self.old }
         requires silent { self.old.said ≡ [] }
-        ensures { OnOk result (self.new ≡ rule.take_completion test.now process (operation op) time
-            self.old (machine.caller_of self.old (thread_of_process test.now process)).call) }
+        ensures { OnOk result (self.new ≡ rule.take_completion test.now
+            (thread_of_process test.now process) (operation op) time self.old
+            (rule.ended_request test.now self.old process (operation op)
+            (machine.caller_of self.old (thread_of_process test.now process)).call)) }
     {
         let ended = self.ended_request(alloc, test, process, &op)?;
         self.take_ended(alloc, test, test.thread_of(process), ended, op, time)

@@ -1,9 +1,9 @@
-use Rattle.std.proofs.Common.{◌≡◌, ◌∙◌, ap₂, sym, subst, OnOk, IfOk, false}
+use Rattle.std.proofs.Common.{◌≡◌, ap₂, sym, subst, OnOk, IfOk, false}
 use Rattle.jh_ops.specs.Operation.{operation}
-use Rattle.jh_conversation.specs.LinesInside.{after_completion, ended_request}
+use Rattle.jh_conversation.specs.Lines.{take_completion}
 use Rattle.jh_test_parts.specs.Test.{thread_of_process}
 use Rattle.jh_conversation.specs.Machine.{caller_of, has_no_call}
-use Rattle.jh_conversation.proofs.LineLemmas.{completion_is, ended_open}
+use Rattle.jh_conversation.proofs.LineLemmas.{ended_open}
 use Rattle.jh_conversation.proofs.machine.Machine.take_completion.Goals as goal
 
 pub take_ended-requires-clause-open : goal.take_ended-requires-clause-open
@@ -20,5 +20,5 @@ returns c =
     let m = c.args.self.now in
     let op = operation c.args.op in
     subst (λ x. OnOk c.take_ended.result (c.take_ended.new.self ≡ x))
-    (ap₂ (λ n e. after_completion t n op c.args.time m e) c.thread_of.ensures.thread c.in_ok-ended.ensures ∙ completion_is t m c.args.process op c.args.time _)
+    (ap₂ (λ n e. take_completion t n op c.args.time m e) c.thread_of.ensures.thread c.in_ok-ended.ensures)
     c.take_ended.ensures
