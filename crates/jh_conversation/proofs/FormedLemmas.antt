@@ -63,9 +63,9 @@ same_thread n t u a b ht hu e =
 
 pub record AreCallers (s : TestValue) (n : ℕ) (callers : List Caller) (crashed : ℕ) (history : List Recorded) : Type 0 where
   pub wide : length callers ≡ n
-  pub low : (t : ℕ) → t < n → (caller callers t).crashes ≤ crashed
-  pub stands : (t : ℕ) → t < n → status (t + n * (caller callers t).crashes) history ≡ shown (caller callers t).call
-  pub later : (t life : ℕ) → t < n → (caller callers t).crashes < life → status (t + n * life) history ≡ Idle
+  pub low : (t : ℕ) → t < n → (caller callers t).used_numbers ≤ crashed
+  pub stands : (t : ℕ) → t < n → status (t + n * (caller callers t).used_numbers) history ≡ shown (caller callers t).call
+  pub later : (t life : ℕ) → t < n → (caller callers t).used_numbers < life → status (t + n * life) history ≡ Idle
   pub formed : IsFormed s history
 
 other : (q p : ℕ) (st x : Status) → q ≢ p → (if q == p then st else x) ≡ x
@@ -80,8 +80,8 @@ IsNews q st past next = (p : ℕ) → status p next ≡ (if q == p then st else 
 
 -- a thread's caller changes with a record of its process
 callers_next : (s : TestValue) (n : ℕ) (callers : List Caller) (crashed most : ℕ) (past next : List Recorded) (t : ℕ) (w : Caller) (st : Status) → AreCallers s n callers crashed past → t < n
-    → IsNews (t + n * (caller callers t).crashes) st past next → IsFormed s next
-    → (caller callers t).crashes ≤ w.crashes → crashed ≤ most → w.crashes ≤ most → ((caller callers t).crashes ≡ w.crashes → st ≡ shown w.call) → ((caller callers t).crashes < w.crashes → shown w.call ≡ Idle)
+    → IsNews (t + n * (caller callers t).used_numbers) st past next → IsFormed s next
+    → (caller callers t).used_numbers ≤ w.used_numbers → crashed ≤ most → w.used_numbers ≤ most → ((caller callers t).used_numbers ≡ w.used_numbers → st ≡ shown w.call) → ((caller callers t).used_numbers < w.used_numbers → shown w.call ≡ Idle)
     → AreCallers s n (set callers t w) most next
 callers_next s n callers crashed most past next t w st h within news formed up most_up top same anew = record {
   wide = length-set callers t w ∙ h.wide;
@@ -100,32 +100,32 @@ callers_next s n callers crashed most past next t w st h within news formed up m
     there : (u : ℕ) → u ≢ t → caller (set callers t w) u ≡ caller callers u
     there u ne = get_or-set_other callers t u w no_caller ne
 
-    low_at : (u : ℕ) → u < n → (u ≡ t) ⊎ (u ≡ t → ⊥) → (caller (set callers t w) u).crashes ≤ most
-    low_at u hu (inl e) = subst (λ (x : Caller). x.crashes ≤ most) (sym (here u e)) top
-    low_at u hu (inr ne) = let k = h.low u hu in subst (λ (x : Caller). x.crashes ≤ most) (sym (there u ne)) (omega arith)
+    low_at : (u : ℕ) → u < n → (u ≡ t) ⊎ (u ≡ t → ⊥) → (caller (set callers t w) u).used_numbers ≤ most
+    low_at u hu (inl e) = subst (λ (x : Caller). x.used_numbers ≤ most) (sym (here u e)) top
+    low_at u hu (inr ne) = let k = h.low u hu in subst (λ (x : Caller). x.used_numbers ≤ most) (sym (there u ne)) (omega arith)
 
-    own : (w.crashes ≡ (caller callers t).crashes) ⊎ (w.crashes ≡ (caller callers t).crashes → ⊥) → status (t + n * w.crashes) next ≡ shown w.call
-    own (inl e) = news (t + n * w.crashes) ∙ this _ _ st _ (ap (λ l. t + n * l) (sym e)) ∙ same (sym e)
+    own : (w.used_numbers ≡ (caller callers t).used_numbers) ⊎ (w.used_numbers ≡ (caller callers t).used_numbers → ⊥) → status (t + n * w.used_numbers) next ≡ shown w.call
+    own (inl e) = news (t + n * w.used_numbers) ∙ this _ _ st _ (ap (λ l. t + n * l) (sym e)) ∙ same (sym e)
     own (inr ne) =
-        let less : (caller callers t).crashes < w.crashes = omega arith in
-        news (t + n * w.crashes) ∙ other _ _ st _ (λ e. ne (sym (same_life n t t _ _ within within e))) ∙ h.later t w.crashes within less ∙ sym (anew less)
+        let less : (caller callers t).used_numbers < w.used_numbers = omega arith in
+        news (t + n * w.used_numbers) ∙ other _ _ st _ (λ e. ne (sym (same_life n t t _ _ within within e))) ∙ h.later t w.used_numbers within less ∙ sym (anew less)
 
-    stands_at : (u : ℕ) → u < n → (u ≡ t) ⊎ (u ≡ t → ⊥) → status (u + n * (caller (set callers t w) u).crashes) next ≡ shown (caller (set callers t w) u).call
+    stands_at : (u : ℕ) → u < n → (u ≡ t) ⊎ (u ≡ t → ⊥) → status (u + n * (caller (set callers t w) u).used_numbers) next ≡ shown (caller (set callers t w) u).call
     stands_at u hu (inl e) =
-        subst (λ (x : Caller). status (u + n * x.crashes) next ≡ shown x.call) (sym (here u e))
-        (subst (λ v. status (v + n * w.crashes) next ≡ shown w.call) (sym e) (own (cases_eq _ _)))
+        subst (λ (x : Caller). status (u + n * x.used_numbers) next ≡ shown x.call) (sym (here u e))
+        (subst (λ v. status (v + n * w.used_numbers) next ≡ shown w.call) (sym e) (own (cases_eq _ _)))
     stands_at u hu (inr ne) =
-        subst (λ (x : Caller). status (u + n * x.crashes) next ≡ shown x.call) (sym (there u ne))
-        (news (u + n * (caller callers u).crashes) ∙ other _ _ st _ (λ e. ne (sym (same_thread n t u _ _ within hu e))) ∙ h.stands u hu)
+        subst (λ (x : Caller). status (u + n * x.used_numbers) next ≡ shown x.call) (sym (there u ne))
+        (news (u + n * (caller callers u).used_numbers) ∙ other _ _ st _ (λ e. ne (sym (same_thread n t u _ _ within hu e))) ∙ h.stands u hu)
 
-    later_at : (u life : ℕ) → u < n → (u ≡ t) ⊎ (u ≡ t → ⊥) → (caller (set callers t w) u).crashes < life → status (u + n * life) next ≡ Idle
+    later_at : (u life : ℕ) → u < n → (u ≡ t) ⊎ (u ≡ t → ⊥) → (caller (set callers t w) u).used_numbers < life → status (u + n * life) next ≡ Idle
     later_at u life hu (inl e) less =
-        let beyond : w.crashes < life = subst (λ (x : Caller). x.crashes < life) (here u e) less in
-        news (u + n * life) ∙ other _ _ st _ (λ f. let k = same_life n t u _ _ within hu f in let j : (caller callers t).crashes ≡ life = k in absurd (omega arith))
-        ∙ h.later u life hu (subst (λ v. (caller callers v).crashes < life) (sym e) (omega arith))
+        let beyond : w.used_numbers < life = subst (λ (x : Caller). x.used_numbers < life) (here u e) less in
+        news (u + n * life) ∙ other _ _ st _ (λ f. let k = same_life n t u _ _ within hu f in let j : (caller callers t).used_numbers ≡ life = k in absurd (omega arith))
+        ∙ h.later u life hu (subst (λ v. (caller callers v).used_numbers < life) (sym e) (omega arith))
     later_at u life hu (inr ne) less =
         news (u + n * life) ∙ other _ _ st _ (λ f. ne (sym (same_thread n t u _ _ within hu f)))
-        ∙ h.later u life hu (subst (λ (x : Caller). x.crashes < life) (there u ne) less)
+        ∙ h.later u life hu (subst (λ (x : Caller). x.used_numbers < life) (there u ne) less)
 
 pub in_callers : (callers : List Caller) (t : ℕ) (call : ValuedCall) → (caller callers t).call ≡ Some call → t < length callers
 in_callers [] t call e = absurd (cc e)
@@ -144,24 +144,24 @@ free_at (x ∷ callers) e (suc t) = free_at callers (and_parts _ _ e).1 t
 pub long_new : (n life : ℕ) → length (new_callers n life) ≡ n
 long_new n life = length-replicate n _
 
-pub new_at : (n life t : ℕ) → t < n → caller (new_callers n life) t ≡ record { crashes = life; call = None }
+pub new_at : (n life t : ℕ) → t < n → caller (new_callers n life) t ≡ record { used_numbers = life; call = None }
 new_at n life t h = get_or-replicate n t _ no_caller h
 
 -- all begin anew, as processes that never were, or went on
 callers_anew : (s : TestValue) (n : ℕ) (callers : List Caller) (crashed : ℕ) (past : List Recorded) → AreCallers s n callers crashed past → are_free callers ≡ true → AreCallers s n (new_callers n crashed) crashed past
 callers_anew s n callers crashed past h free = record {
   wide = long_new n crashed;
-  low = λ t ht. subst (λ (x : Caller). x.crashes ≤ crashed) (sym (new_at n crashed t ht)) (omega arith);
-  stands = λ t ht. subst (λ (x : Caller). status (t + n * x.crashes) past ≡ shown x.call) (sym (new_at n crashed t ht)) (idle t ht (cases_lt _ _));
-  later = λ t life ht less. let beyond : crashed < life = subst (λ (x : Caller). x.crashes < life) (new_at n crashed t ht) less in let k = h.low t ht in h.later t life ht (omega arith);
+  low = λ t ht. subst (λ (x : Caller). x.used_numbers ≤ crashed) (sym (new_at n crashed t ht)) (omega arith);
+  stands = λ t ht. subst (λ (x : Caller). status (t + n * x.used_numbers) past ≡ shown x.call) (sym (new_at n crashed t ht)) (idle t ht (cases_lt _ _));
+  later = λ t life ht less. let beyond : crashed < life = subst (λ (x : Caller). x.used_numbers < life) (new_at n crashed t ht) less in let k = h.low t ht in h.later t life ht (omega arith);
   formed = h.formed;
 }
   where
-    idle : (t : ℕ) → t < n → ((caller callers t).crashes < crashed) ⊎ (crashed ≤ (caller callers t).crashes) → status (t + n * crashed) past ≡ Idle
+    idle : (t : ℕ) → t < n → ((caller callers t).used_numbers < crashed) ⊎ (crashed ≤ (caller callers t).used_numbers) → status (t + n * crashed) past ≡ Idle
     idle t ht (inl less) = h.later t crashed ht less
     idle t ht (inr ge) =
         let k = h.low t ht in
-        let e : crashed ≡ (caller callers t).crashes = omega arith in
+        let e : crashed ≡ (caller callers t).used_numbers = omega arith in
         ap (λ l. status (t + n * l) past) e ∙ h.stands t ht ∙ ap shown (free_at callers free t)
 
 abbrev pub Holds : TestValue → Machine → Type 0
@@ -185,7 +185,7 @@ holds_in_turn s = record {
     invokes = λ m thread request within idle may h.
         let call = call_made s m thread request in (
           callers_next s s.clients m.callers m.crashed m.crashed m.history (Invoked m.clock (caller_process s m thread) (node_of_thread s thread) call ∷ m.history) thread
-              (record { crashes = (caller_of m thread).crashes; call = Some call }) (Busy call) h.0 within
+              (record { used_numbers = (caller_of m thread).used_numbers; call = Some call }) (Busy call) h.0 within
               (λ p. refl) (h.0.stands thread within ∙ ap shown idle, h.0.formed) (omega arith) (omega arith) (h.0.low thread within) (λ _. refl) (λ less. absurd (omega arith)),
           (λ b. absurd (none_between s m.phase m.stops m.given m.clock (and_parts _ _ may).1 b)),
         );
@@ -212,9 +212,9 @@ holds_by_line s = record {
       let within : thread < s.clients = let k = in_callers m.callers thread call is in omega (arith, h.0.wide) in (
         callers_next s s.clients m.callers m.crashed (m.crashed + more_crashes op.kind) m.history
             (Ended m.clock (caller_process s m thread) op.kind call.request op.value (kept_pairs op) ∷ m.history) thread
-            (record { crashes = (caller_of m thread).crashes + more_crashes op.kind; call = None }) (after_end op.kind) h.0 within
+            (record { used_numbers = (caller_of m thread).used_numbers + more_crashes op.kind; call = None }) (after_end op.kind) h.0 within
             (λ p. refl) (ends _ call op.kind op.value (h.0.stands thread within ∙ ap shown is) (no, refl, fits), h.0.formed) (omega arith) (omega arith) (let k = h.0.low thread within in omega arith)
-            (ended op.kind (caller_of m thread).crashes) (λ _. refl),
+            (ended op.kind (caller_of m thread).used_numbers) (λ _. refl),
         (λ b. absurd (none-some _ call (free_at m.callers (h.1 b) thread) is)),
       );
 }
@@ -232,7 +232,7 @@ pub holds_at_first : (s : TestValue) (d : Drivers s) → Holds s (at_first s d.f
 holds_at_first s d = (
   record {
     wide = long_new s.clients 0;
-    low = λ t ht. subst (λ (x : Caller). x.crashes ≤ 0) (sym (new_at s.clients 0 t ht)) (omega arith);
+    low = λ t ht. subst (λ (x : Caller). x.used_numbers ≤ 0) (sym (new_at s.clients 0 t ht)) (omega arith);
     stands = λ t ht. subst (λ (x : Caller). Idle ≡ shown x.call) (sym (new_at s.clients 0 t ht)) refl;
     later = λ t life ht less. refl;
     formed = tt;

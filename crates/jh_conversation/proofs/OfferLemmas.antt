@@ -28,8 +28,8 @@ use Rattle.jh_conversation.proofs.KeptLemmas.{IsKeptByLine, IsKeptInTurn, kept_r
 use Rattle.jh_test_parts.specs.Test.{TestValue}
 
 -- the thread of a process of its own
-pub thread_is : (n threads crashes : ℕ) → n < threads → (n + threads * crashes) % threads ≡ n
-thread_is n threads crashes within = add-mul-mod_self_left n threads crashes ∙ mod-eq_of_lt within
+pub thread_is : (n threads used_numbers : ℕ) → n < threads → (n + threads * used_numbers) % threads ≡ n
+thread_is n threads used_numbers within = add-mul-mod_self_left n threads used_numbers ∙ mod-eq_of_lt within
 
 no_final : (t : TestValue) (o : Option Generator) → AreFinalCalls t o []
 no_final t None = refl
@@ -139,7 +139,7 @@ module _ (asked_answers : AskedAnswers) (end_keeps : EndKeepsGenerator) (t : Tes
   answer_offers m n within unspent Done h = h
   answer_offers m n within unspent (Call p (call.Client request)) h =
       let calls = given_calls t m.history in
-      let own : (n + t.clients * (caller_of m n).crashes) % t.clients ≡ n = thread_is n t.clients (caller_of m n).crashes within in (
+      let own : (n + t.clients * (caller_of m n).used_numbers) % t.clients ≡ n = thread_is n t.clients (caller_of m n).used_numbers within in (
         h.0,
         subst (λ k. Part m.phase m.has_spent m.driver m.last ((k, request) ∷ calls)) (sym own)
             (subst (λ b. Part m.phase b m.driver m.last ((n, request) ∷ calls)) (sym unspent) h.1),

@@ -45,12 +45,12 @@ few_free [] = omega arith
 few_free (x ∷ callers) = let h = few_free callers in elim (has_no_call x.call) as (λ b. (if b then suc (free_callers callers) else free_callers callers) ≤ suc (length callers)) [ true ↦ omega arith | false ↦ omega arith ]
 
 caller_taken : (callers : List Caller) (t : ℕ) (call : ValuedCall) (life : ℕ) → t < length callers → (get_or callers t no_caller).call ≡ None
-    → suc (free_callers (set callers t (record { crashes = life; call = Some call }))) ≡ free_callers callers
+    → suc (free_callers (set callers t (record { used_numbers = life; call = Some call }))) ≡ free_callers callers
 caller_taken [] t call life h e = absurd (omega arith)
 caller_taken (x ∷ callers) zero call life h e = sym (ap (λ c. if has_no_call c then suc (free_callers callers) else free_callers callers) e)
 caller_taken (x ∷ callers) (suc t) call life h e =
     let rest = caller_taken callers t call life (omega arith) e in
-    elim (has_no_call x.call) as (λ b. suc ((if b then suc (free_callers (set callers t (record { crashes = life; call = Some call }))) else free_callers (set callers t (record { crashes = life; call = Some call }))))
+    elim (has_no_call x.call) as (λ b. suc ((if b then suc (free_callers (set callers t (record { used_numbers = life; call = Some call }))) else free_callers (set callers t (record { used_numbers = life; call = Some call }))))
     ≡ (if b then suc (free_callers callers) else free_callers callers)) [ true ↦ ap suc rest | false ↦ rest ]
 
 -- calls given and free callers are so many together, and no fewer calls than before were given
@@ -64,7 +64,7 @@ trades_by_calls s total before = by_answers _ _ (record {
   asks = λ m d w h. h;
   spends = λ m h. h;
   invokes = λ m thread request within idle may h.
-      let taken = caller_taken m.callers thread (call_made s m thread request) (caller_of m thread).crashes (omega (arith, h.wide)) idle in
+      let taken = caller_taken m.callers thread (call_made s m thread request) (caller_of m thread).used_numbers (omega (arith, h.wide)) idle in
       record { all = omega (arith, h.all, taken); more = omega (arith, h.more); wide = length-set m.callers thread _ ∙ h.wide };
 })
 

@@ -123,50 +123,50 @@ tied_next clients d e spent callers t w b h within same set_is calls free = reco
 tied_spent : (clients : ℕ) (d : DriverState) (spent : Bool) (callers : List Caller) → IsTied clients d spent callers → IsTied clients d true callers
 tied_spent clients d spent callers h = record { clients_is = h.clients_is; long = h.long; wide = h.wide; busy = h.busy; idle = λ e. absurd (true≢false e) }
 
-tied_fresh : (clients : ℕ) (d : DriverState) (crashes : ℕ) → IsFresh d clients → IsTied clients d false (new_callers clients crashes)
-tied_fresh clients d crashes h = record {
+tied_fresh : (clients : ℕ) (d : DriverState) (used_numbers : ℕ) → IsFresh d clients → IsTied clients d false (new_callers clients used_numbers)
+tied_fresh clients d used_numbers h = record {
   clients_is = h.clients_is;
   long = ap length h.idle ∙ length-replicate (clients + 1) false;
-  wide = long_new clients crashes;
-  busy = λ k hk is. absurd (false≢true (sym is ∙ ap (λ (x : Caller). has_no_call x.call) (new_at clients crashes k hk)));
+  wide = long_new clients used_numbers;
+  busy = λ k hk is. absurd (false≢true (sym is ∙ ap (λ (x : Caller). has_no_call x.call) (new_at clients used_numbers k hk)));
   idle = λ _ k hk is. ap (λ l. slice_index_or l (k + 1) false) h.idle ∙ get_or-replicate (clients + 1) (k + 1) false false (omega arith);
 }
 
 -- open calls are counted
 
 open_more : (callers : List Caller) (t life : ℕ) (c : ValuedCall) → t < length callers → is_idle callers t ≡ true
-    → open_calls (set callers t (record { crashes = life; call = Some c })) ≡ suc (open_calls callers)
+    → open_calls (set callers t (record { used_numbers = life; call = Some c })) ≡ suc (open_calls callers)
 open_more [] t life c h e = absurd (omega arith)
 open_more (x ∷ callers) zero life c h e = ap suc (sym (ap (λ b. if b then open_calls callers else suc (open_calls callers)) e))
 open_more (x ∷ callers) (suc t) life c h e =
     let rest = open_more callers t life c (omega arith) e in
-    elim (has_no_call x.call) as (λ b. (if b then open_calls (set callers t (record { crashes = life; call = Some c })) else suc (open_calls (set callers t (record { crashes = life; call = Some c }))))
+    elim (has_no_call x.call) as (λ b. (if b then open_calls (set callers t (record { used_numbers = life; call = Some c })) else suc (open_calls (set callers t (record { used_numbers = life; call = Some c }))))
     ≡ suc (if b then open_calls callers else suc (open_calls callers))) [ true ↦ rest | false ↦ ap suc rest ]
 
 open_fewer : (callers : List Caller) (t life : ℕ) → t < length callers → is_idle callers t ≡ false
-    → suc (open_calls (set callers t (record { crashes = life; call = None }))) ≡ open_calls callers
+    → suc (open_calls (set callers t (record { used_numbers = life; call = None }))) ≡ open_calls callers
 open_fewer [] t life h e = absurd (omega arith)
 open_fewer (x ∷ callers) zero life h e = sym (ap (λ b. if b then open_calls callers else suc (open_calls callers)) e)
 open_fewer (x ∷ callers) (suc t) life h e =
     let rest = open_fewer callers t life (omega arith) e in
-    elim (has_no_call x.call) as (λ b. suc (if b then open_calls (set callers t (record { crashes = life; call = None })) else suc (open_calls (set callers t (record { crashes = life; call = None }))))
+    elim (has_no_call x.call) as (λ b. suc (if b then open_calls (set callers t (record { used_numbers = life; call = None })) else suc (open_calls (set callers t (record { used_numbers = life; call = None }))))
     ≡ (if b then open_calls callers else suc (open_calls callers))) [ true ↦ rest | false ↦ ap suc rest ]
 
 open_none : (callers : List Caller) → are_free callers ≡ true → open_calls callers ≡ 0
 open_none [] e = refl
 open_none (x ∷ callers) e = let both = and_parts (has_no_call x.call) (are_free callers) e in ap (λ b. if b then open_calls callers else suc (open_calls callers)) both.0 ∙ open_none callers both.1
 
-open_new : (n crashes : ℕ) → open_calls (new_callers n crashes) ≡ 0
-open_new zero crashes = refl
-open_new (suc n) crashes = open_new n crashes
+open_new : (n used_numbers : ℕ) → open_calls (new_callers n used_numbers) ≡ 0
+open_new zero used_numbers = refl
+open_new (suc n) used_numbers = open_new n used_numbers
 
-crashes_next : (clients : ℕ) (callers : List Caller) (crashed most t : ℕ) (w : Caller) → ((k : ℕ) → k < clients → (get_or callers k no_caller).crashes ≤ crashed) → t < length callers
-    → crashed ≤ most → w.crashes ≤ most → (k : ℕ) → k < clients → (get_or (set callers t w) k no_caller).crashes ≤ most
+crashes_next : (clients : ℕ) (callers : List Caller) (crashed most t : ℕ) (w : Caller) → ((k : ℕ) → k < clients → (get_or callers k no_caller).used_numbers ≤ crashed) → t < length callers
+    → crashed ≤ most → w.used_numbers ≤ most → (k : ℕ) → k < clients → (get_or (set callers t w) k no_caller).used_numbers ≤ most
 crashes_next clients callers crashed most t w h within less top k hk = go (cases_eq k t)
   where
-    go : (k ≡ t) ⊎ (k ≡ t → ⊥) → (get_or (set callers t w) k no_caller).crashes ≤ most
-    go (inl is) = subst (λ (x : Caller). x.crashes ≤ most) (sym (ap (λ j. get_or (set callers t w) j no_caller) is ∙ here callers t w within)) top
-    go (inr ne) = let low = h k hk in subst (λ (x : Caller). x.crashes ≤ most) (sym (there callers t k w ne)) (omega arith)
+    go : (k ≡ t) ⊎ (k ≡ t → ⊥) → (get_or (set callers t w) k no_caller).used_numbers ≤ most
+    go (inl is) = subst (λ (x : Caller). x.used_numbers ≤ most) (sym (ap (λ j. get_or (set callers t w) j no_caller) is ∙ here callers t w within)) top
+    go (inr ne) = let low = h k hk in subst (λ (x : Caller). x.used_numbers ≤ most) (sym (there callers t k w ne)) (omega arith)
 
 -- the calls of groups
 
@@ -212,20 +212,20 @@ all_given Over d given h = let a = h.0 in let b = h.1 in omega (arith, a, b)
 pub small_counts : (t : TestValue) (m : Machine) → IsSoundMachine t m → HasSmallCounts t m
 small_counts t m h = record {
   wide = h.0.wide;
-  crashes = λ k hk. let low = h.2.each k hk in let few = h.2.few in let all = h.2.all in let given = all_given m.phase m.driver m.given h.1 in omega (arith, low, few, all, given);
+  used_numbers = λ k hk. let low = h.2.each k hk in let few = h.2.few in let all = h.2.all in let given = all_given m.phase m.driver m.given h.1 in omega (arith, low, few, all, given);
   given = all_given m.phase m.driver m.given h.1;
   groups = h.3;
 }
 
 -- also behind an answer of the driver
 pub small_counts_asked : (t : TestValue) (m : Machine) (d : DriverState) (random_numbers : Lcg) → HasSmallCounts t m → HasSmallCounts t (record m { driver = d; random_numbers = random_numbers })
-small_counts_asked t m d random_numbers h = record { wide = h.wide; crashes = h.crashes; given = h.given; groups = h.groups }
+small_counts_asked t m d random_numbers h = record { wide = h.wide; used_numbers = h.used_numbers; given = h.given; groups = h.groups }
 
 pub small_process : (t : TestValue) (m : Machine) (thread : ℕ) → IsFitTest t → HasSmallCounts t m → thread < t.clients → caller_process t m thread < 2 ^ 26
 small_process t m thread fit h within =
-    let crashes : (get_or m.callers thread no_caller).crashes ≤ 2000000 = h.crashes thread within in
+    let used_numbers : (get_or m.callers thread no_caller).used_numbers ≤ 2000000 = h.used_numbers thread within in
     let few : t.clients ≤ 16 = fit.clients.1 in
-    let product : t.clients * (get_or m.callers thread no_caller).crashes ≤ 16 * 2000000 = mul-le-mul few crashes in
+    let product : t.clients * (get_or m.callers thread no_caller).used_numbers ≤ 16 * 2000000 = mul-le-mul few used_numbers in
     omega (arith, few, within, product)
 
 small_code : (a : StepAnswer) → code_of a < 2 ^ 63
@@ -313,15 +313,15 @@ module _ (t : TestValue) (fit : IsFitTest t) (m : Machine) (n : ℕ) (random_num
       → IsSoundMachine t (invoke t n request (record m { driver = e; random_numbers = random_numbers }))
   sound_called e request g =
       let made = call_made t m n request in
-      let crashes = (get_or m.callers n no_caller).crashes in
+      let used_numbers = (get_or m.callers n no_caller).used_numbers in
       let low = h.2.each n within in
       let inside : n < length m.callers = let wide = h.0.wide in omega (arith, wide, within) in (
-        tied_next t.clients m.driver e m.has_spent m.callers n (record { crashes = crashes; call = Some made }) true h.0 within g.0 g.2 (λ _. refl) (λ b. absurd (false≢true b)),
+        tied_next t.clients m.driver e m.has_spent m.callers n (record { used_numbers = used_numbers; call = Some made }) true h.0 within g.0 g.2 (λ _. refl) (λ b. absurd (false≢true b)),
         (let a = h.1.0 in let b = g.1 in omega (arith, a, b), let a = g.1 in let b = g.3 in omega (arith, a, b)),
         record {
-          all = (let more = open_more m.callers n crashes made inside idle in let all = h.2.all in omega (arith, more, all));
+          all = (let more = open_more m.callers n used_numbers made inside idle in let all = h.2.all in omega (arith, more, all));
           few = h.2.few;
-          each = crashes_next t.clients m.callers m.crashed m.crashed n (record { crashes = crashes; call = Some made }) h.2.each inside (omega arith) low;
+          each = crashes_next t.clients m.callers m.crashed m.crashed n (record { used_numbers = used_numbers; call = Some made }) h.2.each inside (omega arith) low;
         },
         groups_next t.clients m.given m.calls_by_group t.keys n h.3,
         (λ b. absurd (none_between t m.phase m.stops m.given m.clock (and_parts _ _ may).1 b)),
@@ -414,7 +414,7 @@ sound_in_turn t fit = record {
         record {
           all = (let old = open_none m.callers free in let new = open_new t.clients m.crashed in let all = h.2.all in omega (arith, old, new, all));
           few = h.2.few;
-          each = λ k hk. subst (λ (x : Caller). x.crashes ≤ m.crashed) (sym (new_at t.clients m.crashed k hk)) (omega arith);
+          each = λ k hk. subst (λ (x : Caller). x.used_numbers ≤ m.crashed) (sym (new_at t.clients m.crashed k hk)) (omega arith);
         },
         h.3,
         (λ b. absurd b),
@@ -453,12 +453,12 @@ sound_by_line t fit = record {
       let inside = in_callers m.callers n c is in
       let within : n < t.clients = let wide = h.0.wide in omega (arith, wide, inside) in
       let busy : is_idle m.callers n ≡ false = ap has_no_call is in
-      let next : Caller = record { crashes = (get_or m.callers n no_caller).crashes + more_crashes op.kind; call = None } in
+      let next : Caller = record { used_numbers = (get_or m.callers n no_caller).used_numbers + more_crashes op.kind; call = None } in
       let low = h.2.each n within in (
         tied_next t.clients m.driver (driver_after_end m.driver (thread.Client n) (ended_as op.kind)) m.has_spent m.callers n next false h.0 within refl refl (λ e. absurd (true≢false e)) (λ _. refl),
         h.1,
         record {
-          all = (let fewer = open_fewer m.callers n ((get_or m.callers n no_caller).crashes + more_crashes op.kind) inside busy in let all = h.2.all in omega (arith, fewer, all));
+          all = (let fewer = open_fewer m.callers n ((get_or m.callers n no_caller).used_numbers + more_crashes op.kind) inside busy in let all = h.2.all in omega (arith, fewer, all));
           few = (let few = h.2.few in let one = few_crashes op.kind in omega (arith, few, one));
           each = crashes_next t.clients m.callers m.crashed (m.crashed + more_crashes op.kind) n next h.2.each inside (omega arith) (omega (arith, low));
         },
@@ -497,7 +497,7 @@ sound_at_first t d =
       record {
         all = (let e = open_new t.clients 0 in omega (arith, e));
         few = omega arith;
-        each = λ k hk. subst (λ (x : Caller). x.crashes ≤ 0) (sym (new_at t.clients 0 k hk)) (omega arith);
+        each = λ k hk. subst (λ (x : Caller). x.used_numbers ≤ 0) (sym (new_at t.clients 0 k hk)) (omega arith);
       },
       record { long = length-replicate t.clients 0; each = λ k. none_given t.clients k },
       (λ b. absurd b),

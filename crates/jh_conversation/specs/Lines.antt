@@ -93,7 +93,7 @@ finish t number request op m =
       answered = m.answered + 1;
       crashed = m.crashed + more_crashes op.kind;
       callers = set m.callers number (record {
-        crashes = (caller_of m number).crashes + more_crashes op.kind;
+        used_numbers = (caller_of m number).used_numbers + more_crashes op.kind;
         call = None;
       });
     })

@@ -47,15 +47,15 @@ pub record Machine : Type 0 where
   pub said : List Recorded
 
 abbrev pub no_caller : Caller
-no_caller = record { crashes = 0; call = None }
+no_caller = record { used_numbers = 0; call = None }
 
 abbrev pub caller_of : Machine → ℕ → Caller
 caller_of m thread = get_or m.callers thread no_caller
 
--- The process of a thread: the thread's number at first, and greater by the number of threads after
--- each crash (jepsen.generator).
+-- The process of a thread: the thread's number at first, and greater by the number of threads for each
+-- number that is used up; a crash uses up one (jepsen.generator).
 abbrev pub caller_process : TestValue → Machine → ℕ → ℕ
-caller_process t m thread = thread + t.clients * (caller_of m thread).crashes
+caller_process t m thread = thread + t.clients * (caller_of m thread).used_numbers
 
 abbrev pub has_no_call : Option ValuedCall → Bool
 has_no_call None = true
@@ -65,9 +65,9 @@ has_no_call (Some call) = false
 abbrev pub are_free : List Caller → Bool
 are_free callers = list_all (λ caller. has_no_call caller.call) callers
 
--- so many threads, each of whose processes have crashed so often
+-- so many threads, each of which has used up so many numbers of processes
 abbrev pub new_callers : ℕ → ℕ → List Caller
-new_callers n crashes = replicate n (record { crashes = crashes; call = None })
+new_callers n used_numbers = replicate n (record { used_numbers = used_numbers; call = None })
 
 -- a record that is written belongs to the history too
 abbrev pub say : Recorded → Machine → Machine

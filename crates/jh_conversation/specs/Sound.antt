@@ -49,7 +49,7 @@ earlier_calls _ = 0
 pub record AreCounted (clients given answered crashed : ℕ) (callers : List Caller) : Type 0 where
   pub all : answered + open_calls callers ≡ given
   pub few : crashed ≤ answered
-  pub each : (k : ℕ) → k < clients → (get_or callers k no_caller).crashes ≤ crashed
+  pub each : (k : ℕ) → k < clients → (get_or callers k no_caller).used_numbers ≤ crashed
 
 -- Each group of threads was given no more calls than all.
 pub record AreGroups (clients given : ℕ) (groups : List ℕ) : Type 0 where
@@ -98,6 +98,6 @@ IsSoundMachine t m =
 -- what keeps the numbers of a new call small
 pub record HasSmallCounts (t : TestValue) (m : Machine) : Type 0 where
   pub wide : length m.callers ≡ t.clients
-  pub crashes : (k : ℕ) → k < t.clients → (get_or m.callers k no_caller).crashes ≤ 2 * max_calls
+  pub used_numbers : (k : ℕ) → k < t.clients → (get_or m.callers k no_caller).used_numbers ≤ 2 * max_calls
   pub given : m.given ≤ 2 * max_calls
   pub groups : AreGroups t.clients m.given m.calls_by_group

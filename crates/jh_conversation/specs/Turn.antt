@@ -168,7 +168,7 @@ invoke t thread request m =
       given = m.given + 1;
       transactions = source_after m.transactions request;
       calls_by_group = counts_after t.keys thread m.calls_by_group;
-      callers = set m.callers thread (record { crashes = (caller_of m thread).crashes; call = Some call });
+      callers = set m.callers thread (record { used_numbers = (caller_of m thread).used_numbers; call = Some call });
     })
 
 -- what a thread's answer makes of the machine; a generator of clients gives no step of the nemesis, and one
@@ -223,7 +223,8 @@ rest m = record m { phase = Rest; rest_began = m.clock }
 abbrev pub end : Machine → Machine
 end m = record m { phase = Over }
 
--- the driver of *final*, and all threads with processes that were never there or have not crashed
+-- the driver of *final*, and all threads anew: each has used up as many numbers as processes have crashed,
+-- so none goes on as a process that crashed
 abbrev pub final : TestValue → DriverState → Machine → Machine
 final t driver m = record m {
   phase = Final;

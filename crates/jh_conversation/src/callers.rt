@@ -2,10 +2,11 @@
 
 use jh_test_parts::ValuedCall;
 
-/// A thread: how many of its processes have crashed, and the call that it has open.
+/// A thread: how many numbers of processes it has used up, and the call that it has open. A crash uses
+/// up one, and in *final* each thread begins with as many as processes have crashed in *main*.
 #[derive(Debug, Drop)]
 pub struct Caller {
-    pub crashes: u64,
+    pub used_numbers: u64,
     pub call: Option<ValuedCall>,
 }
 

@@ -85,18 +85,18 @@ pub(crate) fn has_no_call(call: &Option<ValuedCall>) -> bool
     }
 }
 
-/// So many threads that have no call open, each of whose processes have crashed so often.
+/// So many threads that have no call open, each of which has used up so many numbers of processes.
 pub(crate) fn new_callers(
     alloc: Global,
     count: u32,
-    crashes: u64,
+    used_numbers: u64,
 ) -> Result<Vec<Caller>, AllocError>
-    ensures { IfOk result (λ callers. callers.items ≡ rule.new_callers count crashes) }
+    ensures { IfOk result (λ callers. callers.items ≡ rule.new_callers count used_numbers) }
 {
     let mut callers = Vec::new(alloc);
     for _thread in 0..count {
         callers.push(Caller {
-            crashes,
+            used_numbers,
             call: None,
         })?;
     }
@@ -172,7 +172,7 @@ impl Machine {
         requires within { thread < test.now.clients }
         ensures process { result ≡ rule.caller_process test.now self.now thread }
     {
-        let crashes = self.callers[thread as usize].crashes;
-        u64::from(thread) + u64::from(test.clients()) * crashes
+        let used_numbers = self.callers[thread as usize].used_numbers;
+        u64::from(thread) + u64::from(test.clients()) * used_numbers
     }
 }

@@ -118,11 +118,11 @@ impl Machine {
             Err(_) => unreachable!(),
         }
         let more = more_crashes(kind);
-        let crashes = self.callers[thread as usize].crashes + more;
+        let used_numbers = self.callers[thread as usize].used_numbers + more;
         self.answered += 1;
         self.crashed += more;
         self.callers[thread as usize] = Caller {
-            crashes,
+            used_numbers,
             call: None,
         };
         let value = Datum::of(value);

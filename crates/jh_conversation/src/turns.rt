@@ -303,11 +303,11 @@ impl Machine {
         let call = self.asked_with(alloc, test, thread, request, value)?;
         let kept = call.copy(alloc)?;
         let process = self.process_of(test, thread);
-        let crashes = self.callers[thread as usize].crashes;
+        let used_numbers = self.callers[thread as usize].used_numbers;
         self.count_call(test, thread);
         self.given += 1;
         self.callers[thread as usize] = Caller {
-            crashes,
+            used_numbers,
             call: Some(call),
         };
         let node = test.node_of(thread);

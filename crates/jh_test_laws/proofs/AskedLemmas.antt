@@ -91,7 +91,7 @@ stands_in_turn t = record {
     invokes = λ m thread request within idle may h.
         let process = caller_process t m thread in
         let call = call_made t m thread request in
-        let own : thread_of_process t process ≡ thread = thread_is thread t.clients (caller_of m thread).crashes within in
+        let own : thread_of_process t process ≡ thread = thread_is thread t.clients (caller_of m thread).used_numbers within in
         let value : call.value ≡ with_key_in_turn t t.keys thread m.history (value_asked (source_behind t m.history) request) =
         keyed t t.keys thread m.calls_by_group m.history (value_asked m.transactions request) h.counts
         ∙ ap (λ s. with_key_in_turn t t.keys thread m.history (value_asked s request)) h.source in
