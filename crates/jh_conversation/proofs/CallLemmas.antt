@@ -13,7 +13,7 @@ use Rattle.jh_conversation.specs.Lines.{stops_by, take_in}
 use Rattle.jh_test_parts.specs.LineMeanings.{line_meaning}
 use Rattle.jh_conversation.specs.Machine.{Machine}
 use Rattle.jh_test_parts.specs.Test.{TestValue}
-use Rattle.jh_conversation.specs.Turn.{has_come, keeps_rate, may_call, may_call_in, turn}
+use Rattle.jh_conversation.specs.Turn.{has_come, keeps_rate, may_call, may_call_in_phase, turn}
 use Rattle.jh_conversation.specs.declared.phase.Phase.{Phase}
 use Rattle.jh_conversation.specs.declared.phase.Phase.TheVariants.{Main, Heal, Rest, Final, Over}
 use Rattle.jh_conversation.proofs.KeptLemmas.{IsKeptByLine, IsKeptInTurn, by_answers, kept_lines}
@@ -51,7 +51,7 @@ still : (count : ℕ) (m : Machine) (phase : Phase) → phase ≢ Over → m.pha
 still count m phase differs is (inl over) = absurd (differs (sym is ∙ over))
 still count m phase differs is (inr stopped) = stopped
 
-main_gives_none : (t : TestValue) (phase : Phase) (stops given now : ℕ) → 1 ≤ stops → may_call_in phase t stops given now ≡ true → IsBeforeFinal phase → ⊥
+main_gives_none : (t : TestValue) (phase : Phase) (stops given now : ℕ) → 1 ≤ stops → may_call_in_phase phase t stops given now ≡ true → IsBeforeFinal phase → ⊥
 main_gives_none t Main stops given now stopped may before =
     let none : stops ≡ 0 = eqb-true _ _ (and_parts _ _ may).0 in omega (arith, stopped, none)
 main_gives_none t Heal stops given now stopped may before = false≢true may
@@ -59,7 +59,7 @@ main_gives_none t Rest stops given now stopped may before = false≢true may
 main_gives_none t Final stops given now stopped may before = before
 main_gives_none t Over stops given now stopped may before = before
 
-gives_none : (t : TestValue) (phase : Phase) (stops given now : ℕ) → 2 ≤ stops → may_call_in phase t stops given now ≡ true → ⊥
+gives_none : (t : TestValue) (phase : Phase) (stops given now : ℕ) → 2 ≤ stops → may_call_in_phase phase t stops given now ≡ true → ⊥
 gives_none t Main stops given now stopped may =
     let none : stops ≡ 0 = eqb-true _ _ (and_parts _ _ may).0 in omega (arith, stopped, none)
 gives_none t Heal stops given now stopped may = false≢true may
@@ -68,7 +68,7 @@ gives_none t Final stops given now stopped may = false≢true (sym (not-true _ m
 gives_none t Over stops given now stopped may = false≢true may
 
 over_gives_none : (t : TestValue) (m : Machine) → m.phase ≡ Over → may_call t m ≡ true → ⊥
-over_gives_none t m over may = false≢true (ap (λ p. may_call_in p t m.stops m.given m.clock) (sym over) ∙ (and_parts _ _ may).1)
+over_gives_none t m over may = false≢true (ap (λ p. may_call_in_phase p t m.stops m.given m.clock) (sym over) ∙ (and_parts _ _ may).1)
 
 stopped_gives_none : (t : TestValue) (m : Machine) → HasStopped 2 m → may_call t m ≡ true → ⊥
 stopped_gives_none t m (inl over) may = over_gives_none t m over may
@@ -203,7 +203,7 @@ at_rate : (rate : Option ℕ) (given now : ℕ) → keeps_rate rate given now �
 at_rate None given now e = tt
 at_rate (Some rate) given now e = leb-true _ _ e
 
-timely_call : (t : TestValue) (phase : Phase) (stops given now : ℕ) → IsBeforeFinal phase → may_call_in phase t stops given now ≡ true
+timely_call : (t : TestValue) (phase : Phase) (stops given now : ℕ) → IsBeforeFinal phase → may_call_in_phase phase t stops given now ≡ true
     → IsBeforeLimit t.time_limit now × IsAtRate t.rate given now
 timely_call t Main stops given now before may =
     let both = and_parts _ _ (and_parts _ _ may).1 in (before_limit t.time_limit now (not-true _ both.0), at_rate t.rate given now both.1)

@@ -19,7 +19,7 @@ use Rattle.jh_conversation.specs.Machine.{Machine, are_free, has_no_call, new_ca
 use Rattle.jh_conversation.specs.Machine.{caller_process, caller_of}
 use Rattle.jh_conversation.specs.Sound.{IsBetween}
 use Rattle.jh_test_parts.specs.Test.{TestValue}
-use Rattle.jh_conversation.specs.Turn.{call_made, may_call_in}
+use Rattle.jh_conversation.specs.Turn.{call_made, may_call_in_phase}
 use Rattle.jh_test_parts.specs.Test.{node_of_thread}
 use Rattle.jh_test_parts.specs.declared.calls.ValuedCall.{ValuedCall}
 use Rattle.jh_conversation.specs.declared.callers.Caller.{Caller}
@@ -167,7 +167,7 @@ callers_anew s n callers crashed past h free = record {
 abbrev pub Holds : TestValue → Machine → Type 0
 Holds s m = AreCallers s s.clients m.callers m.crashed m.history × (IsBetween m.phase → are_free m.callers ≡ true)
 
-pub none_between : (s : TestValue) (phase : Phase) (stops given now : ℕ) → may_call_in phase s stops given now ≡ true → IsBetween phase → ⊥
+pub none_between : (s : TestValue) (phase : Phase) (stops given now : ℕ) → may_call_in_phase phase s stops given now ≡ true → IsBetween phase → ⊥
 none_between s Main stops given now may b = b
 none_between s Heal stops given now may b = false≢true may
 none_between s Rest stops given now may b = false≢true may

@@ -21,7 +21,7 @@ use Rattle.jh_conversation.specs.Lines.{ended_as}
 use Rattle.jh_conversation.specs.Machine.{Machine, caller_of}
 use Rattle.jh_conversation.specs.Offered.{AreAllOffers, AreCallsOf, AreFinalCalls, AreOffers, CallsAreOffers}
 use Rattle.jh_conversation.specs.Offered.{MainCallsAreOffers, given_calls}
-use Rattle.jh_conversation.specs.Turn.{driver_answer, may_call_in, after_answer}
+use Rattle.jh_conversation.specs.Turn.{driver_answer, may_call_in_phase, after_answer}
 use Rattle.jh_conversation.specs.declared.phase.Phase.{Phase}
 use Rattle.jh_conversation.specs.declared.phase.Phase.TheVariants.{Main, Heal, Rest, Final, Over}
 use Rattle.jh_conversation.proofs.KeptLemmas.{IsKeptByLine, IsKeptInTurn, kept_run}
@@ -124,7 +124,7 @@ module _ (asked_answers : AskedAnswers) (end_keeps : EndKeepsGenerator) (t : Tes
   )
   final_after d last calls n f (Call p (call.Step place)) e s = (s.0, with_source false true d e calls f s.1)
 
-  part_after : (phase : Phase) (stops given now : ℕ) (d : DriverState) (last : Option DriverState) (calls : List (ℕ × Request)) (n w : ℕ) → may_call_in phase t stops given now ≡ true
+  part_after : (phase : Phase) (stops given now : ℕ) (d : DriverState) (last : Option DriverState) (calls : List (ℕ × Request)) (n w : ℕ) → may_call_in_phase phase t stops given now ≡ true
       → d.clients ≡ t.clients → n < t.clients → Part phase false d last calls → PartAfter phase last calls n (driver_answer d n w).0 (driver_answer d n w).1
   part_after Main stops given now d last calls n w may is within h =
       main_after last calls n h.1 (driver_answer d n w).0 (driver_answer d n w).1 (source_after d (clients (limit t.ops t.generator)) calls n w is within h.0)
@@ -194,7 +194,7 @@ module _ (asked_answers : AskedAnswers) (end_keeps : EndKeepsGenerator) (t : Tes
       visits = λ m n within idle may h.
           let word = pcg64 m.random_numbers in
           let answer = driver_answer m.driver n word.0 in
-          let both = and_parts (not m.has_spent) (may_call_in m.phase t m.stops m.given m.clock) may in
+          let both = and_parts (not m.has_spent) (may_call_in_phase m.phase t m.stops m.given m.clock) may in
           let unspent : m.has_spent ≡ false = not-true m.has_spent both.0 in
           answer_offers (record m { driver = answer.1; random_numbers = word.1 }) n within unspent answer.0
           (part_after m.phase m.stops m.given m.clock m.driver m.last (given_calls t m.history) n word.0 both.1 h.0 within

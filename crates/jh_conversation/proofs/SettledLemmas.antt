@@ -19,8 +19,8 @@ use Rattle.jh_conversation.specs.Machine.{Machine, are_free, has_no_call, no_cal
 use Rattle.jh_test_parts.specs.Test.{TestValue}
 use Rattle.jh_conversation.specs.Turn.{after_rest, begin_due, call_made, calls, due_in_phase, end}
 use Rattle.jh_conversation.specs.Turn.{final, go_on, has_come, has_healed, has_recovered}
-use Rattle.jh_conversation.specs.Turn.{keeps_rate, may_call, may_call_in, move, move_from}
-use Rattle.jh_conversation.specs.Turn.{no_more_calls_in, passes, round, rounds, step, turn, when}
+use Rattle.jh_conversation.specs.Turn.{keeps_rate, may_call, may_call_in_phase, move, move_from}
+use Rattle.jh_conversation.specs.Turn.{are_calls_stopped, passes, round, rounds, step, turn, when}
 use Rattle.jh_conversation.specs.Turn.{work}
 use Rattle.jh_conversation.specs.declared.turns.Due.{Due}
 use Rattle.jh_test_parts.specs.declared.calls.ValuedCall.{ValuedCall}
@@ -207,7 +207,7 @@ main_goes : (stopped late : Bool) → (not stopped || late) ≡ false → (stopp
 main_goes true late e = (refl, e)
 main_goes false late e = absurd (true≢false e)
 
-may_be : (t : TestValue) (m : Machine) → m.has_spent ≡ false → may_call_in m.phase t m.stops m.given m.clock ≡ true → may_call t m ≡ true
+may_be : (t : TestValue) (m : Machine) → m.has_spent ≡ false → may_call_in_phase m.phase t m.stops m.given m.clock ≡ true → may_call t m ≡ true
 may_be t m goes may = and_from _ _ (not_from_false _ goes) may
 
 waits_rest : (t : TestValue) (m : Machine) (f : Option DriverState) → m.phase ≡ Rest → after_rest t f m ≡ None → Waits t m
@@ -227,21 +227,21 @@ waits_settled t m h = go m.phase refl
     asked : are_free m.callers ≡ true → may_call t m ≡ true → Waits t m
     asked free may = ForGenerator h.last h.is (ap (λ c. c.given) h.is ∙ h.same) free may
 
-    ended : (phase : Phase) → m.phase ≡ phase → (are_free m.callers && (m.has_spent || no_more_calls_in m.phase t m.stops m.clock)) ≡ false
-        → (are_free m.callers ≡ false) ⊎ ((are_free m.callers ≡ true) × (m.has_spent ≡ false) × (no_more_calls_in phase t m.stops m.clock ≡ false))
-    ended phase is e = free_or_busy _ _ _ (ap (λ p. are_free m.callers && (m.has_spent || no_more_calls_in p t m.stops m.clock)) (sym is) ∙ e)
+    ended : (phase : Phase) → m.phase ≡ phase → (are_free m.callers && (m.has_spent || are_calls_stopped m.phase t m.stops m.clock)) ≡ false
+        → (are_free m.callers ≡ false) ⊎ ((are_free m.callers ≡ true) × (m.has_spent ≡ false) × (are_calls_stopped phase t m.stops m.clock ≡ false))
+    ended phase is e = free_or_busy _ _ _ (ap (λ p. are_free m.callers && (m.has_spent || are_calls_stopped p t m.stops m.clock)) (sym is) ∙ e)
 
-    in_main : m.phase ≡ Main → (are_free m.callers ≡ false) ⊎ ((are_free m.callers ≡ true) × (m.has_spent ≡ false) × (no_more_calls_in Main t m.stops m.clock ≡ false)) → Waits t m
+    in_main : m.phase ≡ Main → (are_free m.callers ≡ false) ⊎ ((are_free m.callers ≡ true) × (m.has_spent ≡ false) × (are_calls_stopped Main t m.stops m.clock ≡ false)) → Waits t m
     in_main is (inl busy) = ForCall busy
     in_main is (inr (free, goes, more)) = rated (main_goes _ _ more) (cases_Bool (keeps_rate t.rate m.given m.clock))
       where
         rated : ((m.stops == 0) ≡ true) × (has_come t.time_limit m.clock ≡ false) → (keeps_rate t.rate m.given m.clock ≡ true) ⊎ (keeps_rate t.rate m.given m.clock ≡ false) → Waits t m
         rated early (inr fast) = ForRate is fast
-        rated early (inl slow) = asked free (may_be t m goes (ap (λ p. may_call_in p t m.stops m.given m.clock) is ∙ and_from _ _ early.0 (and_from _ _ (not_from_false _ early.1) slow)))
+        rated early (inl slow) = asked free (may_be t m goes (ap (λ p. may_call_in_phase p t m.stops m.given m.clock) is ∙ and_from _ _ early.0 (and_from _ _ (not_from_false _ early.1) slow)))
 
-    in_final : m.phase ≡ Final → (are_free m.callers ≡ false) ⊎ ((are_free m.callers ≡ true) × (m.has_spent ≡ false) × (no_more_calls_in Final t m.stops m.clock ≡ false)) → Waits t m
+    in_final : m.phase ≡ Final → (are_free m.callers ≡ false) ⊎ ((are_free m.callers ≡ true) × (m.has_spent ≡ false) × (are_calls_stopped Final t m.stops m.clock ≡ false)) → Waits t m
     in_final is (inl busy) = ForCall busy
-    in_final is (inr (free, goes, more)) = asked free (may_be t m goes (ap (λ p. may_call_in p t m.stops m.given m.clock) is ∙ not_from_false _ more))
+    in_final is (inr (free, goes, more)) = asked free (may_be t m goes (ap (λ p. may_call_in_phase p t m.stops m.given m.clock) is ∙ not_from_false _ more))
 
     in_heal : m.phase ≡ Heal → (w : Option OpenStep) → m.step ≡ w → has_healed m w ≡ false → Waits t m
     in_heal is None none e = absurd (false≢true (sym e ∙ h.heals is none))

@@ -57,24 +57,26 @@ abbrev pub keeps_rate : Option ℕ → ℕ → ℕ → Bool
 keeps_rate None given now = true
 keeps_rate (Some rate) given now = nat_le (given * second) (now * rate)
 
-abbrev pub may_call_in : Phase → TestValue → (stops given now : ℕ) → Bool
-may_call_in Main t stops given now =
+-- a call may be given in a phase, so far as stops, the time limit and the rate go
+abbrev pub may_call_in_phase : Phase → TestValue → (stops given now : ℕ) → Bool
+may_call_in_phase Main t stops given now =
     stops == 0 && (not (has_come t.time_limit now) && keeps_rate t.rate given now)
-may_call_in Final t stops given now = not (nat_le 2 stops)
-may_call_in _ t stops given now = false
+may_call_in_phase Final t stops given now = not (nat_le 2 stops)
+may_call_in_phase _ t stops given now = false
 
 -- a call may be given: in *main* none after a stop, past the time limit or faster than the rate; in
 -- *final* none after a second stop; none once the driver has no more
 abbrev pub may_call : TestValue → Machine → Bool
-may_call t m = not m.has_spent && may_call_in m.phase t m.stops m.given m.clock
+may_call t m = not m.has_spent && may_call_in_phase m.phase t m.stops m.given m.clock
 
-abbrev pub no_more_calls_in : Phase → TestValue → (stops now : ℕ) → Bool
-no_more_calls_in Main t stops now = not (stops == 0) || has_come t.time_limit now
-no_more_calls_in _ t stops now = nat_le 2 stops
+-- the calls of a phase are stopped: those of *main* by a stop or the time limit, others by a second stop
+abbrev pub are_calls_stopped : Phase → TestValue → (stops now : ℕ) → Bool
+are_calls_stopped Main t stops now = not (stops == 0) || has_come t.time_limit now
+are_calls_stopped _ t stops now = nat_le 2 stops
 
 -- no call is open, and no more may come
 abbrev pub calls_ended : TestValue → Machine → Bool
-calls_ended t m = are_free m.callers && (m.has_spent || no_more_calls_in m.phase t m.stops m.clock)
+calls_ended t m = are_free m.callers && (m.has_spent || are_calls_stopped m.phase t m.stops m.clock)
 
 abbrev pub has_come_to : When → Machine → Bool
 has_come_to (Calls n) m = nat_le n m.answered

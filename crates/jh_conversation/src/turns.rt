@@ -109,9 +109,9 @@ impl Machine {
         }
     }
 
-    /// Whether no more calls may come, whatever the driver has.
-    fn has_no_more_calls(&self, test: &Test) -> bool
-        ensures { result ≡ rule.no_more_calls_in self.now.phase test.now self.now.stops self.now.clock }
+    /// Whether the calls of this phase are stopped, whatever the driver has.
+    fn are_calls_stopped(&self, test: &Test) -> bool
+        ensures { result ≡ rule.are_calls_stopped self.now.phase test.now self.now.stops self.now.clock }
     {
         match self.phase {
             Phase::Main => !(self.stops == 0) || has_come(test.time_limit(), self.clock),
@@ -123,7 +123,7 @@ impl Machine {
     fn calls_ended(&self, test: &Test) -> bool
         ensures { result ≡ rule.calls_ended test.now self.now }
     {
-        self.are_free() && (self.has_spent || self.has_no_more_calls(test))
+        self.are_free() && (self.has_spent || self.are_calls_stopped(test))
     }
 
     /// Whether an entry's time or number of calls has come.
