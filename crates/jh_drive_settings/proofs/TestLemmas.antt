@@ -17,19 +17,19 @@ use Rattle.jh_checkers.specs.declared.checker.Checker.{Checker}
 use Rattle.jh_test_parts.specs.declared.test.TestError.{TestError}
 use Rattle.jh_test_parts.specs.Test.{TestValue, IsFitTest, RefusesTest, HasSchedule, FitsTransactions}
 use Rattle.jh_drive_settings.specs.declared.parts.Parts.{Parts}
-use Rattle.jh_drive_settings.specs.Inside.{AreParsedParts, RefusesShares, RefusesAllowed, RefusesDriveValues, lone_key, test_of_parts, test_refusal}
+use Rattle.jh_drive_settings.specs.Inside.{AreParsedParts, RefusesShares, RefusesAllowed, RefusesDriveValues, missing_share_key, test_of_parts, test_refusal}
 use Rattle.jh_drive_settings.specs.Parsed.{parsed_checker, parsed_test_entry, parsed_test_ops, parsed_threads_per_key, parsed_ops_per_key, transaction_number}
-use Rattle.jh_drive_settings.specs.Settings.{AreDriveSettings, IsFinalAllowed, IsLoneShare, IsParsedTest}
+use Rattle.jh_drive_settings.specs.Settings.{AreDriveSettings, IsFinalAllowed, IsShareKeyMissing, IsParsedTest}
 use Rattle.jh_drive_settings.proofs.GoodLemmas.{all_good}
 use Rattle.jh_drive_settings.proofs.ShareLemmas.{number_between, share_missing, share_there}
 
 lone_share : (document : Members) (checker : Checker) → parsed_checker document ≡ Some checker → (threads calls : Option ℕ) → parsed_threads_per_key document ≡ Some threads → parsed_ops_per_key document ≡ Some calls
-    → (key : Key) → lone_key threads calls ≡ Some key → IsLoneShare document key
+    → (key : Key) → missing_share_key threads calls ≡ Some key → IsShareKeyMissing document key
 lone_share document checker is None None h k key e = absurd (none_not key e)
 lone_share document checker is None (Some n) h k key e =
-    subst (IsLoneShare document) (same_Some Key.ThreadsPerKey key e) (share_missing 16 Key.ThreadsPerKey document checker is h, share_there 1000000 Key.OpsPerKey document checker is n k)
+    subst (IsShareKeyMissing document) (same_Some Key.ThreadsPerKey key e) (share_missing 16 Key.ThreadsPerKey document checker is h, share_there 1000000 Key.OpsPerKey document checker is n k)
 lone_share document checker is (Some n) None h k key e =
-    subst (IsLoneShare document) (same_Some Key.OpsPerKey key e) (share_missing 1000000 Key.OpsPerKey document checker is k, share_there 16 Key.ThreadsPerKey document checker is n h)
+    subst (IsShareKeyMissing document) (same_Some Key.OpsPerKey key e) (share_missing 1000000 Key.OpsPerKey document checker is k, share_there 16 Key.ThreadsPerKey document checker is n h)
 lone_share document checker is (Some n) (Some m) h k key e = absurd (none_not key e)
 
 few_entries : (Means : Data → TestEntry → Type 0) (o : Option Data) (entries : List TestEntry) → IsScheduleOf Means o entries → length entries ≤ 1024

@@ -26,7 +26,7 @@ use Rattle.jh_drive_settings.specs.Parsed.{parsed_recovery, IsParsedFinal, parse
 use Rattle.jh_drive_settings.specs.Parsed.{parsed_keys, parsed_max_txn, parsed_appends_per_key}
 use Rattle.jh_drive_settings.specs.Parsed.{parsed_model, IsParsedTestSchedule}
 use Rattle.jh_drive_settings.specs.Refusals.{IsGoodForTest}
-use Rattle.jh_drive_settings.specs.Settings.{IsBadDriveValue, IsFinalAllowed, IsLoneShare}
+use Rattle.jh_drive_settings.specs.Settings.{IsBadDriveValue, IsFinalAllowed, IsShareKeyMissing}
 
 -- the keys of a test's parts, some behind others, and what a document means under them
 abbrev pub asked_keys : List Key
@@ -98,13 +98,13 @@ test_of_parts parts shares = record {
 }
 
 -- the one of the two numbers that is missing, where the other one is there
-abbrev pub lone_key : Option ℕ → Option ℕ → Option Key
-lone_key None (Some calls) = Some Key.ThreadsPerKey
-lone_key (Some threads) None = Some Key.OpsPerKey
-lone_key _ _ = None
+abbrev pub missing_share_key : Option ℕ → Option ℕ → Option Key
+missing_share_key None (Some calls) = Some Key.ThreadsPerKey
+missing_share_key (Some threads) None = Some Key.OpsPerKey
+missing_share_key _ _ = None
 
 abbrev pub RefusesShares : Option ℕ → Option ℕ → SettingsError → Type 0
-RefusesShares threads calls (Missing key) = lone_key threads calls ≡ Some key
+RefusesShares threads calls (Missing key) = missing_share_key threads calls ≡ Some key
 RefusesShares threads calls _ = ⊥
 
 -- what a refusal of the test makes of the settings
@@ -132,6 +132,6 @@ RefusesAllowed test e =
 abbrev pub RefusesDriveValues : Members → SettingsError → Type 0
 RefusesDriveValues document (BadValue key) = IsBadDriveValue document key
 RefusesDriveValues document (Missing key) =
-    AreGood (IsGoodForTest document) drive_keys × IsLoneShare document key
+    AreGood (IsGoodForTest document) drive_keys × IsShareKeyMissing document key
 RefusesDriveValues document OutOfMemory = Unit {0}
 RefusesDriveValues document _ = ⊥

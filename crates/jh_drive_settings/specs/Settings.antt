@@ -63,35 +63,35 @@ AreDriveSettingsOf bytes test held consistency limit =
     (document : Members) × IsDocument bytes document
     × AreDriveSettings document test held consistency limit
 
--- of the two keys that say how keys are shared it is missing, and the other one is not
-abbrev pub IsLoneShare : Members → Key → Type 0
-IsLoneShare document Key.ThreadsPerKey =
+-- it is the one that is missing of the two keys that say how keys are shared, and the other one is not
+abbrev pub IsShareKeyMissing : Members → Key → Type 0
+IsShareKeyMissing document Key.ThreadsPerKey =
     (is_missing document Key.ThreadsPerKey ≡ true) × (is_missing document Key.OpsPerKey ≡ false)
-IsLoneShare document Key.OpsPerKey =
+IsShareKeyMissing document Key.OpsPerKey =
     (is_missing document Key.OpsPerKey ≡ true) × (is_missing document Key.ThreadsPerKey ≡ false)
-IsLoneShare document _ = ⊥
+IsShareKeyMissing document _ = ⊥
 
--- the key under which a test is wrong first, whose values are good by themselves
-abbrev pub IsWrongUnder : TestValue → Key → Type 0
-IsWrongUnder test Key.ThreadsPerKey = FitsKeys test → ⊥
-IsWrongUnder test Key.Generator = FitsKeys test × (HasTestGenerator test → ⊥)
-IsWrongUnder test Key.Final =
+-- the first key whose value does not fit the others, in a test whose values are good by themselves
+abbrev pub IsFirstUnfitKey : TestValue → Key → Type 0
+IsFirstUnfitKey test Key.ThreadsPerKey = FitsKeys test → ⊥
+IsFirstUnfitKey test Key.Generator = FitsKeys test × (HasTestGenerator test → ⊥)
+IsFirstUnfitKey test Key.Final =
     FitsKeys test × HasTestGenerator test × (FitsFinal test × IsFinalAllowed test → ⊥)
-IsWrongUnder test _ = ⊥
+IsFirstUnfitKey test _ = ⊥
 
 -- the first value that is bad by itself, and then what is wrong with the test
 abbrev pub IsBadDriveValue : Members → Key → Type 0
 IsBadDriveValue document key =
     IsFirstBadKey (IsGoodForTest document) drive_keys key
     ⊎ ((test : TestValue) × AreGood (IsGoodForTest document) drive_keys
-    × IsParsedTest document test × IsWrongUnder test key)
+    × IsParsedTest document test × IsFirstUnfitKey test key)
 
 -- the first needed key, or where each value is good by itself one of the two that stand together
 abbrev pub IsMissingKey : Members → Key → Type 0
 IsMissingKey document key =
     (first_missing needed_drive_keys document ≡ Some key)
     ⊎ ((first_missing needed_drive_keys document ≡ None)
-    × AreGood (IsGoodForTest document) drive_keys × IsLoneShare document key)
+    × AreGood (IsGoodForTest document) drive_keys × IsShareKeyMissing document key)
 
 -- why a document is refused: an unknown key, then a missing one, then a bad value, then a share without
 -- the other, then what is wrong with the test
