@@ -23,14 +23,14 @@ use Rattle.jh_drive_settings.specs.Settings.{AreDriveSettings, IsFinalAllowed, I
 use Rattle.jh_drive_settings.proofs.GoodLemmas.{all_good}
 use Rattle.jh_drive_settings.proofs.ShareLemmas.{number_between, share_missing, share_there}
 
-lone_share : (document : Members) (checker : Checker) → parsed_checker document ≡ Some checker → (threads calls : Option ℕ) → parsed_threads_per_key document ≡ Some threads → parsed_ops_per_key document ≡ Some calls
+one_share_missing : (document : Members) (checker : Checker) → parsed_checker document ≡ Some checker → (threads calls : Option ℕ) → parsed_threads_per_key document ≡ Some threads → parsed_ops_per_key document ≡ Some calls
     → (key : Key) → missing_share_key threads calls ≡ Some key → IsShareKeyMissing document key
-lone_share document checker is None None h k key e = absurd (none_not key e)
-lone_share document checker is None (Some n) h k key e =
+one_share_missing document checker is None None h k key e = absurd (none_not key e)
+one_share_missing document checker is None (Some n) h k key e =
     subst (IsShareKeyMissing document) (same_Some Key.ThreadsPerKey key e) (share_missing 16 Key.ThreadsPerKey document checker is h, share_there 1000000 Key.OpsPerKey document checker is n k)
-lone_share document checker is (Some n) None h k key e =
+one_share_missing document checker is (Some n) None h k key e =
     subst (IsShareKeyMissing document) (same_Some Key.OpsPerKey key e) (share_missing 1000000 Key.OpsPerKey document checker is k, share_there 16 Key.ThreadsPerKey document checker is n h)
-lone_share document checker is (Some n) (Some m) h k key e = absurd (none_not key e)
+one_share_missing document checker is (Some n) (Some m) h k key e = absurd (none_not key e)
 
 few_entries : (Means : Data → TestEntry → Type 0) (o : Option Data) (entries : List TestEntry) → IsScheduleOf Means o entries → length entries ≤ 1024
 few_entries Means None entries h = omega (arith, ap length h)
@@ -46,7 +46,7 @@ module _ (document : Members) (parts : Parts) (parsed : AreParsedParts document 
   shares_refused NotToml h = absurd h
   shares_refused (Unknown name) h = absurd h
   shares_refused (Missing key) h =
-      (all_good document parts (option_map generator_of parts.last) parsed.at_last parsed, lone_share document parts.asked.checker parsed.asked.workload parts.pace.threads parts.pace.calls parsed.pace.by_threads parsed.pace.by_calls key h)
+      (all_good document parts (option_map generator_of parts.last) parsed.at_last parsed, one_share_missing document parts.asked.checker parsed.asked.workload parts.pace.threads parts.pace.calls parsed.pace.by_threads parsed.pace.by_calls key h)
   shares_refused (BadValue key) h = absurd h
   shares_refused OutOfMemory h = absurd h
 

@@ -1,3 +1,4 @@
+pub mod Limits
 pub mod Parsed
 pub mod Refusals
 pub mod Settings

@@ -11,6 +11,7 @@ use Rattle.jh_step_texts.specs.StepText.{parsed_step}
 use Rattle.jh_nemesis.specs.declared.steps.Step.{Step}
 use Rattle.jh_checkers.specs.Checkers.{checker_named}
 use Rattle.jh_checkers.specs.Models.{model_named}
+use Rattle.jh_gen.specs.DriverState.{max_calls, max_clients}
 use Rattle.jh_gen.specs.Generator.{Generator}
 use Rattle.jh_txn.specs.declared.model.ConsistencyModel.{ConsistencyModel}
 use Rattle.jh_settings.specs.declared.keys.Key.{Key}
@@ -18,9 +19,11 @@ use Rattle.jh_settings.specs.Keys.{data_under, is_missing}
 use Rattle.jh_settings.specs.Kinds.{needed_value, value_or_default, choice_in, choice_under}
 use Rattle.jh_settings.specs.Kinds.{whole_number_in}
 use Rattle.jh_settings.specs.Parsed.{IsGeneratorUnder, IsScheduleUnder, initial_of}
+use Rattle.jh_test_parts.specs.Limits.{max_key_appends, max_transaction_keys, max_transaction_ops}
 use Rattle.jh_test_parts.specs.declared.parts.TestEntry.{TestEntry}
 use Rattle.jh_checkers.specs.declared.checker.Checker.{Checker}
 use Rattle.jh_test_parts.specs.declared.parts.When.{When}
+use Rattle.jh_drive_settings.specs.Limits.{max_rate, max_recovery_ms, max_time_ms}
 
 -- what is asked of the database, by the checker of its history
 abbrev pub parsed_checker : Members → Option Checker
@@ -42,7 +45,7 @@ where_checked may key document parsed =
 
 -- how many calls
 abbrev pub parsed_test_ops : Members → Option ℕ
-parsed_test_ops document = needed_value (whole_number_in 1 1000000) Key.Ops document
+parsed_test_ops document = needed_value (whole_number_in 1 max_calls) Key.Ops document
 
 -- a whole number, or nothing where nothing stands under the key
 abbrev pub optional_number : ℕ → ℕ → Key → Members → Option (Option ℕ)
@@ -50,10 +53,10 @@ optional_number least most key document =
     value_or_default None (λ value. option_map Some (whole_number_in least most value)) key document
 
 abbrev pub parsed_time_limit : Members → Option (Option ℕ)
-parsed_time_limit document = optional_number 1 86400000 Key.TimeLimit document
+parsed_time_limit document = optional_number 1 max_time_ms Key.TimeLimit document
 
 abbrev pub parsed_rate : Members → Option (Option ℕ)
-parsed_rate document = optional_number 1 1000000 Key.Rate document
+parsed_rate document = optional_number 1 max_rate Key.Rate document
 
 -- how keys are shared: not of transactions, which have keys of their own
 abbrev pub parsed_share : ℕ → Key → Members → Option (Option ℕ)
@@ -62,13 +65,13 @@ parsed_share most key document =
     (optional_number 1 most key document)
 
 abbrev pub parsed_threads_per_key : Members → Option (Option ℕ)
-parsed_threads_per_key document = parsed_share 16 Key.ThreadsPerKey document
+parsed_threads_per_key document = parsed_share max_clients Key.ThreadsPerKey document
 
 abbrev pub parsed_ops_per_key : Members → Option (Option ℕ)
-parsed_ops_per_key document = parsed_share 1000000 Key.OpsPerKey document
+parsed_ops_per_key document = parsed_share max_calls Key.OpsPerKey document
 
 abbrev pub parsed_recovery : Members → Option ℕ
-parsed_recovery document = value_or_default 0 (whole_number_in 0 3600000) Key.Recovery document
+parsed_recovery document = value_or_default 0 (whole_number_in 0 max_recovery_ms) Key.Recovery document
 
 -- a generator of the final calls, or none
 abbrev pub IsParsedFinal : Members → Option Generator → Type 0
@@ -87,13 +90,13 @@ transaction_number default most key document =
     (value_or_default default (whole_number_in 1 most) key document)
 
 abbrev pub parsed_keys : Members → Option ℕ
-parsed_keys document = transaction_number 4 1000 Key.Keys document
+parsed_keys document = transaction_number 4 max_transaction_keys Key.Keys document
 
 abbrev pub parsed_max_txn : Members → Option ℕ
-parsed_max_txn document = transaction_number 4 100 Key.MaxTxn document
+parsed_max_txn document = transaction_number 4 max_transaction_ops Key.MaxTxn document
 
 abbrev pub parsed_appends_per_key : Members → Option ℕ
-parsed_appends_per_key document = transaction_number 32 10000 Key.AppendsPerKey document
+parsed_appends_per_key document = transaction_number 32 max_key_appends Key.AppendsPerKey document
 
 -- the consistency model of a name, as `--model` has it, and the strict one where none is named
 abbrev pub model_or_strict : Members → Option ConsistencyModel
@@ -108,11 +111,11 @@ parsed_model document =
 -- test began
 
 abbrev pub calls_due : ℤ → Option When
-calls_due (pos n) = if nat_le n 1000000 then Some (When.Calls n) else None
+calls_due (pos n) = if nat_le n max_calls then Some (When.Calls n) else None
 calls_due _ = None
 
 abbrev pub milliseconds_of : ℤ → Option When
-milliseconds_of (pos n) = if nat_le n 86400000 then Some (When.Milliseconds n) else None
+milliseconds_of (pos n) = if nat_le n max_time_ms then Some (When.Milliseconds n) else None
 milliseconds_of _ = None
 
 abbrev pub when_of_elements : List Edn → Option When

@@ -3,9 +3,11 @@
 #![tactic(auto)]
 
 mod choices;
+mod limits;
 mod numbers;
 mod parts;
 mod schedule;
 mod settings;
 
+pub use limits::{MAX_RATE, MAX_RECOVERY_MS, MAX_TIME_MS, limits};
 pub use settings::{DriveSettings, drive_settings_of};

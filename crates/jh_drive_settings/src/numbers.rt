@@ -9,19 +9,11 @@ ghost use Rattle.jh_drive_settings.specs.Parsed.{parsed_rate, parsed_recovery, p
 ghost use Rattle.jh_drive_settings.specs.Parsed.{parsed_share, parsed_checker, parsed_time_limit};
 
 use crate::choices::{are_transactions, judge_standing};
+use crate::limits::{MAX_RATE, MAX_RECOVERY_MS, MAX_TIME_MS};
 use jh_checkers::Checker;
 use jh_gen::MAX_CALLS;
 use jh_settings::{Key, SettingsError, number_or, number_under, value_under, whole_in};
 use toml::Table;
-
-/// The latest moment of a test, in milliseconds: a day.
-pub(crate) const MAX_MILLISECONDS: u32 = 86_400_000;
-
-/// The most calls a second.
-const MAX_RATE: u32 = 1_000_000;
-
-/// The longest recovery, in milliseconds: an hour.
-const MAX_RECOVERY_MS: u64 = 3_600_000;
 
 /// How many calls, under `ops`: from 1 to 1,000,000.
 pub(crate) fn test_ops_under(table: &Table) -> Result<u32, SettingsError>
@@ -54,7 +46,7 @@ fn optional_number(
 pub(crate) fn time_limit_under(table: &Table) -> Result<Option<u32>, SettingsError>
     ensures { IsValueParsed result Key.TimeLimit (parsed_time_limit (table_view table.now)) }
 {
-    optional_number(table, Key::TimeLimit, 1, MAX_MILLISECONDS)
+    optional_number(table, Key::TimeLimit, 1, MAX_TIME_MS)
 }
 
 /// Calls a second, under `rate`: from 1 to 1,000,000, or none.

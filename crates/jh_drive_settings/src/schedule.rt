@@ -4,7 +4,7 @@ ghost use Rattle.std.specs.Prelude.{◌≡◌};
 ghost use Rattle.jh_edn.specs.View.{view};
 ghost use Rattle.jh_drive_settings.specs.Parsed as rule;
 
-use crate::numbers::MAX_MILLISECONDS;
+use crate::limits::MAX_TIME_MS;
 use jh_edn::Value;
 use jh_env::Nodes;
 use jh_gen::MAX_CALLS;
@@ -28,7 +28,7 @@ fn milliseconds_of(at: i64) -> Option<When>
     ensures { result ≡ rule.milliseconds_of at }
 {
     match u32::try_from(at) {
-        Ok(milliseconds) if milliseconds <= MAX_MILLISECONDS => {
+        Ok(milliseconds) if milliseconds <= MAX_TIME_MS => {
             Some(When::Milliseconds(milliseconds))
         }
         _ => None,

@@ -24,12 +24,15 @@ use crate::numbers::{
 use crate::parts::{Asked, Details, Pace, Parts};
 use crate::schedule::TestFormat;
 use jh_checkers::Checker;
-use jh_gen::Gen;
+use jh_gen::{Gen, MAX_CALLS, MAX_CLIENTS};
 use jh_settings::{
     Key, SettingsError, budget_under, clients_under, drive_keys, entries_under, generator_under,
     needed_drive_keys, refuse_unknown_or_missing_keys, seed_under, start_under, table_of,
 };
-use jh_test_parts::{KeyShares, Test, TestData, TestError, TransactionShape};
+use jh_test_parts::{
+    KeyShares, MAX_KEY_APPENDS, MAX_TRANSACTION_KEYS, MAX_TRANSACTION_OPS, Test, TestData,
+    TestError, TransactionShape,
+};
 use jh_txn::ConsistencyModel;
 use std::alloc::Global;
 use toml::Table;
@@ -74,8 +77,8 @@ fn pace_of(table: &Table, checker: Checker) -> Result<Pace, SettingsError>
     let ops = test_ops_under(table)?;
     let time_limit = time_limit_under(table)?;
     let rate = rate_under(table)?;
-    let threads = share_under(table, Key::ThreadsPerKey, checker, 16)?;
-    let calls = share_under(table, Key::OpsPerKey, checker, 1_000_000)?;
+    let threads = share_under(table, Key::ThreadsPerKey, checker, MAX_CLIENTS)?;
+    let calls = share_under(table, Key::OpsPerKey, checker, MAX_CALLS)?;
     let recovery = recovery_under(table)?;
     Ok(Pace {
         clients,
@@ -95,9 +98,9 @@ fn shape_of(table: &Table, checker: Checker) -> Result<TransactionShape, Setting
         (inside.IsParsedShape (table_view table.now))
         (RefusesKeyValues (IsGoodForTest (table_view table.now)) inside.shape_keys) }
 {
-    let keys = transaction_number(table, Key::Keys, checker, 4, 1_000)?;
-    let most = transaction_number(table, Key::MaxTxn, checker, 4, 100)?;
-    let appends = transaction_number(table, Key::AppendsPerKey, checker, 32, 10_000)?;
+    let keys = transaction_number(table, Key::Keys, checker, 4, MAX_TRANSACTION_KEYS)?;
+    let most = transaction_number(table, Key::MaxTxn, checker, 4, MAX_TRANSACTION_OPS)?;
+    let appends = transaction_number(table, Key::AppendsPerKey, checker, 32, MAX_KEY_APPENDS)?;
     Ok(TransactionShape {
         keys,
         most,

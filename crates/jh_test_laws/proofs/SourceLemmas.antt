@@ -316,7 +316,7 @@ first_long (suc n) key = ap suc (first_long n (key + 1))
 
 pub first_clean : (shape : TransactionShape) (seed left : ℕ) → IsGoodShape shape → left ≤ 10 ^ 9 → IsClean (first_source shape seed) [] left
 first_clean shape seed left good few = record {
-  room = (let keys = good.few_keys in omega (arith, keys, few));
+  room = (let keys : shape.keys ≤ 1000 = good.few_keys in omega (arith, keys, few));
   long = first_long shape.keys 0;
   some = good.some_keys;
   used = λ i inside. let k = key_at i inside in let n = inside_is i inside in omega (arith, k, n);

@@ -1,3 +1,4 @@
+pub mod Limits
 pub mod Test
 pub mod TestInside
 pub mod Changes

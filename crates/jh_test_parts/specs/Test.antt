@@ -6,6 +6,7 @@ use Rattle.std.specs.Prelude.{Option, None, Some, option_map}
 use Rattle.jh_env.specs.Overlay.{EnvValue}
 use Rattle.jh_gen.specs.Generator.{Generator}
 use Rattle.jh_gen.specs.Suits.{suits, suits_transactions}
+use Rattle.jh_gen.specs.DriverState.{max_calls}
 use Rattle.jh_gen.specs.View.{generator_of}
 use Rattle.jh_nemesis.specs.Steps.{FitsNodes}
 use Rattle.jh_ops.specs.declared.call.Workload.TheVariants as workload
@@ -15,6 +16,7 @@ use Rattle.jh_checkers.specs.declared.checker.Checker.{Checker}
 use Rattle.jh_checkers.specs.declared.checker.Checker.TheVariants.{Register, Counter, Set, Ids}
 use Rattle.jh_checkers.specs.declared.checker.Checker.TheVariants.{ListAppend}
 use Rattle.jh_test_parts.specs.declared.parts.TransactionShape.{TransactionShape}
+use Rattle.jh_test_parts.specs.Limits.{max_key_appends, max_transaction_keys, max_transaction_ops}
 use Rattle.jh_test_parts.specs.declared.test.TestData.{TestData}
 use Rattle.jh_test_parts.specs.declared.test.TestError.{TestError}
 use Rattle.jh_test_parts.specs.declared.test.TestError.TheVariants.{BadClients, BadOps, BadKeys}
@@ -67,7 +69,7 @@ abbrev pub HasTestClients : TestValue → Type 0
 HasTestClients t = (1 ≤ t.clients) × (t.clients ≤ 16)
 
 abbrev pub HasTestOps : TestValue → Type 0
-HasTestOps t = (1 ≤ t.ops) × (t.ops ≤ 1000000)
+HasTestOps t = (1 ≤ t.ops) × (t.ops ≤ max_calls)
 
 -- the threads of a key divide the clients, and each key has calls
 abbrev pub are_shares : ℕ → Option KeyShares → Bool
@@ -101,15 +103,15 @@ abbrev pub HasSchedule : TestValue → Type 0
 HasSchedule t =
     (length t.schedule ≤ 1024) × All (λ entry. FitsNodes (length t.start.names) entry.step) t.schedule
 
--- transactions are over 1 to 1,000 keys at a time, of 1 to 100 micro-operations at most, with 1 to
--- 10,000 appends of a key
+-- transactions are over some keys at a time, of some micro-operations at most, with some appends of a
+-- key, each within its limit
 pub record IsGoodShape (shape : TransactionShape) : Type 0 where
   pub some_keys : 1 ≤ shape.keys
-  pub few_keys : shape.keys ≤ 1000
+  pub few_keys : shape.keys ≤ max_transaction_keys
   pub some_ops : 1 ≤ shape.most
-  pub few_ops : shape.most ≤ 100
+  pub few_ops : shape.most ≤ max_transaction_ops
   pub some_appends : 1 ≤ shape.appends
-  pub few_appends : shape.appends ≤ 10000
+  pub few_appends : shape.appends ≤ max_key_appends
 
 abbrev pub FitsTransactions : TestValue → Type 0
 FitsTransactions t = IsGoodShape t.transactions

@@ -5,6 +5,7 @@
 mod calls;
 mod changes;
 mod complaints;
+mod limits;
 mod line;
 mod named;
 mod operations;
@@ -16,6 +17,7 @@ mod values;
 
 pub use calls::{Datum, ValuedCall};
 pub use complaints::Complaint;
+pub use limits::{MAX_KEY_APPENDS, MAX_TRANSACTION_KEYS, MAX_TRANSACTION_OPS, limits};
 pub use line::{LineMeaning, kept_pairs, line_meaning};
 pub use named::NamedCells;
 pub use operations::{operation_of, operations_of};

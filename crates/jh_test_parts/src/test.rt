@@ -9,6 +9,7 @@ ghost use Rattle.jh_gen.specs.View.{generator_of};
 ghost use Rattle.jh_test_parts.specs.Test as rule;
 ghost use Rattle.jh_test_parts.specs.Test.{IsFitTest, IsGoodShape, RefusesTest};
 
+use crate::limits::{MAX_KEY_APPENDS, MAX_TRANSACTION_KEYS, MAX_TRANSACTION_OPS};
 use crate::parts::{KeyShares, TestEntry, TransactionShape};
 use jh_checkers::Checker;
 use jh_env::{Env, Node, Nodes};
@@ -190,11 +191,11 @@ fn are_made_so(shape: TransactionShape) -> bool
     ensures { IsTrue result ↔ IsGoodShape shape }
 {
     1 <= shape.keys
-        && shape.keys <= 1_000
+        && shape.keys <= MAX_TRANSACTION_KEYS
         && 1 <= shape.most
-        && shape.most <= 100
+        && shape.most <= MAX_TRANSACTION_OPS
         && 1 <= shape.appends
-        && shape.appends <= 10_000
+        && shape.appends <= MAX_KEY_APPENDS
 }
 
 /// Refuses data of which no test is made.

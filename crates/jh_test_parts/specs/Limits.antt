@@ -1,0 +1,14 @@
+-- The limits of the transactions of a test (this project's own).
+use Rattle.std.specs.Prelude.{ℕ}
+
+-- over how many keys at a time transactions are, at most
+abbrev pub max_transaction_keys : ℕ
+max_transaction_keys = 1000
+
+-- how many micro-operations a transaction has, at most
+abbrev pub max_transaction_ops : ℕ
+max_transaction_ops = 100
+
+-- how many appends of a key are made before another one takes its place, at most
+abbrev pub max_key_appends : ℕ
+max_key_appends = 10000
