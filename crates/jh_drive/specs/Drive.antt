@@ -25,7 +25,7 @@ use Rattle.jh_drive_settings.specs.Settings.{AreDriveSettingsOf, RefusesDriveSet
 use Rattle.jh_settings.specs.declared.error.SettingsError.{SettingsError}
 use Rattle.jh_drive.specs.DriveErrors.{drive_settings_error}
 use Rattle.jh_drive.specs.declared.error.DriveError.{DriveError}
-use Rattle.jh_drive.specs.declared.error.DriveError.TheVariants.{Reply, RepliesEnded, Read, TooLong}
+use Rattle.jh_drive.specs.declared.error.DriveError.TheVariants.{Reply, RepliesEnded, Read, TooManyTurns}
 use Rattle.jh_drive.specs.declared.error.DriveError.TheVariants.{Mismatch, Write, OutOfMemory}
 use Rattle.jh_txn.specs.declared.model.ConsistencyModel.{ConsistencyModel}
 
@@ -73,7 +73,7 @@ judging_of t initial model budget = record {
 -- A conversation that did not come to its end.
 abbrev pub ended_early : Ending → DriveError
 ended_early (Endings.ReadFailed error) = Read
-ended_early Endings.TooLong = TooLong
+ended_early Endings.TooManyTurns = TooManyTurns
 ended_early _ = RepliesEnded
 
 -- The answer of a test whose report is written: the first line that was no reply is its error; else, if it came
@@ -83,15 +83,15 @@ drive_answer (Some bad) over ending status = Err (Reply bad.0 bad.1)
 drive_answer None true ending status = Ok status
 drive_answer None false ending status = Err (ended_early ending)
 
-module _ (t : TestValue) (judging : Judging) (input unread before after : Option (List ℕ)) where
-  -- The test was conducted over an input, of which this is left unread, and an output that had been this before
+module _ (t : TestValue) (judging : Judging) (input rest before after : Option (List ℕ)) where
+  -- The test was conducted over an input, of which this is left, and an output that had been this before
   -- and is that after it; its report stands behind the conversation.
   pub record IsReported (result : Result ℕ DriveError) : Type 0 where
     pub past : List TalkEvent
     pub ending : Ending
     pub last : ConversationValue
     pub conducted : IsConducted t past last ending
-    pub heard : Consumes input unread (heard_in past)
+    pub heard : Consumes input rest (heard_in past)
     pub status : ℕ
     pub report : List ℕ
     pub is_report : IsReportOf judging last status report
@@ -104,7 +104,7 @@ module _ (t : TestValue) (judging : Judging) (input unread before after : Option
   FailsBy OutOfMemory = Unit {0}
   FailsBy Mismatch =
       (past : List TalkEvent) × (ending : Ending) × (last : ConversationValue)
-      × IsConducted t past last ending × Consumes input unread (heard_in past)
+      × IsConducted t past last ending × Consumes input rest (heard_in past)
       × IsNotJudged (is_some last.test.keys) judging (recorded_history last.test last.machine)
   FailsBy _ = ⊥
 
@@ -113,10 +113,10 @@ module _ (t : TestValue) (judging : Judging) (input unread before after : Option
   IsAnswered result = IsReported result ⊎ ((e : DriveError) × (result ≡ Err e) × FailsBy e)
 
 -- How the test that bytes set ends, or why these are refused.
-abbrev pub IsDriven : List ℕ → (input unread before after : Option (List ℕ)) → Result ℕ DriveError
+abbrev pub IsDriven : List ℕ → (input rest before after : Option (List ℕ)) → Result ℕ DriveError
     → Type 0
-IsDriven bytes input unread before after result =
+IsDriven bytes input rest before after result =
     ((error : SettingsError) × RefusesDriveSettings bytes error × (result ≡ Err (drive_settings_error error)))
     ⊎ ((t : TestValue) × (initial : Option ℤ) × (model : ConsistencyModel) × (budget : ℕ)
     × AreDriveSettingsOf bytes t initial model budget
-    × IsAnswered t (judging_of t initial model budget) input unread before after result)
+    × IsAnswered t (judging_of t initial model budget) input rest before after result)

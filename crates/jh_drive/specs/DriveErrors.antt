@@ -8,7 +8,7 @@ use Rattle.jh_settings.specs.declared.error.SettingsError.TheVariants as Setting
 use Rattle.jh_test_parts.specs.Complaints.{complaint_text}
 use Rattle.jh_drive.specs.declared.error.DriveError.{DriveError}
 use Rattle.jh_drive.specs.declared.error.DriveError.TheVariants.{Settings, SettingsRead, Reply}
-use Rattle.jh_drive.specs.declared.error.DriveError.TheVariants.{RepliesEnded, Read, TooLong}
+use Rattle.jh_drive.specs.declared.error.DriveError.TheVariants.{RepliesEnded, Read, TooManyTurns}
 use Rattle.jh_drive.specs.declared.error.DriveError.TheVariants.{Mismatch}
 use Rattle.jh_drive.specs.declared.error.DriveError.TheVariants.{Write, OutOfMemory}
 
@@ -18,7 +18,7 @@ drive_status SettingsRead = 4
 drive_status (Reply number why) = 3
 drive_status RepliesEnded = 4
 drive_status Read = 4
-drive_status TooLong = 4
+drive_status TooManyTurns = 4
 drive_status Mismatch = 4
 drive_status Write = 4
 drive_status OutOfMemory = 4
@@ -32,7 +32,7 @@ drive_text (Reply number why) =
     (complaint_text why)
 drive_text RepliesEnded = Some (codes "replies ended")
 drive_text Read = Some (codes "read failed")
-drive_text TooLong = Some (codes "input too long")
+drive_text TooManyTurns = Some (codes "too many turns")
 drive_text Mismatch = Some (codes "mismatch")
 drive_text Write = Some (codes "write failed")
 drive_text OutOfMemory = Some (codes "out of memory")

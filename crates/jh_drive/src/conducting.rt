@@ -39,7 +39,7 @@ fn ended_early(ending: Ending) -> DriveError
 {
     match ending {
         Ending::ReadFailed(_) => DriveError::Read,
-        Ending::TooLong => DriveError::TooLong,
+        Ending::TooManyTurns => DriveError::TooManyTurns,
         Ending::Over | Ending::InputEnded | Ending::WriteFailed(_) | Ending::OutOfMemory => {
             DriveError::RepliesEnded
         }
@@ -81,7 +81,7 @@ fn hold<R: Read, W: Write, O: CallObserver>(
     match ending {
         Ending::WriteFailed(_) => return Err(DriveError::Write),
         Ending::OutOfMemory => return Err(DriveError::OutOfMemory),
-        Ending::Over | Ending::InputEnded | Ending::ReadFailed(_) | Ending::TooLong => {}
+        Ending::Over | Ending::InputEnded | Ending::ReadFailed(_) | Ending::TooManyTurns => {}
     }
     let bad = conversation.bad();
     let is_over = conversation.is_over();
@@ -117,7 +117,7 @@ fn conduct<R: Read, W: Write, O: CallObserver>(
 ///
 /// Errors: `Settings`, before anything is told or read; then, with all of the report written, `Reply` with
 /// the first line that was no reply, `RepliesEnded` where the input ended before the test did, `Read` and
-/// `TooLong` where nothing more could be heard; `Mismatch` where the history can't be judged, with all of
+/// `TooManyTurns` where nothing more could be heard; `Mismatch` where the history can't be judged, with all of
 /// the report written but its last line; `Write`; `OutOfMemory`. Never `SettingsRead`.
 pub fn drive<R: Read, W: Write>(
     alloc: Global,

@@ -15,7 +15,7 @@ use std::error::Error;
 use std::fmt::{self, Display, Formatter};
 
 /// Why a test ended otherwise than with a verdict. Where its conversation was held to an end, the report
-/// is written before `Reply`, `RepliesEnded`, `Read` and `TooLong`.
+/// is written before `Reply`, `RepliesEnded`, `Read` and `TooManyTurns`.
 #[derive(Debug, Drop)]
 pub enum DriveError {
     /// The settings are none of a test.
@@ -29,7 +29,7 @@ pub enum DriveError {
     /// The input could not be read on.
     Read,
     /// The conversation took 2^64 - 1 turns, more than can be counted.
-    TooLong,
+    TooManyTurns,
     /// The history can't be judged.
     Mismatch,
     /// The output could not be written.
@@ -48,7 +48,7 @@ impl DriveError {
             DriveError::SettingsRead
             | DriveError::RepliesEnded
             | DriveError::Read
-            | DriveError::TooLong
+            | DriveError::TooManyTurns
             | DriveError::Mismatch
             | DriveError::Write
             | DriveError::OutOfMemory => FAILED,
@@ -66,7 +66,7 @@ impl Display for DriveError {
             DriveError::Reply { number, why } => write!(f, "reply {number}: {why}"),
             DriveError::RepliesEnded => f.write_str("replies ended"),
             DriveError::Read => f.write_str("read failed"),
-            DriveError::TooLong => f.write_str("input too long"),
+            DriveError::TooManyTurns => f.write_str("too many turns"),
             DriveError::Mismatch => f.write_str("mismatch"),
             DriveError::Write => f.write_str("write failed"),
             DriveError::OutOfMemory => f.write_str("out of memory"),

@@ -4,7 +4,7 @@ use Rattle.jh_lines.specs.Events.{TalkEvent, told_in, is_at_end, HasFailedToTell
 use Rattle.jh_lines.specs.Events.{HasFailedToListen, IsPrompt, due_in, machine_after}
 use Rattle.jh_lines.specs.declared.ending.Ending.{Ending}
 use Rattle.jh_lines.specs.declared.ending.Ending.TheVariants.{Over, InputEnded, ReadFailed}
-use Rattle.jh_lines.specs.declared.ending.Ending.TheVariants.{WriteFailed, OutOfMemory, TooLong}
+use Rattle.jh_lines.specs.declared.ending.Ending.TheVariants.{WriteFailed, OutOfMemory, TooManyTurns}
 
 -- What an ending says of all that passed, and of the machine that is left, where `due` gives what is
 -- due after events and `after` the machine. Memory may be refused in the midst of a line, so of that
@@ -20,7 +20,7 @@ IsEndingOf due after has_finished past machine (ReadFailed error) = (told_in pas
 IsEndingOf due after has_finished past machine (WriteFailed error) =
     (machine ≡ after past) × HasFailedToTell error past
 IsEndingOf due after has_finished past machine OutOfMemory = Unit {0}
-IsEndingOf due after has_finished past machine TooLong =
+IsEndingOf due after has_finished past machine TooManyTurns =
     (machine ≡ after past) × (2 ^ 64 - 1 ≤ length past)
 
 -- These events are a conversation of a machine, with all that is due told in time; it ended so, and

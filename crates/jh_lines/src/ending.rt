@@ -16,5 +16,5 @@ pub enum Ending {
     /// What was said last was not told, and the machine may have taken a part of the last lines.
     OutOfMemory,
     /// After 2^64 - 1 turns.
-    TooLong,
+    TooManyTurns,
 }

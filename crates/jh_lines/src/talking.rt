@@ -50,5 +50,5 @@ pub fn converse<P: Peer, M: Machine>(alloc: Global, peer: &mut P, machine: &mut 
             return Ending::OutOfMemory;
         };
     }
-    Ending::TooLong
+    Ending::TooManyTurns
 }

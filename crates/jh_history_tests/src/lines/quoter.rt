@@ -66,6 +66,6 @@ pub(crate) fn name_of(ending: &Ending) -> Option<&'static str> {
             _ => "write: another error",
         }),
         Ending::OutOfMemory => None,
-        Ending::TooLong => Some("too long"),
+        Ending::TooManyTurns => Some("too many turns"),
     }
 }
