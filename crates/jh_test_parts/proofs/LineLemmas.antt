@@ -11,6 +11,7 @@ use Rattle.jh_edn.specs.Edn.{Edn}
 use Rattle.jh_edn.specs.Lines.{IsFirstErrorIn, values_in}
 use Rattle.jh_edn.specs.View.{view_pair, view_pairs}
 use Rattle.jh_edn.specs.declared.error.EdnError.{EdnError}
+use Rattle.jh_edn.specs.declared.error.EdnError.TheVariants as edn
 use Rattle.jh_edn.specs.declared.error.EdnError.TheVariants.{OutOfMemory}
 use Rattle.jh_edn.specs.declared.value.Value.{Value}
 use Rattle.jh_test_parts.specs.LineMeanings.{Bad, line_meaning, meaning_of_read, meaning_of_values}
@@ -23,23 +24,23 @@ any_viewed test (p ∷ ps) = ap (λ b. test (view_pair p) || b) (any_viewed test
 
 -- The bytes of a line.
 
-no_text : {E : Type 0} (error : E → EdnError) (r : Result (List Edn) E) (b : Bool) → b ≡ false → Bad complaint.Utf8 ≡ (if b then meaning_of_read error r else Bad complaint.Utf8)
-no_text error r b is = sym (ap (λ v. if v then meaning_of_read error r else Bad complaint.Utf8) is)
+no_text : {E : Type 0} (error : E → EdnError) (r : Result (List Edn) E) (b : Bool) → b ≡ false → Bad (complaint.Edn edn.Utf8) ≡ (if b then meaning_of_read error r else Bad (complaint.Edn edn.Utf8))
+no_text error r b is = sym (ap (λ v. if v then meaning_of_read error r else Bad (complaint.Edn edn.Utf8)) is)
 
-pub no_utf8 : (line : List ℕ) → (IsUtf8 line → ⊥) → Bad complaint.Utf8 ≡ line_meaning line
+pub no_utf8 : (line : List ℕ) → (IsUtf8 line → ⊥) → Bad (complaint.Edn edn.Utf8) ≡ line_meaning line
 no_utf8 line differs = go (cases_Bool (is_utf8 line))
   where
-    go : (is_utf8 line ≡ true) ⊎ (is_utf8 line ≡ false) → Bad complaint.Utf8 ≡ line_meaning line
+    go : (is_utf8 line ≡ true) ⊎ (is_utf8 line ≡ false) → Bad (complaint.Edn edn.Utf8) ≡ line_meaning line
     go (inl is) = absurd (differs (IsUtf8-from_is_utf8 line is))
     go (inr is) = no_text _ (values_in line) (is_utf8 line) is
 
 by_values : {E : Type 0} (error : E → EdnError) (r : Result (List Edn) E) (values : List Edn) (b : Bool) → b ≡ true → r ≡ Ok values
-    → meaning_of_values values ≡ (if b then meaning_of_read error r else Bad complaint.Utf8)
-by_values error r values b is e = sym (ap (λ v. if v then meaning_of_read error r else Bad complaint.Utf8) is ∙ ap (meaning_of_read error) e)
+    → meaning_of_values values ≡ (if b then meaning_of_read error r else Bad (complaint.Edn edn.Utf8))
+by_values error r values b is e = sym (ap (λ v. if v then meaning_of_read error r else Bad (complaint.Edn edn.Utf8)) is ∙ ap (meaning_of_read error) e)
 
 by_error : {E : Type 0} (error : E → EdnError) (r : Result (List Edn) E) (x : E) (b : Bool) → b ≡ true → r ≡ Err x
-    → Bad (complaint.Edn (error x)) ≡ (if b then meaning_of_read error r else Bad complaint.Utf8)
-by_error error r x b is e = sym (ap (λ v. if v then meaning_of_read error r else Bad complaint.Utf8) is ∙ ap (meaning_of_read error) e)
+    → Bad (complaint.Edn (error x)) ≡ (if b then meaning_of_read error r else Bad (complaint.Edn edn.Utf8))
+by_error error r x b is e = sym (ap (λ v. if v then meaning_of_read error r else Bad (complaint.Edn edn.Utf8)) is ∙ ap (meaning_of_read error) e)
 
 pub said_values : (line : List ℕ) (values : List Edn) → IsUtf8 line → values_in line ≡ Ok values → meaning_of_values values ≡ line_meaning line
 said_values line values h e = by_values _ (values_in line) values (is_utf8 line) (is_utf8-from_IsUtf8 line h) e

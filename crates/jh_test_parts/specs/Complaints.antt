@@ -22,7 +22,6 @@ edn_text edn.Write = codes "write failed"
 edn_text edn.OutOfMemory = codes "out of memory"
 
 abbrev pub complaint_text : Complaint → Option (List ℕ)
-complaint_text complaint.Utf8 = Some (codes "not UTF-8")
 complaint_text (complaint.Edn error) = Some (edn_text error)
 complaint_text complaint.MoreThanOne = Some (codes "more than one element")
 complaint_text (complaint.Op error) = None

@@ -9,6 +9,7 @@ use Rattle.jh_edn.specs.Edn.{Edn, integer_of, is_keyword}
 use Rattle.jh_edn.specs.Lines.{values_in}
 use Rattle.jh_edn.specs.Reading.{error_at, line_at}
 use Rattle.jh_edn.specs.declared.error.EdnError.{EdnError}
+use Rattle.jh_edn.specs.declared.error.EdnError.TheVariants as edn
 use Rattle.jh_ops.specs.Operation.{Operation}
 use Rattle.jh_ops.specs.OperationText.{parsed_op}
 use Rattle.jh_ops.specs.declared.op_text.OpError.{OpError}
@@ -87,7 +88,7 @@ abbrev pub line_meaning : List ℕ → MeaningValue
 line_meaning bytes =
     if is_utf8 bytes
     then meaning_of_read (λ e. error_at e.kind (line_at bytes e.left)) (values_in bytes)
-    else Bad complaint.Utf8
+    else Bad (complaint.Edn edn.Utf8)
 
 -- what a line means, as the program holds it
 abbrev pub line_meaning_by : LineMeaning → MeaningValue

@@ -10,8 +10,8 @@ use std::fmt::{self, Display, Formatter, Write};
 /// Why a line is no reply.
 #[derive(Clone, Copy, Debug, PartialEq, Eq)]
 pub enum Complaint {
-    Utf8,
-    /// What the first error of its text is; its line means nothing.
+    /// The first error of its text, or that its bytes are none in UTF-8. The line that the error names
+    /// means nothing.
     Edn(EdnError),
     MoreThanOne,
     /// What the text of no operation is.
@@ -52,7 +52,6 @@ impl Display for Complaint {
 
     fn fmt<W: Write>(&self, f: &mut Formatter<W>) -> fmt::Result {
         match *self {
-            Complaint::Utf8 => f.write_str("not UTF-8"),
             Complaint::Edn(error) => f.write_str(edn_text(error)),
             Complaint::MoreThanOne => f.write_str("more than one element"),
             Complaint::Op(error) => write!(f, "{error}"),

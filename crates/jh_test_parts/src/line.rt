@@ -125,7 +125,7 @@ pub fn line_meaning(alloc: Global, line: &[u8]) -> Result<LineMeaning, AllocErro
     ensures { IfOk result (λ meaning. line_meaning_by meaning ≡ rule.line_meaning line.now) }
 {
     let Ok(text) = str::from_utf8(line) else {
-        return Ok(LineMeaning::Bad(Complaint::Utf8));
+        return Ok(LineMeaning::Bad(Complaint::Edn(EdnError::Utf8)));
     };
     match values_in_line(alloc, text) {
         Ok(values) => meaning_of_values(alloc, values),
