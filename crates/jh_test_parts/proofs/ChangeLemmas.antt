@@ -92,13 +92,13 @@ same_link l =
 same_node : (n : NodeCell) → are_same_nodes n n ≡ true
 same_node n = both_true (is_same_life n.process n.process) (int_eq n.clock n.clock) (same_life n.process) (int_eq_equiv.refl n.clock)
 
-link_untold : (a b : ℕ) (was is : Link) → was ≡ is → None ≡ link_if_other a b was is
-link_untold a b was is same =
+link_unchanged : (a b : ℕ) (was is : Link) → was ≡ is → None ≡ link_if_other a b was is
+link_unchanged a b was is same =
     let alike : are_same_links was is ≡ true = ap (λ l. are_same_links was l) (sym same) ∙ same_link was in
     sym (ap (λ w. if w then None else Some (let t : ChangedLink = record { source = a; destination = b; link = is } in t)) alike)
 
-node_untold : (a : ℕ) (was is : NodeCell) → was ≡ is → None ≡ node_if_other a was is
-node_untold a was is same =
+node_unchanged : (a : ℕ) (was is : NodeCell) → was ≡ is → None ≡ node_if_other a was is
+node_unchanged a was is same =
     let alike : are_same_nodes was is ≡ true = ap (λ n. are_same_nodes was n) (sym same) ∙ same_node was in
     sym (ap (λ w. if w then None else Some (let t : ChangedNode = record { node = a; cell = is } in t)) alike)
 
@@ -118,7 +118,7 @@ module _ (before after : EnvValue) (named earlier later : List FaultValue) (firs
 
       apart : list_any (fault_names_link a b) named ≡ false → (l : Option Link) → None ≡ option_and_then (λ l. link_if_other a b (link_over earlier a b l) (link_over later a b l)) l
       apart out None = refl
-      apart out (Some l) = link_untold a b (link_over earlier a b l) (link_over later a b l) (elsewhere.links a b l out)
+      apart out (Some l) = link_unchanged a b (link_over earlier a b l) (link_over later a b l) (elsewhere.links a b l out)
 
       go : (w : Bool) → list_any (fault_names_link a b) named ≡ w
           → option_and_then (link_if_changed after) (if w then option_map (λ k. (a, b, k)) (link_of before a b) else None) ≡ changed_link before.start earlier later a b
@@ -143,7 +143,7 @@ module _ (before after : EnvValue) (named earlier later : List FaultValue) (firs
 
       apart : list_any (fault_names_node a) named ≡ false → (n : Option NodeCell) → None ≡ option_and_then (λ n. node_if_other a (node_over earlier a n) (node_over later a n)) n
       apart out None = refl
-      apart out (Some n) = node_untold a (node_over earlier a n) (node_over later a n) (elsewhere.nodes a n out)
+      apart out (Some n) = node_unchanged a (node_over earlier a n) (node_over later a n) (elsewhere.nodes a n out)
 
       go : (w : Bool) → list_any (fault_names_node a) named ≡ w
           → option_and_then (node_if_changed after) (if w then option_map (λ k. (a, k)) (node_of before a) else None) ≡ changed_node before.start earlier later a
