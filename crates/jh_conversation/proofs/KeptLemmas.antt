@@ -191,17 +191,17 @@ module _ (t : TestValue) (P : Machine → Type 0) (l : IsKeptByLine t P) where
   kept_end m thread open_call op time e h =
       cond_both (is_invoke op.kind || not (is_keyword (request_name open_call.request) op.f)) (Err complaint.OtherCall)
       (if not (fits_call t open_call op.kind op.value) then Err complaint.BadValue else Ok open_call.request) (Takes m thread op time)
-      (λ _. l.refuses m _ h)
+      (λ _. l.refuses m complaint.OtherCall h)
       (λ no. cond_both (not (fits_call t open_call op.kind op.value)) (Err complaint.BadValue) (Ok open_call.request) (Takes m thread op time)
-      (λ _. l.refuses m _ h)
+      (λ _. l.refuses m complaint.BadValue h)
       (λ fits. l.finishes (at_time time m) thread open_call op (same_call m time thread ∙ e) (or_parts_false _ _ no) (not-false _ fits) (kept_time m time h)))
 
   kept_completion : (m : Machine) (process : ℕ) (op : Operation) (time : Option ℕ) (c : Option ValuedCall) → (caller_of m (thread_of_process t process)).call ≡ c → P m → Takes m (thread_of_process t process) op time (ended_request t m process op c)
-  kept_completion m process op time None e h = l.refuses m _ h
+  kept_completion m process op time None e h = l.refuses m complaint.NoCallOpen h
   kept_completion m process op time (Some c) e h =
       cond_both (caller_process t m (thread_of_process t process) == process) (ended_call t c op) (Err complaint.NoCallOpen) (Takes m (thread_of_process t process) op time)
       (λ _. kept_end m (thread_of_process t process) c op time e h)
-      (λ _. l.refuses m _ h)
+      (λ _. l.refuses m complaint.NoCallOpen h)
 
   pub kept_take_in : (m : Machine) (line : MeaningValue) → P m → P (take_in t line m)
   kept_take_in m Nothing h = h
