@@ -323,7 +323,7 @@ class Guard:
         os.waitpid(self.process, 0)
 
 
-def answer_of(workload: str, function: str, asked: Value, got: Value) -> Value:
+def completed_value(workload: str, function: str, asked: Value, got: Value) -> Value:
     """The value of an `:ok` completion, without its key. If it did not suit, `jeprun drive` would wait for another."""
     if function not in ("read", "txn"):
         return got if function == "generate" else asked
@@ -348,7 +348,7 @@ class Worker(threading.Thread):
     def __init__(self, test: "Test") -> None:
         super().__init__(daemon=True)
         self.test, self.operations = test, queue.SimpleQueue[Operation | None]()
-        self.open: Operation | None = None  # the call that is not answered yet
+        self.open: Operation | None = None  # the call that has no completion yet
         self.asked: Value = None  # its value
         self.deadline, self.is_begun = 0.0, False
         self.client: Client | None = None
@@ -367,7 +367,7 @@ class Worker(threading.Thread):
             client.close()
 
     def perform(self, operation: Operation, asked: Value) -> None:
-        """Makes a call, and answers it."""
+        """Makes a call, and completes it."""
         test, function, workload = self.test, operation.function, self.test.settings.table["workload"]
         time.sleep(random.uniform(0, 2 * test.gap))
         self.deadline = time.monotonic() + test.call_timeout
@@ -379,8 +379,8 @@ class Worker(threading.Thread):
                 self.is_begun = self.open is operation
             if self.is_begun:  # from here on it may have been done
                 got = self.client.invoke(operation)
-                value = answer_of(workload, function, asked if operation.key is None else asked[1], got)
-                self.answer("ok", operation, value if operation.key is None else [operation.key, value])
+                value = completed_value(workload, function, asked if operation.key is None else asked[1], got)
+                self.complete("ok", operation, value if operation.key is None else [operation.key, value])
         except Exception as error:
             if isinstance(error, Unsuitable):
                 test.fail(f"process {operation.process}: {error}")
@@ -389,11 +389,11 @@ class Worker(threading.Thread):
                 test.folder.log(f"{function} of process {operation.process}: the first such exception:", error)
             is_definite = isinstance(error, Failed) or not self.is_begun
             operation.other = {"error": isinstance(error, Failed) and str(error) or repr(error), **operation.other}
-            self.answer("fail" if is_definite else "info", operation, asked)
+            self.complete("fail" if is_definite else "info", operation, asked)
             if not is_definite or not self.is_begun:
                 self.close()
 
-    def answer(self, kind: str, operation: Operation, value: Value) -> None:
+    def complete(self, kind: str, operation: Operation, value: Value) -> None:
         """Writes the completion of a call, unless it has one."""
         line = {"type": Keyword(kind), "process": operation.process, "f": Keyword(operation.function), "value": value}
         line["time"] = time.monotonic_ns() - self.test.began
@@ -451,7 +451,7 @@ class Test:
             worker.operations.put(worker.open)
 
     def tick(self) -> None:
-        """Tells the time now and then, and `:stop` behind a Ctrl-C, and answers calls that ran out."""
+        """Tells the time now and then, and `:stop` behind a Ctrl-C, and completes calls that ran out."""
         while not self.over.wait(self.pause):
             while not self.stops.empty():
                 self.say(self.stops.get())
@@ -464,7 +464,7 @@ class Test:
                         worker.operations.put(None)
                         kind, what = ("info", "timed out") if worker.is_begun else ("fail", "open timed out")
                         worker.open = replace(worker.open, other={"error": f"{what} after {self.call_timeout:g} s"})
-                        worker.answer(kind, worker.open, worker.asked)
+                        worker.complete(kind, worker.open, worker.asked)
 
     def step(self, line: dict[str, Value]) -> None:
         """Does a step of the nemesis, and says that it is done."""

@@ -209,7 +209,7 @@ class Edn(unittest.TestCase):
             ("list-append", "txn", self.TXN, self.TXN, self.TXN),
         ]:
             with self.subTest(f"{workload} {function} {got}"):
-                self.assertEqual(jeprun.answer_of(workload, function, asked, got), answer)
+                self.assertEqual(jeprun.completed_value(workload, function, asked, got), answer)
 
     def test_answers_that_do_not_suit(self) -> None:
         append = ["append", 3, 1]
@@ -223,7 +223,7 @@ class Edn(unittest.TestCase):
             function, asked = ("txn", self.TXN) if workload == "list-append" else ("read", None)
             for got in answers:
                 with self.subTest(f"{workload} {got}"), self.assertRaises(Unsuitable):
-                    jeprun.answer_of(workload, function, asked, got)
+                    jeprun.completed_value(workload, function, asked, got)
 
 
 class SettingsTest(Case):
