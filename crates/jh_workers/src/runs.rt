@@ -162,9 +162,9 @@ fn work_on_threads<S: Work<M, W> + Sync, M: Sync, W: Send + Drop, R: Threads + W
         {
             let mut handles = Vec::new(alloc);
             let mut error = None;
-            for (number, worker) in workers.into_iter().enumerate() {
-                let number = number.min(u32::MAX as usize) as u32;
-                let Ok(handle) = scope.spawn(move || shared.work_at(rt, monitor, number, worker))
+            for (place, worker) in workers.into_iter().enumerate() {
+                let thread = place.min(u32::MAX as usize) as u32;
+                let Ok(handle) = scope.spawn(move || shared.work_at(rt, monitor, thread, worker))
                 else {
                     error = Some(RunError::Thread);
                     break;
