@@ -8,4 +8,4 @@ pub mod ShrinkLemmas
 pub mod TimelineLemmas
 pub mod SearchLemmas
 pub mod PlotLemmas
-pub mod PlacedLemmas
+pub mod IndexedLemmas

@@ -88,8 +88,8 @@ record_prints : (place : ℕ) (r : Record) (words : List ℕ) → place < 2 ^ 63
 record_prints place r words small kept are =
     can_print place r.kind r.process (function_name r.function) r.content r.event small kept.process (function_is r) (words_fit words r are) kept.event
 
-placed_prints : (op : Operation) → IsIndexedRecord op → CanPrint op
-placed_prints op h =
+indexed_prints : (op : Operation) → IsIndexedRecord op → CanPrint op
+indexed_prints op h =
     let r : Record = h.is.0 in
     subst CanPrint (ap (indexed_operation h.place) h.is.2 ∙ sym h.indexed) (record_prints h.place r h.words h.small h.is.1 h.is.3)
 
@@ -120,15 +120,15 @@ parsed_parts place Kind.Info Process.Nemesis name content (Some e) = refl
 record_parsed : (place : ℕ) (r : Record) → IsParsedAgain (indexed_operation place (operation_of r))
 record_parsed place r = parsed_parts place r.kind r.process (function_name r.function) r.content r.event
 
-placed_parsed : (op : Operation) → IsIndexedRecord op → IsParsedAgain op
-placed_parsed op h =
+indexed_parsed : (op : Operation) → IsIndexedRecord op → IsParsedAgain op
+indexed_parsed op h =
     let r : Record = h.is.0 in
     subst IsParsedAgain (ap (indexed_operation h.place) h.is.2 ∙ sym h.indexed) (record_parsed h.place r)
 
 each_parsed : (history : List Operation) → AllByRecursion IsIndexedRecord history → map parsed_op (map value_written history) ≡ map Ok history
 each_parsed [] all = refl
 each_parsed (op ∷ ops) all =
-    let here = placed_parsed op all.0 in
+    let here = indexed_parsed op all.0 in
     let behind = each_parsed ops all.1 in
     λ i. here i ∷ behind i
 
@@ -138,7 +138,7 @@ one_by_one (op ∷ []) = refl
 one_by_one (op ∷ other ∷ ops) = refl
 
 pub records_print : RecordedHistoryIsPrintable
-records_print history all = All-weaker IsIndexedRecord CanPrint placed_prints history all
+records_print history all = All-weaker IsIndexedRecord CanPrint indexed_prints history all
 
 pub records_parsed : (history : List Operation) → All IsIndexedRecord history → AreParsed (map value_written history) history
 records_parsed history all = ap (map parsed_op) (one_by_one history) ∙ each_parsed history (recursion_from_All IsIndexedRecord history all)

@@ -61,8 +61,8 @@ cells_same start other same faults = λ i. record {
   node = λ a. option_map (node_over faults a) (sym (same.nodes a) i);
 }
 
-abbrev placed : Table → Moment → Moment
-placed start m = record { number = m.number; faults = restarted start m.faults; replicas = m.replicas }
+abbrev restarted_moment : Table → Moment → Moment
+restarted_moment start m = record { number = m.number; faults = restarted start m.faults; replicas = m.replicas }
 
 abbrev founded : Table → Setup → Setup
 founded start u = record { names = u.names; start = start; settings = u.settings }
@@ -79,32 +79,32 @@ env_same start s same = cells_same s.start start same (faults_in s.active)
 still_same : (start : Table) (s : State) (e : Event) → AreSameCells s.start start → AreSameCells (faults_after s e).start start
 still_same start s e same = subst (λ (t : Table). AreSameCells t start) (sym (start_kept s e)) same
 
-next_placed : (u : Setup) (start : Table) (m : Moment) (e : Event) → AreSameCells m.faults.start start → moment_after (founded start u) (placed start m) e ≡ placed start (moment_after u m e)
-next_placed u start m (Event.Call process node request draw reply) same =
+next_restarted : (u : Setup) (start : Table) (m : Moment) (e : Event) → AreSameCells m.faults.start start → moment_after (founded start u) (restarted_moment start m) e ≡ restarted_moment start (moment_after u m e)
+next_restarted u start m (Event.Call process node request draw reply) same =
     let env = env_same start m.faults same in
     λ i. record { number = m.number + 1; faults = restarted start m.faults; replicas = (reply_to u.settings (env i) m.replicas m.number node request draw).replicas }
-next_placed u start m (Event.Step step answer) same =
+next_restarted u start m (Event.Step step answer) same =
     let env = env_same start m.faults same in
     let faults = step_restarted start m.faults step in
     let after : env_of (state_after (restarted start m.faults) step) ≡ env_of (state_after m.faults step) =
     ap env_of faults ∙ env_same start (state_after m.faults step) (still_same start m.faults (Event.Step step answer) same) in
     λ i. record { number = m.number + 1; faults = faults i; replicas = replicas_after_kills u.settings (killed_flags (env i) (length u.names)) (after i) m.replicas }
-next_placed u start m Event.Tick same =
+next_restarted u start m Event.Tick same =
     let env = env_same start m.faults same in
     λ i. record { number = m.number + 1; faults = restarted start m.faults; replicas = replicas_after_tick u.settings.store (env i) m.replicas }
 
-due_placed : (u : Setup) (start : Table) (m : Moment) (e : Event) → AreSameCells m.faults.start start → IsDue u m e → IsDue (founded start u) (placed start m) e
-due_placed u start m (Event.Call process node request draw reply) same h =
+due_restarted : (u : Setup) (start : Table) (m : Moment) (e : Event) → AreSameCells m.faults.start start → IsDue u m e → IsDue (founded start u) (restarted_moment start m) e
+due_restarted u start m (Event.Call process node request draw reply) same h =
     (h.0, subst (λ (env : Cells). reply ≡ (reply_to u.settings env m.replicas m.number node request draw).reply) (sym (env_same start m.faults same)) h.1)
-due_placed u start m (Event.Step step answer) same h = (h.0, h.1 ∙ sym (answer_restarted start m.faults step))
-due_placed u start m Event.Tick same h = tt
+due_restarted u start m (Event.Step step answer) same h = (h.0, h.1 ∙ sym (answer_restarted start m.faults step))
+due_restarted u start m Event.Tick same h = tt
 
-all_due : (u : Setup) (start : Table) (m : Moment) (es : List Event) → AreSameCells m.faults.start start → AreDue u m es → AreDue (founded start u) (placed start m) es
+all_due : (u : Setup) (start : Table) (m : Moment) (es : List Event) → AreSameCells m.faults.start start → AreDue u m es → AreDue (founded start u) (restarted_moment start m) es
 all_due u start m [] same h = tt
 all_due u start m (e ∷ es) same h =
     let after : AreSameCells (moment_after u m e).faults.start start = still_same start m.faults e same in (
-      due_placed u start m e same h.0,
-      subst (λ (k : Moment). AreDue (founded start u) k es) (sym (next_placed u start m e same)) (all_due u start (moment_after u m e) es after h.1),
+      due_restarted u start m e same h.0,
+      subst (λ (k : Moment). AreDue (founded start u) k es) (sym (next_restarted u start m e same)) (all_due u start (moment_after u m e) es after h.1),
     )
 
 legal_founded : (u : Setup) (start : Table) (journal : List Event) → AreSameCells u.start start → IsLegal u journal → IsLegal (founded start u) journal
