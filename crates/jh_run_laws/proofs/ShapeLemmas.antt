@@ -24,9 +24,10 @@ use Rattle.jh_simnode.specs.declared.settings.Store.TheVariants.{Quorum, Lww, Lo
 use Rattle.jh_simnode.specs.Replicas.{blank_replica, contents_of, replica_at, first_replica, got_of, version}
 use Rattle.jh_simnode.specs.Effects.{add_change, cas_change, generate_change, effect, is_small}
 use Rattle.jh_env.specs.Names.{node_places}
+use Rattle.jh_grudge.specs.Grudges.{majority}
 use Rattle.jh_simnode.specs.Reach.{Cells, responding_nodes, reached_nodes}
 use Rattle.jh_simnode.specs.Requests.{is_read_request, only_asks}
-use Rattle.jh_simnode.specs.Stores.{ReplyAndReplicas, reply_alone, reply_to, reply_at, reply_in, running_reply, local_change, lww_change, quorum, quorum_change, quorum_read, quorum_write, newest_place, newer_place, version_at, replicas_with_new_at, older_places, replicas_after_tick, replicas_after_sending, replicas_after_sending_all, replicas_after_kills, replicas_after_kill}
+use Rattle.jh_simnode.specs.Stores.{ReplyAndReplicas, reply_alone, reply_to, reply_at, reply_in, running_reply, local_change, lww_change, quorum_change, quorum_read, quorum_write, newest_place, newer_place, version_at, replicas_with_new_at, older_places, replicas_after_tick, replicas_after_sending, replicas_after_sending_all, replicas_after_kills, replicas_after_kill}
 use Rattle.jh_simnode.proofs.PlaceLemmas.{places_below}
 use Rattle.jh_simnode.specs.declared.events.Event.{Event}
 use Rattle.jh_simnode.specs.Events.{AreDue, IsLegal, Moment, Setup, env_of, moment_after, opening}
@@ -174,7 +175,7 @@ changed_shaped w c all best these k request contents fits t =
       | None ↦ λ h. (t, tt)
       | Some e ↦ λ h. (
         give_shaped w c (record { recency = Version (version_at all best + 1); contents = e.after }) all these h.0 t,
-        either (ReplyFits w request) (nat_lt k (quorum (length all))) reply_of.Info (reply_of.Ok e.got) (λ _. tt) (λ _. h.1),
+        either (ReplyFits w request) (nat_lt k (majority (length all))) reply_of.Info (reply_of.Ok e.got) (λ _. tt) (λ _. h.1),
       )
     ] fits
 
@@ -194,8 +195,8 @@ read_served w c all place (Add v) r n t = absurd cc
 read_served w c all place Generate r n t = absurd cc
 read_served w c all place Txn r n t = absurd cc
 
-some_of : (n m : ℕ) → nat_lt n (quorum m) ≡ false → 0 < n
-some_of n m e = let q = ltb-false n (quorum m) e in omega (arith, q)
+some_of : (n m : ℕ) → nat_lt n (majority m) ≡ false → 0 < n
+some_of n m e = let q = ltb-false n (majority m) e in omega (arith, q)
 
 quorum_served : (w : Workload) (c : ℕ) (env : Cells) (all : List Replica) (node : ℕ) (request : Request) (draw : ℕ) → is_request_of request w ≡ true → AreShaped w c all
     → IsServed w c request (if is_read_request request then quorum_read all (responding_nodes env node (reached_nodes env (length all) draw node)) else quorum_write all (reached_nodes env (length all) draw node) (length (responding_nodes env node (reached_nodes env (length all) draw node))) request)
@@ -205,10 +206,10 @@ quorum_served w c env all node request draw r t =
     let low : Below (length all) reached = below_filter (length all) _ (node_places (length all)) (all_places (length all)) in
     let near : Below (length all) answering = below_filter (length all) _ reached low in
     either (IsServed w c request) (is_read_request request) (quorum_read all answering) (quorum_write all reached (length answering) request)
-    (λ reads. either (IsServed w c request) (nat_lt (length answering) (quorum (length all))) (reply_alone all reply_of.Fail) (reply_alone all (reply_of.Ok (got_of (replica_at all (newest_place all answering)).contents)))
+    (λ reads. either (IsServed w c request) (nat_lt (length answering) (majority (length all))) (reply_alone all reply_of.Fail) (reply_alone all (reply_of.Ok (got_of (replica_at all (newest_place all answering)).contents)))
     (λ _. (t, tt))
     (λ many. read_served w c all (newest_place all answering) request reads (rw (← t.sized) (newest_below (length all) all answering (some_of (length answering) (length all) many) near)) t))
-    (λ _. either (IsServed w c request) (nat_lt (length reached) (quorum (length all))) (reply_alone all reply_of.Fail)
+    (λ _. either (IsServed w c request) (nat_lt (length reached) (majority (length all))) (reply_alone all reply_of.Fail)
     (quorum_change all (newest_place all reached) reached (length answering) (effect request (replica_at all (newest_place all reached)).contents))
     (λ _. (t, tt))
     (λ many.

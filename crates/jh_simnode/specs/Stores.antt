@@ -1,6 +1,6 @@
 -- What each store does with a request and with a tick, and what a killed node forgets (this
 -- project's own).
-use Rattle.std.specs.Prelude.{ℕ, ℤ, pos, ◌+◌, ◌/◌, ◌+ℤ◌, ◌&&◌, Bool, false, not, List, [], ◌∷◌}
+use Rattle.std.specs.Prelude.{ℕ, ℤ, pos, ◌+◌, ◌+ℤ◌, ◌&&◌, Bool, false, not, List, [], ◌∷◌}
 use Rattle.std.specs.Prelude.{Option, Some, None, nat_lt, length, fold, slice_set, slice_index_or}
 use Rattle.std.specs.Prelude.{map, filter, if◌then◌else◌}
 use Rattle.jh_env.specs.Cells.{Life}
@@ -8,6 +8,7 @@ use Rattle.jh_env.specs.Cells.{Running, Paused, Killed}
 use Rattle.jh_env.specs.Cells.{Link}
 use Rattle.jh_env.specs.Cells.{NodeCell}
 use Rattle.jh_env.specs.Names.{node_places}
+use Rattle.jh_grudge.specs.Grudges.{majority}
 use Rattle.jh_ops.specs.declared.call.Request.{Request}
 use Rattle.jh_simnode.specs.declared.settings.Settings.{Settings}
 use Rattle.jh_simnode.specs.declared.settings.Store.{Store}
@@ -33,10 +34,6 @@ pub record ReplyAndReplicas : Type 0 where
 -- only a reply
 abbrev pub reply_alone : List Replica → Reply → ReplyAndReplicas
 reply_alone replicas reply = record { reply = reply; replicas = replicas }
-
--- the more than half of so many nodes
-abbrev pub quorum : ℕ → ℕ
-quorum count = count / 2 + 1
 
 -- the place of the greatest version among these places, of equals the first, after the best so far
 abbrev pub newer_place : List Replica → ℕ → ℕ → ℕ
@@ -91,7 +88,7 @@ lww_change replicas stamp reached (Some e) =
 abbrev pub quorum_change : List Replica → ℕ → List ℕ → ℕ → Option RequestEffect → ReplyAndReplicas
 quorum_change replicas best reached answering None = reply_alone replicas Fail
 quorum_change replicas best reached answering (Some e) = record {
-  reply = if nat_lt answering (quorum (length replicas)) then Info else Ok e.got;
+  reply = if nat_lt answering (majority (length replicas)) then Info else Ok e.got;
   replicas =
       replicas_with_new_at
       (record { recency = Version (version_at replicas best + 1); contents = e.after }) replicas
@@ -114,14 +111,14 @@ lww_reply env replicas at node request draw =
 -- a read of the greatest version of those that respond; fails below a majority
 abbrev pub quorum_read : List Replica → List ℕ → ReplyAndReplicas
 quorum_read replicas answering =
-    if nat_lt (length answering) (quorum (length replicas)) then reply_alone replicas Fail
+    if nat_lt (length answering) (majority (length replicas)) then reply_alone replicas Fail
     else reply_alone replicas
     (Ok (got_of (replica_at replicas (newest_place replicas answering)).contents))
 
 -- a change of the greatest version reached; fails below a majority
 abbrev pub quorum_write : List Replica → List ℕ → ℕ → Request → ReplyAndReplicas
 quorum_write replicas reached answering request =
-    if nat_lt (length reached) (quorum (length replicas)) then reply_alone replicas Fail
+    if nat_lt (length reached) (majority (length replicas)) then reply_alone replicas Fail
     else quorum_change replicas (newest_place replicas reached) reached answering
     (effect request (replica_at replicas (newest_place replicas reached)).contents)
 
