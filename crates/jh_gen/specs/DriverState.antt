@@ -210,8 +210,8 @@ pub record IsKept (d : DriverState) : Type 0 where
   pub processes : length d.processes ≡ d.clients + 1
   pub small :
       (k : ℕ) → k < d.clients + 1
-      → slice_index d.processes k + (if slice_index_or d.busy k false then 16 else 0)
-      ≤ 16 + 16 * d.given
+      → slice_index d.processes k + (if slice_index_or d.busy k false then max_clients else 0)
+      ≤ max_clients + max_clients * d.given
 
 -- Laws.
 

@@ -3,6 +3,7 @@
 //! generators are taken.
 
 ghost use Rattle.std.specs.Prelude.{◌≡◌, ◌+◌, ◌≤◌, ◌<◌, [], ◌∷◌, IfOk, filter, true, nat_le};
+ghost use Rattle.jh_gen.specs.DriverState.{max_clients};
 ghost use Rattle.jh_gen.specs.Fits as rule;
 ghost use Rattle.jh_gen.specs.Generator.{row_of, share_list};
 ghost use Rattle.jh_gen.specs.View.{generator_of};
@@ -86,7 +87,7 @@ impl Shares {
 /// What is left of a generator for some threads, before its first call.
 #[cycle(build)]
 pub(crate) fn build(alloc: Global, source: &Gen, threads: &[usize]) -> Result<Node, AllocError>
-    requires { fits 16 (generator_of source.now) ≡ true }
+    requires { fits max_clients (generator_of source.now) ≡ true }
     ensures { IfOk result
         (λ n. node_state n ≡ state_left (generator_of source.now) [] threads.now) }
 {
@@ -146,7 +147,7 @@ pub(crate) fn build(alloc: Global, source: &Gen, threads: &[usize]) -> Result<No
 /// What is left of an inner generator for some threads, before its first call.
 #[cycle(build)]
 fn build_within(alloc: Global, inner: &Inner, threads: &[usize]) -> Result<Within, AllocError>
-    requires { fits 16 inner.now ≡ true }
+    requires { fits max_clients inner.now ≡ true }
     ensures { IfOk result (λ w. w ≡ state_left inner.now [] threads.now) }
 {
     let node = build(alloc, &inner.boxed, threads)?;
@@ -158,7 +159,7 @@ fn build_within(alloc: Global, inner: &Inner, threads: &[usize]) -> Result<Withi
 /// What is left of each member for some threads, before its first call.
 #[cycle(build)]
 fn build_row(alloc: Global, members: &Gens, threads: &[usize]) -> Result<Row, AllocError>
-    requires { all_fit 16 (row_of members.now) ≡ true }
+    requires { all_fit max_clients (row_of members.now) ≡ true }
     ensures { IfOk result (λ r. states_from r ≡ states_left (row_of members.now) 0 [] threads.now) }
 {
     let mut row = Vec::new(alloc);
@@ -175,7 +176,7 @@ fn build_row(alloc: Global, members: &Gens, threads: &[usize]) -> Result<Row, Al
 /// One generator for a part of the threads.
 #[cycle(build)]
 fn build_lot(alloc: Global, inner: &Inner, part: Vec<usize>) -> Result<Lot, AllocError>
-    requires { fits 16 inner.now ≡ true }
+    requires { fits max_clients inner.now ≡ true }
     ensures { IfOk result (λ l. lot_of l ≡ (part.items, state_left inner.now [] part.items)) }
 {
     let node = build(alloc, &inner.boxed, part.as_slice())?;
@@ -188,7 +189,7 @@ fn build_lot(alloc: Global, inner: &Inner, part: Vec<usize>) -> Result<Lot, Allo
 /// The one lot of a generator that only a part of the threads reaches.
 #[cycle(build)]
 fn build_part(alloc: Global, inner: &Inner, part: Vec<usize>) -> Result<Lots, AllocError>
-    requires { fits 16 inner.now ≡ true }
+    requires { fits max_clients inner.now ≡ true }
     ensures { IfOk result (λ ls. ls ≡ (part.items, state_left inner.now [] part.items) ∷ []) }
 {
     let mut items = Vec::new(alloc);
@@ -199,7 +200,7 @@ fn build_part(alloc: Global, inner: &Inner, part: Vec<usize>) -> Result<Lots, Al
 /// A copy for each thread.
 #[cycle(build)]
 fn build_copies(alloc: Global, inner: &Inner, threads: &[usize]) -> Result<Lots, AllocError>
-    requires { fits 16 inner.now ≡ true }
+    requires { fits max_clients inner.now ≡ true }
     ensures { IfOk result
         (λ ls. lots_from ls ≡ lots_each (λ x. state_left inner.now [] (x ∷ [])) threads.now) }
 {
@@ -215,8 +216,8 @@ fn build_copies(alloc: Global, inner: &Inner, threads: &[usize]) -> Result<Lots,
 /// The shares in order.
 #[cycle(build)]
 fn build_shares(alloc: Global, shares: &Shares, threads: &[usize]) -> Result<Vec<Lot>, AllocError>
-    requires sum { shares_sum (share_list shares.now) ≤ 16 }
-    requires fit { shares_fit 16 (share_list shares.now) ≡ true }
+    requires sum { shares_sum (share_list shares.now) ≤ max_clients }
+    requires fit { shares_fit max_clients (share_list shares.now) ≡ true }
     ensures { IfOk result
         (λ v. lots_from (lots_view v.items) ≡ lots_of (share_list shares.now) 0 0 [] threads.now) }
 {
@@ -234,7 +235,7 @@ fn build_shares(alloc: Global, shares: &Shares, threads: &[usize]) -> Result<Vec
 impl Shares {
     /// How many client threads have a share.
     fn sum(&self) -> usize
-        requires { shares_sum (share_list self.now) ≤ 16 }
+        requires { shares_sum (share_list self.now) ≤ max_clients }
         ensures { result ≡ shares_sum (share_list self.now) }
     {
         let mut sum = 0;
@@ -266,7 +267,7 @@ fn threads_among(
     first: usize,
     count: usize,
 ) -> Result<Vec<usize>, AllocError>
-    requires { first + count ≤ 16 }
+    requires { first + count ≤ max_clients }
     ensures { IfOk result (λ v. v.items ≡ filter (is_share_thread first count) threads.now) }
 {
     let last = first + count;

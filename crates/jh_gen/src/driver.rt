@@ -10,7 +10,8 @@ ghost use Rattle.jh_gen.specs.DriverState as rule;
 ghost use Rattle.jh_gen.specs.DriverState.{Answers, CanDrive, IsFresh, IsKnown, MayAsk, MayEnd};
 ghost use Rattle.jh_gen.specs.DriverState.{GivesSmallProcess, RefusesAsking};
 ghost use Rattle.jh_gen.specs.DriverState.{RefusesDriver, RefusesEnding, IsDriverOf};
-ghost use Rattle.jh_gen.specs.DriverState.{driver_after_end, next_process, thread_number};
+ghost use Rattle.jh_gen.specs.DriverState.{driver_after_end, max_clients, next_process};
+ghost use Rattle.jh_gen.specs.DriverState.{thread_number};
 
 use crate::answers::{DriverError, Ended, GenAnswer, GenError, Thread};
 use crate::build::{build, fits};
@@ -53,7 +54,7 @@ impl Model for Driver {
 
 /// The nemesis and all client threads, in order.
 fn all_threads(alloc: Global, clients: usize) -> Result<Vec<usize>, AllocError>
-    requires { clients ≤ 16 }
+    requires { clients ≤ max_clients }
     ensures { IfOk result (λ v. v.items ≡ rule.all_threads clients) }
 {
     let mut threads = Vec::new(alloc);
@@ -65,7 +66,7 @@ fn all_threads(alloc: Global, clients: usize) -> Result<Vec<usize>, AllocError>
 
 /// The process of each thread. The nemesis has a place too, so that places are threads.
 fn first_processes(alloc: Global, clients: usize) -> Result<Vec<u64>, AllocError>
-    requires { clients ≤ 16 }
+    requires { clients ≤ max_clients }
     ensures long { IfOk result (λ v. length v.items ≡ clients + 1) }
     ensures numbered { IfOk result
         (λ v. (k : ℕ) → k < clients + 1 → slice_index v.items k ≡ k - 1) }

@@ -2,6 +2,7 @@
 use Rattle.std.specs.Prelude.{◌≡◌, ℕ, ◌≤◌, true, List, [], length, All}
 use Rattle.jh_env.specs.Overlay.{EnvValue, StandsFor}
 use Rattle.jh_nemesis.specs.Steps.{FitsNodes}
+use Rattle.jh_gen.specs.DriverState.{max_clients}
 use Rattle.jh_gen.specs.Generator.{Generator}
 use Rattle.jh_gen.specs.Suits.{suits}
 use Rattle.jh_gen.specs.View.{generator_of}
@@ -51,9 +52,9 @@ plan_with_schedule p schedule = record p { schedule = schedule }
 abbrev pub plan_with_seed : PlanValue → ℕ → PlanValue
 plan_with_seed p seed = record p { seed = seed }
 
--- from 1 to 16 client threads
+-- some client threads, and no more than a driver has
 abbrev pub HasClients : PlanValue → Type 0
-HasClients p = (1 ≤ p.clients) × (p.clients ≤ 16)
+HasClients p = (1 ≤ p.clients) × (p.clients ≤ max_clients)
 
 -- how many calls are allowed
 abbrev pub HasOps : PlanValue → Type 0

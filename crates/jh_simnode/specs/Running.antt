@@ -16,7 +16,7 @@ use Rattle.jh_ops.specs.declared.call.Request.{Request}
 use Rattle.jh_gen.specs.Tally.{Path}
 use Rattle.jh_ops.specs.declared.operation.Process.{Process}
 use Rattle.jh_ops.specs.declared.operation.Process.TheVariants as process
-use Rattle.jh_gen.specs.DriverState.{DriverState, IsDriverOf}
+use Rattle.jh_gen.specs.DriverState.{DriverState, IsDriverOf, max_clients}
 use Rattle.jh_gen.specs.DriverState as driver
 use Rattle.jh_gen.specs.declared.answers.Thread.TheVariants as thread
 use Rattle.jh_gen.specs.declared.answers.Ended.{Ended}
@@ -83,7 +83,7 @@ pub record Keeps (p : PlanValue) (r : Turns) (journal : List Event) (run : Run) 
   pub asks : run.asks ≡ r.asks
   pub waits : run.waits ≡ r.waits
   pub ended : run.has_ended ≡ r.has_ended
-  pub few : r.has_ended ≡ false → r.asks ≤ 17 * length journal + r.waits
+  pub few : r.has_ended ≡ false → r.asks ≤ (max_clients + 1) * length journal + r.waits
 
 -- between two turns
 pub record BetweenTurns (p : PlanValue) (run : Run) (w : WorldValue) : Type 0 where
@@ -142,12 +142,12 @@ pub record MayCall (p : PlanValue) (run : Run) (w : WorldValue) (thread process 
   pub move : ask_move p turns w.journal ≡ Calls path request
   pub thread_is : thread ≡ thread_of p turns
   pub within : thread < p.clients
-  pub crowd : p.clients ≤ 16
+  pub crowd : p.clients ≤ max_clients
   pub process_is : process ≡ process_after p.clients (thread_of p turns) w.journal
   pub has : AwaitsReply p turns w.journal path run
   pub legal : IsLegal w.setup w.journal
   pub few : length w.journal ≤ max_events
-  pub few_asks : turns.asks ≤ 17 * length w.journal + turns.waits
+  pub few_asks : turns.asks ≤ (max_clients + 1) * length w.journal + turns.waits
   pub setup : w.setup ≡ setup_of p
 
 -- after a call of a thread: a tick may be due
@@ -183,7 +183,7 @@ is_run_due run entry = run.has_ended || nat_le entry.at run.answered
 pub record HasRoomToAsk (run : Run) (t : ℕ) : Type 0 where
   pub free : driver.MayAsk run.driver (thread.Client t)
   pub asks : run.asks < 2 ^ 63
-  pub waits : run.waits < 16
+  pub waits : run.waits < max_clients
 
 -- the thread whose turn it is asks
 pub record IsAsking (p : PlanValue) (r : Turns) (journal : List Event) (run : Run)
@@ -196,7 +196,8 @@ pub record IsAsking (p : PlanValue) (r : Turns) (journal : List Event) (run : Ru
 -- a turn brings the end nearer: another event, another wait, or the end itself
 abbrev pub moves_left : Run → WorldValue → ℕ
 moves_left run w =
-    (max_events - length w.journal) * 17 + (16 - run.waits) + (if run.has_ended then 0 else 1)
+    (max_events - length w.journal) * (max_clients + 1) + (max_clients - run.waits)
+    + (if run.has_ended then 0 else 1)
 
 -- less is left than before
 abbrev pub Falls : Run → WorldValue → Run → WorldValue → Type 0

@@ -3,6 +3,7 @@
 
 ghost use Rattle.std.specs.Prelude.{◌≡◌, ℕ, pos, ◌+ℤ◌, ◌<◌, ◌≤◌, ◌&&◌, [], length, IfOk};
 ghost use Rattle.std.specs.List.{All};
+ghost use Rattle.jh_simnode.specs.Limits.{max_events};
 ghost use Rattle.jh_simnode.specs.Reach.{env_cells, is_node_running};
 ghost use Rattle.jh_simnode.specs.Replicas.{is_lower, replica_at};
 ghost use Rattle.jh_simnode.specs.TakingInside.{GivesReply, AreTaken, AreSources};
@@ -393,7 +394,7 @@ fn quorum_write(
 ) -> Result<ReplyAndTaken, AllocError>
     requires known { All (λ p. p < length replicas.now) reached.now }
     requires some { 0 < length replicas.now }
-    requires low { (place : ℕ) → version_at replicas.now place < 65536 }
+    requires low { (place : ℕ) → version_at replicas.now place < max_events }
     ensures { IfOk result
         (λ served. GivesReply replicas.now served
         (quorum_write replicas.now reached.now answering request)) }
@@ -431,7 +432,7 @@ fn serve_quorum(
 ) -> Result<ReplyAndTaken, AllocError>
     requires known { node < length replicas.now }
     requires sized { length replicas.now ≡ length env.now.names }
-    requires low { (place : ℕ) → version_at replicas.now place < 65536 }
+    requires low { (place : ℕ) → version_at replicas.now place < max_events }
     ensures { IfOk result
         (λ served. GivesReply replicas.now served
         (quorum_reply (env_cells env.now) replicas.now node request draw)) }
@@ -459,7 +460,7 @@ pub(crate) fn serve(
     requires sized { length replicas.now ≡ length env.now.names }
     requires known { node < length replicas.now }
     requires low { (place : ℕ) → version_at replicas.now place ≤ number }
-    requires few { number < 65536 }
+    requires few { number < max_events }
     ensures { IfOk result
         (λ served. GivesReply replicas.now served
         (reply_to settings.now (env_cells env.now) replicas.now number node request draw)) }

@@ -2,6 +2,7 @@
 //! due. `specs/Runs.antt` has the rules, `specs/Running.antt` what holds between two turns.
 
 ghost use Rattle.std.specs.Prelude.{◌≡◌, ◌%◌, ◌<◌, ◌≤◌, List, length, IfOk, IfErr, OnOk, false};
+ghost use Rattle.jh_gen.specs.DriverState.{max_clients};
 ghost use Rattle.jh_simnode.specs.Limits.{max_events};
 ghost use Rattle.jh_simnode.specs.Runs as rule;
 ghost use Rattle.jh_simnode.specs.Runs.{Turns};
@@ -243,7 +244,7 @@ impl Run {
         requires settled { NothingDue plan.now self.old world.old }
         requires going { self.old.has_ended ≡ false }
         requires patient { self.old.waits < plan.now.clients }
-        requires crowd { plan.now.clients ≤ 16 }
+        requires crowd { plan.now.clients ≤ max_clients }
         ensures stands { OnOk result (BetweenTurns plan.now self.new world.new) }
         ensures falls { OnOk result (running.Falls self.old world.old self.new world.new) }
         ensures stopped { IfErr result (Halts plan.now) }

@@ -9,6 +9,7 @@ use Rattle.std.specs.FinMap as fin
 use Rattle.atomic_table.specs.Table.{State}
 use Rattle.jh_slots.specs.Seats.{Mark, Words, Void, Claim, Knowledge, newcomer}
 use Rattle.jh_slots.specs.Seats.{knowledge_after_split, knowledge_after_join, Agree}
+use Rattle.jh_slots.specs.Sizes.{max_log_rows}
 use Rattle.jh_slots.specs.States as law
 
 -- A record that a seat has begun to read: its row, its length, and the words so far
@@ -116,7 +117,7 @@ IsTableKept cap s =
 pub record IsSeat (words : ℕ) (v : View) : Type 0 where
   pub live : v.live ≡ true
   pub size : words ≡ 1 + 6 * v.cap
-  pub small : v.cap ≤ 65536
+  pub small : v.cap ≤ max_log_rows
   pub claims : (f : ℕ) (c : Claim) → fin.get v.knows.claims f ≡ Some c → (1 ≤ c.rows)
       × (f + c.rows ≤ v.cap) × (length c.words ≡ 5 * c.rows)
   pub seen : (r : ℕ) (m : Mark) → fin.get v.knows.seen r ≡ Some m → r < v.cap

@@ -39,6 +39,7 @@ pub struct Slots {
 impl Model for Slots {
     ghost use Rattle.std.specs.Prelude.{◌≡◌, ◌+◌, ◌*◌, ◌≤◌};
     ghost use Rattle.jh_slots.specs.Seats.{Log};
+    ghost use Rattle.jh_slots.specs.Sizes.{max_log_rows};
     ghost use Rattle.jh_slots.specs.Codes.{log_code};
 
     ghost Value = { Log };
@@ -49,7 +50,7 @@ impl Model for Slots {
 
     ghost invariant = { λ s. (s.table.shared.key ≡ s.rows)
         × (s.table.shared.table_id.words ≡ 1 + 6 * s.rows)
-        × (s.rows ≤ 65536) };
+        × (s.rows ≤ max_log_rows) };
 }
 
 /// One thread's place at a log. A contract sees the log's table and what the seat knows: the marks

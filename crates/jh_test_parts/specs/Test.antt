@@ -4,6 +4,7 @@ use Rattle.std.specs.Prelude.{◌≡◌, ℕ, ◌%◌, ◌==◌, ◌≤◌, Bool
 use Rattle.std.specs.Prelude.{length}
 use Rattle.std.specs.Prelude.{Option, None, Some, option_map}
 use Rattle.jh_env.specs.Overlay.{EnvValue}
+use Rattle.jh_gen.specs.DriverState.{max_calls, max_clients}
 use Rattle.jh_gen.specs.Generator.{Generator}
 use Rattle.jh_gen.specs.Suits.{suits, suits_transactions}
 use Rattle.jh_gen.specs.DriverState.{max_calls}
@@ -65,8 +66,12 @@ test_of_data fields = record {
 
 -- Which tests can be made.
 
+-- how many entries the schedule of a test has, at most
+abbrev pub max_test_entries : ℕ
+max_test_entries = 1024
+
 abbrev pub HasTestClients : TestValue → Type 0
-HasTestClients t = (1 ≤ t.clients) × (t.clients ≤ 16)
+HasTestClients t = (1 ≤ t.clients) × (t.clients ≤ max_clients)
 
 abbrev pub HasTestOps : TestValue → Type 0
 HasTestOps t = (1 ≤ t.ops) × (t.ops ≤ max_calls)
@@ -101,7 +106,8 @@ FitsFinal t = last_suits t.checker t.clients t.final ≡ true
 -- there are not too many entries, and each node that a fault names is in the environment
 abbrev pub HasSchedule : TestValue → Type 0
 HasSchedule t =
-    (length t.schedule ≤ 1024) × All (λ entry. FitsNodes (length t.start.names) entry.step) t.schedule
+    (length t.schedule ≤ max_test_entries)
+    × All (λ entry. FitsNodes (length t.start.names) entry.step) t.schedule
 
 -- transactions are over some keys at a time, of some micro-operations at most, with some appends of a
 -- key, each within its limit

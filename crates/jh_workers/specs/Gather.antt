@@ -4,6 +4,7 @@ use Rattle.std.specs.Prelude.{Option, Some, None, ⊤}
 use Rattle.std.specs.List.{range_with_len}
 use Rattle.std.specs.FinMap as map
 use Rattle.jh_slots.specs.Seats.{Mark, Marks, Words, Void}
+use Rattle.jh_slots.specs.Sizes.{max_log_rows}
 use Rattle.jh_ops.specs.Operation.{Operation}
 use Rattle.jh_ops.specs.Words.{IsRecordedAs}
 use Rattle.jh_simnode.specs.Histories.{indexed_operation}
@@ -35,9 +36,9 @@ AreRecordsOf seen place (row ∷ rows) (op ∷ ops) =
     IsRecordOf seen place row op × AreRecordsOf seen (place + 1) rows ops
 AreRecordsOf seen place _ _ = ⊥
 
--- A log has at most 65,536 rows, so there are no others below a greater number.
+-- a log has no row below this number but those below the most that it may have
 abbrev pub rows_of_log : ℕ → ℕ
-rows_of_log count = min count 65536
+rows_of_log count = min count max_log_rows
 
 -- the history has the operations of the records below a number, in the order of their rows, and
 -- nothing else
