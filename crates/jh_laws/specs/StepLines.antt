@@ -25,12 +25,16 @@ links_of (Pause nodes) = []
 links_of (Kill nodes) = []
 links_of (Bump bumps) = []
 
+-- no link of the fault leads from a node to itself
+abbrev pub HasNoSelfLink : FaultValue → Type 0
+HasNoSelfLink fault = list_any is_self_link (links_of fault) ≡ false
+
 -- A fault on so many nodes: its nodes are among them, its amount is in its range, no link, node or
 -- bump stands twice, and no link leads from a node to itself.
 pub record IsFaultOn (count : ℕ) (fault : FaultValue) : Type 0 where
   pub fits : FitsCount count fault
   pub is_fault : IsFault fault
-  pub others : list_any is_self_link (links_of fault) ≡ false
+  pub others : HasNoSelfLink fault
 
 -- a step over so many nodes: its id has 32 bits, and its fault is one on them
 abbrev pub IsStepOver : ℕ → Step → Type 0

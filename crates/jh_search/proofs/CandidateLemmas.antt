@@ -1,7 +1,7 @@
 -- What is true of the entries and kinds of a candidate.
 use Rattle.std.proofs.Common.{◌≡◌, ℕ, ◌+◌, ◌<◌, Bool, true, false, List, [], ◌∷◌, ◌≤◌, ◌^◌, length, length-append, map, take, drop, refl, ap, subst, sym, arith}
 use Rattle.std.specs.Prelude.{◌||◌, not, nat_lt, if◌then◌else◌}
-use Rattle.std.specs.List.{list_any, fold, insert, position_or_len, range_with_len}
+use Rattle.std.specs.List.{fold, insert, position_or_len, range_with_len}
 use Rattle.std.proofs.lemmas.Bool.{and_parts, ltb-true}
 use Rattle.std.proofs.lemmas.List.{length-map, take-append-drop}
 use Rattle.std.proofs.lemmas.List.Elements.{All-append, All-cons, All-drop, All-map, All-take, All-weaker}
@@ -19,14 +19,14 @@ use Rattle.jh_simnode.specs.Plans.{PlanValue, RefusesSchedule}
 use Rattle.jh_simnode.specs.declared.plan.PlanError.TheVariants as PlanError
 use Rattle.jh_env.specs.Faults.{FaultValue, is_self_link}
 use Rattle.jh_env.specs.Faults.{Cut, Slow, Loss, Fix, Pause, Kill, Bump}
-use Rattle.jh_laws.specs.StepLines.{links_of}
+use Rattle.jh_laws.specs.StepLines.{HasNoSelfLink}
 use Rattle.jh_laws.proofs.OrderLemmas.{none_in_order}
-use Rattle.jh_settings_texts.specs.SettingsWritten.{CanBeWritten, LeadsToOthers, entry_in_order, plan_in_order}
+use Rattle.jh_settings_texts.specs.SettingsWritten.{CanBeSaid, CanBeWritten, LeadsToOthers, entry_in_order, plan_in_order}
 use Rattle.jh_search.specs.declared.kinds.FaultKind.{FaultKind}
 use Rattle.jh_search.specs.declared.kinds.Palette.{Palette}
 use Rattle.jh_search.specs.declared.options.Options.{Options}
 use Rattle.jh_search.specs.Candidates.{candidate_plan, entries_with, entries_with_random}
-use Rattle.jh_search.specs.CandidatesInside.{AreEntriesFor, CanBeSaid}
+use Rattle.jh_search.specs.CandidatesInside.{AreEntriesFor}
 use Rattle.jh_search.specs.FaultsInside.{HasNamed, HaveNamed}
 use Rattle.jh_search.specs.Kinds.{all_kinds, has_kind, is_drawn, is_on_links, kinds_drawn}
 
@@ -87,7 +87,7 @@ step_fits count Undo fits = tt
 step_fits count Redo fits = tt
 
 -- in order, no link of a fault leads from a node to itself where none did
-fault_leads : (fault : FaultValue) → list_any is_self_link (links_of fault) ≡ false → list_any is_self_link (links_of (fault_in_order fault)) ≡ false
+fault_leads : (fault : FaultValue) → HasNoSelfLink fault → HasNoSelfLink (fault_in_order fault)
 fault_leads (Cut links) none = none_in_order is_link_before is_self_link links none
 fault_leads (Slow ms links) none = none_in_order is_link_before is_self_link links none
 fault_leads (Loss level links) none = none_in_order is_link_before is_self_link links none

@@ -17,8 +17,8 @@ use Rattle.jh_env.specs.Names.{node_places}
 use Rattle.jh_step_texts.specs.NamedFaults.{AreLinksAmong}
 use Rattle.jh_step_texts.proofs.LinkLemmas.{all_pairs_head, all_pairs_tail, contains_cons, contains_head, contains_none, contains_tail, some_of_any}
 use Rattle.jh_step_texts.proofs.GrudgeLemmas.{made_among, order_below, order_distinct, order_long}
-use Rattle.jh_laws.specs.StepLines.{links_of}
-use Rattle.jh_search.specs.FaultsInside.{AreNodesOf, HasNoSelfLink}
+use Rattle.jh_laws.specs.StepLines.{HasNoSelfLink, links_of}
+use Rattle.jh_search.specs.FaultsInside.{AreNodesOf}
 use Rattle.jh_search.specs.RandomFaults.{links_both_ways, links_between, links_apart, first_link}
 
 -- a link joins two different nodes of n

@@ -5,11 +5,7 @@ use Rattle.jh_nemesis.specs.Steps.{FitsNodes}
 use Rattle.jh_simnode.specs.declared.schedule.Entry.{Entry}
 use Rattle.jh_simnode.specs.Limits.{max_entries}
 use Rattle.jh_simnode.specs.Plans.{PlanValue}
-use Rattle.jh_settings_texts.specs.SettingsWritten.{LeadsToOthers}
-
--- settings can say the entry
-abbrev pub CanBeSaid : Entry → Type 0
-CanBeSaid entry = (entry.at ≤ 10000) × LeadsToOthers entry.step
+use Rattle.jh_settings_texts.specs.SettingsWritten.{CanBeSaid}
 
 -- A schedule of the plan may have these entries, and settings can say them where they can say the
 -- plan's own.

@@ -1,9 +1,7 @@
 -- What is known of nodes and kinds while a random fault is made (this project's own).
-use Rattle.std.specs.Prelude.{◌≡◌, ℕ, ◌<◌, true, false, List}
-use Rattle.std.specs.List.{All, list_any}
-use Rattle.jh_env.specs.Faults.{FaultValue, is_self_link}
+use Rattle.std.specs.Prelude.{◌≡◌, ℕ, ◌<◌, true, List}
+use Rattle.std.specs.List.{All}
 use Rattle.jh_grudge.specs.Lists.{AreDistinct}
-use Rattle.jh_laws.specs.StepLines.{links_of}
 use Rattle.jh_search.specs.declared.kinds.FaultKind.{FaultKind}
 use Rattle.jh_search.specs.Kinds.{is_on_links}
 
@@ -19,7 +17,3 @@ HasNamed count kind = is_on_links kind ≡ true → 1 < count
 -- and for a fault of each of these kinds
 abbrev pub HaveNamed : ℕ → List FaultKind → Type 0
 HaveNamed count kinds = All (HasNamed count) kinds
-
--- no link of the fault leads from a node to itself
-abbrev pub HasNoSelfLink : FaultValue → Type 0
-HasNoSelfLink fault = list_any is_self_link (links_of fault) ≡ false

@@ -11,8 +11,9 @@ ghost use Rattle.jh_env.specs.Names.{node_places};
 ghost use Rattle.jh_env.specs.declared.faults.FaultError.TheVariants.{OutOfMemory};
 ghost use Rattle.jh_step_texts.specs.NamedFaults as named;
 ghost use Rattle.jh_step_texts.specs.NamedFaults.{AreLinksAmong};
+ghost use Rattle.jh_laws.specs.StepLines.{HasNoSelfLink};
 ghost use Rattle.jh_search.specs.RandomFaults as rule;
-ghost use Rattle.jh_search.specs.FaultsInside.{AreNodesOf, HasNamed, HasNoSelfLink};
+ghost use Rattle.jh_search.specs.FaultsInside.{AreNodesOf, HasNamed};
 
 use crate::draws::Draw;
 use crate::kinds::FaultKind;

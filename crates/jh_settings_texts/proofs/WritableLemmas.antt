@@ -1,13 +1,9 @@
 -- A plan can be written just where its texts, its numbers and its schedule can.
 use Rattle.std.proofs.Common.{◌≤◌}
 use Rattle.std.proofs.lemmas.List.Elements.{All-weaker}
-use Rattle.jh_simnode.specs.declared.schedule.Entry.{Entry}
 use Rattle.jh_simnode.specs.Plans.{PlanValue}
-use Rattle.jh_settings_texts.specs.SettingsWritten.{CanBeWritten, LeadsToOthers}
+use Rattle.jh_settings_texts.specs.SettingsWritten.{CanBeSaid, CanBeWritten, LeadsToOthers}
 use Rattle.jh_settings_texts.specs.TableInside.{HasWritableTexts, HasWritableLoad}
-
-abbrev IsWritable : Entry → Type 0
-IsWritable entry = (entry.at ≤ 10000) × LeadsToOthers entry.step
 
 pub can_from_parts : (p : PlanValue) → HasWritableTexts p → HasWritableLoad p → CanBeWritten p
 can_from_parts p texts load = record {
@@ -17,8 +13,8 @@ can_from_parts p texts load = record {
   initial = load.numbers.initial;
   tick_every = load.numbers.tick_every;
   seed = load.numbers.seed;
-  due = All-weaker IsWritable (λ entry. entry.at ≤ 10000) (λ entry h. h.0) p.schedule load.entries;
-  others = All-weaker IsWritable (λ entry. LeadsToOthers entry.step) (λ entry h. h.1) p.schedule load.entries;
+  due = All-weaker CanBeSaid (λ entry. entry.at ≤ 10000) (λ entry h. h.0) p.schedule load.entries;
+  others = All-weaker CanBeSaid (λ entry. LeadsToOthers entry.step) (λ entry h. h.1) p.schedule load.entries;
 }
 
 pub texts_from_can : (p : PlanValue) → CanBeWritten p → HasWritableTexts p

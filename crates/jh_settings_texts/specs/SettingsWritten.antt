@@ -1,12 +1,10 @@
 -- Which plans can be written as settings, and as which plan they are read back (this project's
 -- own).
-use Rattle.std.specs.Prelude.{◌≡◌, ℕ, ◌^◌, ◌<◌, ◌≤◌, false, map, All, Some, IfSome}
-use Rattle.std.specs.List.{list_any}
+use Rattle.std.specs.Prelude.{◌≡◌, ℕ, ◌^◌, ◌<◌, ◌≤◌, map, All, Some, IfSome}
 use Rattle.jh_edn.specs.Printable.{IsPrintable}
 use Rattle.jh_edn.specs.Spelling.{depth_limit}
 use Rattle.jh_tables.specs.declared.cells.Link.{Link}
 use Rattle.jh_tables.specs.declared.cells.NodeCell.{NodeCell}
-use Rattle.jh_env.specs.Faults.{is_self_link}
 use Rattle.jh_env.specs.Overlay.{link_of, node_of}
 use Rattle.jh_env.specs.Starting.{IsStartingLink, IsStartingNode}
 use Rattle.jh_nemesis.specs.declared.steps.Step.{Step}
@@ -15,12 +13,16 @@ use Rattle.jh_ops.specs.declared.call.Workload.{Workload}
 use Rattle.jh_gen_texts.specs.GeneratorWritten.{text_of_generator}
 use Rattle.jh_simnode.specs.declared.schedule.Entry.{Entry}
 use Rattle.jh_simnode.specs.Plans.{PlanValue}
-use Rattle.jh_laws.specs.StepLines.{links_of, step_in_order}
+use Rattle.jh_laws.specs.StepLines.{HasNoSelfLink, step_in_order}
 
 -- no link of the step's fault leads from a node to itself
 abbrev pub LeadsToOthers : Step → Type 0
-LeadsToOthers (Begin id fault) = list_any is_self_link (links_of fault) ≡ false
+LeadsToOthers (Begin id fault) = HasNoSelfLink fault
 LeadsToOthers _ = Unit {0}
+
+-- settings can say the entry
+abbrev pub CanBeSaid : Entry → Type 0
+CanBeSaid entry = (entry.at ≤ 10000) × LeadsToOthers entry.step
 
 -- Settings can say the plan: its links and nodes are as they may be at a start, its generator is
 -- nested no deeper than a text may be, only a register holds something at first, its numbers are in

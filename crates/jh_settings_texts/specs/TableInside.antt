@@ -19,7 +19,7 @@ use Rattle.jh_settings.specs.Keys.{key_name}
 use Rattle.jh_laws.specs.StepLines.{IsStepOver}
 use Rattle.jh_settings_texts.specs.DocumentWritten.{printed_text, whole_number}
 use Rattle.jh_settings_texts.specs.DocumentWritten.{schedule_texts}
-use Rattle.jh_settings_texts.specs.SettingsWritten.{LeadsToOthers}
+use Rattle.jh_settings_texts.specs.SettingsWritten.{CanBeSaid}
 use Rattle.jh_settings_texts.specs.StartInside.{IsStarting}
 
 -- the members with this one, at its place in the order of the keys' bytes
@@ -89,4 +89,4 @@ pub record HasWritableTexts (p : PlanValue) : Type 0 where
 -- and the numbers and the schedule can be written
 pub record HasWritableLoad (p : PlanValue) : Type 0 where
   pub numbers : HasWritableNumbers p
-  pub entries : All (λ entry. (entry.at ≤ 10000) × LeadsToOthers entry.step) p.schedule
+  pub entries : All CanBeSaid p.schedule

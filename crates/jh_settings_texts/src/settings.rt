@@ -8,7 +8,7 @@ ghost use Rattle.jh_settings.specs.Keys.{IsDocument};
 ghost use Rattle.jh_settings.specs.Settings.{AreSettingsOf};
 ghost use Rattle.jh_settings.specs.declared.choices.Mode.{Mode};
 ghost use Rattle.jh_settings_texts.specs.DocumentWritten.{document_of};
-ghost use Rattle.jh_settings_texts.specs.SettingsWritten.{CanBeWritten, LeadsToOthers};
+ghost use Rattle.jh_settings_texts.specs.SettingsWritten.{CanBeSaid, CanBeWritten};
 ghost use Rattle.jh_settings_texts.specs.SettingsWritten.{plan_in_order};
 ghost use Rattle.jh_settings_texts.specs.TableInside.{HasWritableLoad, HasWritableNumbers};
 ghost use Rattle.jh_settings_texts.specs.TableInside.{HasWritableTexts};
@@ -38,15 +38,14 @@ fn has_writable_numbers(plan: &Plan) -> bool
 
 /// Whether an entry is due in time and leads to others.
 fn is_writable(entry: &Entry) -> bool
-    ensures { IsTrue result ↔ (entry.now.at ≤ 10000) × LeadsToOthers entry.now.step }
+    ensures { IsTrue result ↔ CanBeSaid entry.now }
 {
     entry.at <= MAX_DUE_AT && leads_to_others(&entry.step)
 }
 
 /// Whether each entry is due in time and leads to others.
 fn are_writable(entries: &[Entry]) -> bool
-    ensures { IsTrue result
-        ↔ All (λ entry. (entry.at ≤ 10000) × LeadsToOthers entry.step) entries.now }
+    ensures { IsTrue result ↔ All CanBeSaid entries.now }
 {
     for entry in entries {
         if !is_writable(entry) {

@@ -4,7 +4,7 @@ use Rattle.jh_env.specs.Faults as env
 use Rattle.jh_env.specs.Faults.{FitsCount, Slow, kept_links}
 use Rattle.jh_step_texts.specs.NamedFaults.{AreLinksAmong}
 use Rattle.jh_laws.specs.StepLines.{links_of}
-use Rattle.jh_search.specs.FaultsInside.{HasNoSelfLink}
+use Rattle.jh_laws.specs.StepLines.{HasNoSelfLink}
 use Rattle.jh_search.proofs.FaultLemmas.{links_refused, made_so, none_to_itself, only_memory, where_ok}
 use Rattle.jh_search.proofs.random_faults.slow.Goals as goal
 
