@@ -22,13 +22,14 @@ use Rattle.jh_env.specs.Faults.{Cut, Slow, Loss, Fix, Pause, Kill, Bump}
 use Rattle.jh_laws.specs.StepLines.{HasNoSelfLink}
 use Rattle.jh_laws.proofs.OrderLemmas.{none_in_order}
 use Rattle.jh_settings_texts.specs.SettingsWritten.{CanBeSaid, CanBeWritten, LeadsToOthers, entry_in_order, plan_in_order}
-use Rattle.jh_search.specs.declared.kinds.FaultKind.{FaultKind}
+use Rattle.jh_step_texts.specs.declared.kinds.FaultKind.{FaultKind}
 use Rattle.jh_search.specs.declared.kinds.Palette.{Palette}
 use Rattle.jh_search.specs.declared.options.Options.{Options}
 use Rattle.jh_search.specs.Candidates.{candidate_plan, entries_with, entries_with_random}
 use Rattle.jh_search.specs.CandidatesInside.{AreEntriesFor}
 use Rattle.jh_search.specs.FaultsInside.{HasNamed, HaveNamed}
-use Rattle.jh_search.specs.Kinds.{all_kinds, has_kind, is_drawn, is_on_links, kinds_drawn}
+use Rattle.jh_step_texts.specs.Kinds.{fault_kinds}
+use Rattle.jh_search.specs.Kinds.{has_kind, is_drawn, is_on_links, kinds_drawn}
 
 -- one fault more
 pub one_fault_more : (p : PlanValue) (options : Options) (seed n : ℕ)
@@ -47,7 +48,7 @@ named_if_drawn palette count kind drawn links = go (is_on_links kind) links (and
 pub drawn_named : (palette : Palette) (count : ℕ) → HaveNamed count (kinds_drawn palette count)
 drawn_named palette count =
     all_from (HasNamed count) (kinds_drawn palette count)
-    (λ kind has. named_if_drawn palette count kind (kept (is_drawn palette count) all_kinds kind has).1)
+    (λ kind has. named_if_drawn palette count kind (kept (is_drawn palette count) fault_kinds kind has).1)
 
 -- entries with one more are such as a schedule of the plan may have
 pub one_entry_more : (p : PlanValue) (entries : List Entry) (entry : Entry) → AreEntriesFor p entries → FitsNodes (length p.env.names) entry.step

@@ -13,7 +13,7 @@ use Rattle.jh_simnode.specs.Limits.{max_entries}
 use Rattle.jh_simnode.specs.Plans.{PlanValue}
 use Rattle.jh_settings_texts.specs.SettingsWritten.{plan_in_order}
 use Rattle.jh_search.specs.declared.draws.Draw.{Draw}
-use Rattle.jh_search.specs.declared.kinds.FaultKind.{FaultKind}
+use Rattle.jh_step_texts.specs.declared.kinds.FaultKind.{FaultKind}
 use Rattle.jh_search.specs.declared.options.Options.{Options}
 use Rattle.jh_search.specs.Draws.{draw_of, number}
 use Rattle.jh_search.specs.Kinds.{kinds_drawn}

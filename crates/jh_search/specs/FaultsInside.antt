@@ -2,7 +2,7 @@
 use Rattle.std.specs.Prelude.{◌≡◌, ℕ, ◌<◌, true, List}
 use Rattle.std.specs.List.{All}
 use Rattle.jh_grudge.specs.Lists.{AreDistinct}
-use Rattle.jh_search.specs.declared.kinds.FaultKind.{FaultKind}
+use Rattle.jh_step_texts.specs.declared.kinds.FaultKind.{FaultKind}
 use Rattle.jh_search.specs.Kinds.{is_on_links}
 
 -- these are different nodes of so many

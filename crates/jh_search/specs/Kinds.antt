@@ -1,14 +1,11 @@
 -- The kinds of faults that random schedules are made of (this project's own; what a fault of each
 -- kind does stands in jh_tables).
-use Rattle.std.specs.Prelude.{ℕ, ◌&&◌, ◌||◌, Bool, true, false, not, nat_lt, List, [], ◌∷◌, filter}
-use Rattle.jh_search.specs.declared.kinds.FaultKind.{FaultKind}
-use Rattle.jh_search.specs.declared.kinds.FaultKind.TheVariants.{Cut, Slow, Loss, Fix, Pause}
-use Rattle.jh_search.specs.declared.kinds.FaultKind.TheVariants.{Kill, Bump}
+use Rattle.std.specs.Prelude.{ℕ, ◌&&◌, ◌||◌, Bool, true, false, not, nat_lt, List, filter}
+use Rattle.jh_step_texts.specs.Kinds.{fault_kinds}
+use Rattle.jh_step_texts.specs.declared.kinds.FaultKind.{FaultKind}
+use Rattle.jh_step_texts.specs.declared.kinds.FaultKind.TheVariants.{Cut, Slow, Loss, Fix, Pause}
+use Rattle.jh_step_texts.specs.declared.kinds.FaultKind.TheVariants.{Kill, Bump}
 use Rattle.jh_search.specs.declared.kinds.Palette.{Palette}
-
--- all kinds, in the order in which one is chosen
-abbrev pub all_kinds : List FaultKind
-all_kinds = Cut ∷ Slow ∷ Loss ∷ Fix ∷ Pause ∷ Kill ∷ Bump ∷ []
 
 -- the palette that has them all
 abbrev pub whole_palette : Palette
@@ -49,5 +46,6 @@ is_on_links Bump = false
 abbrev pub is_drawn : Palette → ℕ → FaultKind → Bool
 is_drawn palette count kind = has_kind palette kind && (not (is_on_links kind) || nat_lt 1 count)
 
+-- in the order in which one is chosen
 abbrev pub kinds_drawn : Palette → ℕ → List FaultKind
-kinds_drawn palette count = filter (is_drawn palette count) all_kinds
+kinds_drawn palette count = filter (is_drawn palette count) fault_kinds

@@ -8,8 +8,8 @@ use Rattle.jh_env.specs.Faults.{Cut, Slow, Loss, Fix, Pause, Kill, Bump}
 use Rattle.jh_grudge.specs.Grudges.{majority}
 use Rattle.jh_step_texts.specs.NamedFaults.{ring_links, seeded_order}
 use Rattle.jh_search.specs.declared.draws.Draw.{Draw}
-use Rattle.jh_search.specs.declared.kinds.FaultKind.{FaultKind}
-use Rattle.jh_search.specs.declared.kinds.FaultKind.TheVariants as kind
+use Rattle.jh_step_texts.specs.declared.kinds.FaultKind.{FaultKind}
+use Rattle.jh_step_texts.specs.declared.kinds.FaultKind.TheVariants as kind
 
 -- the places of all nodes, shuffled
 abbrev pub order_of : ℕ → Draw → List ℕ

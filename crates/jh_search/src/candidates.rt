@@ -11,11 +11,12 @@ ghost use Rattle.jh_search.specs.Draws.{numbers_after};
 
 use crate::draws::{Draw, next, next_draw, numbers_of};
 use crate::entries::{entries_in_order, greatest_id, put_entry};
-use crate::kinds::{FaultKind, kinds_of};
+use crate::kinds::kinds_of;
 use crate::options::Options;
 use crate::random_faults::fault_drawn;
 use jh_nemesis::Step;
 use jh_simnode::{Entry, Plan, PlanError, Schedule};
+use jh_step_texts::FaultKind;
 use rand_pcg::Lcg128Xsl64;
 use std::alloc::{AllocError, Global};
 

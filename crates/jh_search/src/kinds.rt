@@ -1,23 +1,12 @@
 //! The kinds of faults that random schedules are made of. `specs/Kinds.antt` says which are drawn;
-//! a new kind is first a fault of `jh_env`, then a case here and there.
+//! a new kind is first a fault of `jh_env` and a kind of `jh_step_texts`, then a case here and there.
 
 ghost use Rattle.std.specs.Prelude.{◌≡◌, IfOk};
 ghost use Rattle.jh_search.specs.Kinds as rule;
 ghost use Rattle.jh_search.specs.Kinds.{kinds_drawn};
 
+use jh_step_texts::FaultKind;
 use std::alloc::{AllocError, Global};
-
-/// A kind of fault.
-#[derive(Clone, Copy, Debug, PartialEq, Eq)]
-pub enum FaultKind {
-    Cut,
-    Slow,
-    Loss,
-    Fix,
-    Pause,
-    Kill,
-    Bump,
-}
 
 /// All kinds, in the order in which one is chosen.
 const ALL: [FaultKind; 7] = [
@@ -74,15 +63,13 @@ impl Palette {
     }
 }
 
-impl FaultKind {
-    /// Whether its faults name links.
-    fn is_on_links(self) -> bool
-        ensures { result ≡ rule.is_on_links self }
-    {
-        match self {
-            FaultKind::Cut | FaultKind::Slow | FaultKind::Loss | FaultKind::Fix => true,
-            FaultKind::Pause | FaultKind::Kill | FaultKind::Bump => false,
-        }
+/// Whether faults of this kind name links.
+fn is_on_links(kind: FaultKind) -> bool
+    ensures { result ≡ rule.is_on_links kind }
+{
+    match kind {
+        FaultKind::Cut | FaultKind::Slow | FaultKind::Loss | FaultKind::Fix => true,
+        FaultKind::Pause | FaultKind::Kill | FaultKind::Bump => false,
     }
 }
 
@@ -90,7 +77,7 @@ impl FaultKind {
 fn is_drawn(palette: Palette, count: usize, kind: FaultKind) -> bool
     ensures { result ≡ rule.is_drawn palette count kind }
 {
-    palette.has(kind) && (!kind.is_on_links() || count > 1)
+    palette.has(kind) && (!is_on_links(kind) || count > 1)
 }
 
 /// The kinds of which faults are drawn, for so many nodes.

@@ -12,7 +12,7 @@ mod threads;
 mod verdicts;
 
 pub use candidates::candidate;
-pub use kinds::{FaultKind, Palette};
+pub use kinds::Palette;
 pub use options::Options;
 pub use serial::{Searched, search_serial};
 pub use threads::{SearchError, SearchObserver, search, search_observed};

@@ -16,10 +16,9 @@ ghost use Rattle.jh_search.specs.RandomFaults as rule;
 ghost use Rattle.jh_search.specs.FaultsInside.{AreNodesOf, HasNamed};
 
 use crate::draws::Draw;
-use crate::kinds::FaultKind;
 use jh_env::{Fault, FaultError, Node, Nodes};
 use jh_grudge::majorities_ring;
-use jh_step_texts::ring_order;
+use jh_step_texts::{FaultKind, ring_order};
 use std::alloc::{AllocError, Global};
 
 /// How many nodes a fault of nodes names.
