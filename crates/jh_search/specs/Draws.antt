@@ -1,18 +1,21 @@
--- The random numbers of a candidate (this project's own): those of O'Neill's PCG XSL RR 128/64, on
--- a stream that is not the one of its run.
-use Rattle.std.specs.Prelude.{ℕ, zero, suc, ◌+◌, ◌*◌}
-use Rattle.rand_pcg.specs.Lcg.{Lcg, started, increment_of}
-use Rattle.rand_pcg.specs.Pcg.{pcg64, multiplier_128}
+-- The random numbers of a candidate (this project's own): as a run has them, on a stream that is not
+-- the one of its run.
+use Rattle.std.specs.Prelude.{ℕ, ◌+◌, ◌*◌}
+use Rattle.rand_pcg.specs.Lcg.{Lcg}
+use Rattle.jh_simnode.specs.Runs.{random_number_at, random_numbers_after}
 use Rattle.jh_search.specs.declared.draws.Draw.{Draw}
 
--- the generator that a seed makes, after so many numbers
-unfoldable pub numbers_after : ℕ → ℕ → Lcg
-numbers_after seed zero = started 128 multiplier_128 seed (increment_of 128 1)
-numbers_after seed (suc n) = (pcg64 (numbers_after seed n)).1
+-- the stream that a candidate takes its random numbers from
+abbrev pub candidate_stream : ℕ
+candidate_stream = 1
+
+-- the source of random numbers that a seed makes, after so many
+abbrev pub numbers_after : ℕ → ℕ → Lcg
+numbers_after seed n = random_numbers_after candidate_stream seed n
 
 -- the number of this index, from 0
 abbrev pub number : ℕ → ℕ → ℕ
-number seed n = (pcg64 (numbers_after seed n)).0
+number seed n = random_number_at candidate_stream seed n
 
 -- the seven numbers from an index on, as those of one fault
 abbrev pub draw_from : ℕ → ℕ → Draw

@@ -21,7 +21,7 @@ use Rattle.jh_simnode.specs.declared.turns.Assignment.TheVariants as assignment
 use Rattle.jh_simnode.specs.declared.turns.Run.{Run}
 use Rattle.jh_simnode.specs.Counts.{answered_count, is_call, process_after}
 use Rattle.jh_simnode.specs.Plans.{PlanValue}
-use Rattle.jh_simnode.specs.Runs.{Turns, ask_move, move_offered, turn_question, run_generator, thread_of, turns_after_wait, random_numbers_after, numbers_taken}
+use Rattle.jh_simnode.specs.Runs.{Turns, ask_move, move_offered, turn_question, run_generator, thread_of, turns_after_wait, random_numbers_after, run_stream, numbers_taken}
 use Rattle.jh_simnode.specs.Runs.Move.{Ends}
 use Rattle.jh_simnode.specs.Running.{Asks, IsAsking, Keeps, process_number}
 use Rattle.jh_simnode.proofs.TurnLemmas.{all_false, ends_on, next_numbers, waits_on}
@@ -56,9 +56,9 @@ module _ (p : PlanValue) (r : Turns) (journal : List Event) (run : Run) (t rando
   asked_is =
       let d = i.keeps.driver i.going in
       let asker : t + 1 ≡ thread_of p r + 1 = ap (λ n. n + 1) i.turn in
-      let same_random_number : random_number ≡ (pcg64 (random_numbers_after p.seed (numbers_taken r journal))).0 = random_number_is run.random_numbers random_numbers random_number next ∙ ap (λ (g : Lcg). (pcg64 g).0) i.keeps.random_numbers in
+      let same_random_number : random_number ≡ (pcg64 (random_numbers_after run_stream p.seed (numbers_taken r journal))).0 = random_number_is run.random_numbers random_numbers random_number next ∙ ap (λ (g : Lcg). (pcg64 g).0) i.keeps.random_numbers in
       ap₂ (λ s w. let q : Question = record { asker = s; random_number = w; busy = run.driver.busy } in q) asker same_random_number
-      ∙ ap (λ b. let q : Question = record { asker = thread_of p r + 1; random_number = (pcg64 (random_numbers_after p.seed (numbers_taken r journal))).0; busy = b } in q) d.idle
+      ∙ ap (λ b. let q : Question = record { asker = thread_of p r + 1; random_number = (pcg64 (random_numbers_after run_stream p.seed (numbers_taken r journal))).0; busy = b } in q) d.idle
 
   spent_is : (b : Bool) → is_exhausted (run_generator p) r.tally (all_threads run.driver.clients) ≡ b → is_exhausted (run_generator p) r.tally (all_threads p.clients) ≡ b
   spent_is b h = subst (λ n. is_exhausted (run_generator p) r.tally (all_threads n) ≡ b) (i.keeps.driver i.going).clients h

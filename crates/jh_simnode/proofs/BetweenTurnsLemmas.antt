@@ -19,7 +19,7 @@ use Rattle.jh_simnode.specs.declared.turns.Run.{Run}
 use Rattle.jh_simnode.specs.Counts.{applied_count, is_step, last_event, process_after, calls_by}
 use Rattle.jh_simnode.specs.Events.{WorldValue, AddsEvent, IsLegal}
 use Rattle.jh_simnode.specs.Plans.{PlanValue}
-use Rattle.jh_simnode.specs.Runs.{Turns, call_event, turns_after_call, turns_after_end, first_turns, is_due, move_of, setup_of, thread_of, ticks_after, ticks_at, turns_after_wait, random_number_at, numbers_taken}
+use Rattle.jh_simnode.specs.Runs.{Turns, call_event, turns_after_call, turns_after_end, first_turns, is_due, move_of, setup_of, thread_of, ticks_after, ticks_at, turns_after_wait, random_number_at, run_stream, numbers_taken}
 use Rattle.jh_simnode.specs.Runs.Move.{Ticks, Applies, Waits, Calls, Ends}
 use Rattle.jh_simnode.specs.Running.{Asks, Falls, HasReply, BeforeFirstTurn, IsOver, Keeps, MayCall, NothingDue, BetweenTurns, reply_ending, is_run_due}
 use Rattle.jh_simnode.proofs.EventCountLemmas.{count_yes, count_no, last_push}
@@ -117,9 +117,9 @@ called_on p run w w' t process request node draw number reply driver random_numb
     let mine = m.thread_is in
     let patient : nat_le c r.waits ≡ false = lt-leb c r.waits m.patient in
     let move = ask_next p r journal m.quiet m.settled m.going patient ∙ m.move in
-    let draw_is : draw ≡ random_number_at p.seed (numbers_taken r journal + 1) = random_number_is run.random_numbers random_numbers draw next ∙ ap (λ (g : Lcg). (pcg64 g).0) m.has.random_numbers in
+    let draw_is : draw ≡ random_number_at run_stream p.seed (numbers_taken r journal + 1) = random_number_is run.random_numbers random_numbers draw next ∙ ap (λ (g : Lcg). (pcg64 g).0) m.has.random_numbers in
     let event : Event.Call process node request draw reply ≡ call_event p r journal request reply =
-    same_event process (process_after c (thread_of p r) journal) node (thread_of p r % length p.env.names) draw (random_number_at p.seed (numbers_taken r journal + 1)) request reply m.process_is
+    same_event process (process_after c (thread_of p r) journal) node (thread_of p r % length p.env.names) draw (random_number_at run_stream p.seed (numbers_taken r journal + 1)) request reply m.process_is
     (place ∙ ap (λ x. x % length p.env.names) mine) draw_is in
     let same : w'.journal ≡ journal ++ call_event p r journal request reply ∷ [] = adds.journal ∙ ap (λ (e : Event). journal ++ e ∷ []) event in
     let small : thread_of p r < c = subst (λ x. x < c) mine m.within in

@@ -18,14 +18,14 @@ use Rattle.jh_simnode.specs.declared.events.Event.{Event}
 use Rattle.jh_simnode.specs.declared.turns.Run.{Run}
 use Rattle.jh_simnode.specs.Counts.{answered_count, applied_count, calls_by, process_after, is_call, is_step, is_call_by, is_crash_of, is_process_of}
 use Rattle.jh_simnode.specs.Plans.{PlanValue}
-use Rattle.jh_simnode.specs.Runs.{Turns, turns_after_call, call_event, turns_after_end, thread_of, turns_after_wait, random_number_at, random_numbers_after, numbers_taken}
+use Rattle.jh_simnode.specs.Runs.{Turns, turns_after_call, call_event, turns_after_end, thread_of, turns_after_wait, random_number_at, random_numbers_after, run_stream, numbers_taken}
 use Rattle.jh_simnode.specs.Running.{Counts, Drives, AwaitsReply, Keeps, reply_ending}
 use Rattle.jh_simnode.proofs.EventCountLemmas.{count_yes, count_no}
 
 -- one random number more
-pub next_numbers : (seed n : ℕ) → (pcg64 (random_numbers_after seed n)).1 ≡ random_numbers_after seed (n + 1)
+pub next_numbers : (seed n : ℕ) → (pcg64 (random_numbers_after run_stream seed n)).1 ≡ random_numbers_after run_stream seed (n + 1)
 unfolding random_numbers_after
-next_numbers seed n = let more : suc n ≡ n + 1 = omega arith in ap (random_numbers_after seed) more
+next_numbers seed n = let more : suc n ≡ n + 1 = omega arith in ap (random_numbers_after run_stream seed) more
 
 -- the thread of the process that the journal gives it
 pub process_thread : (c t : ℕ) (journal : List Event) → t < c → process_after c t journal % c ≡ t
@@ -119,7 +119,7 @@ keeps_on p r journal path request reply run run' h below few_asks patient driver
     let d = run.driver in
     let more : answered_count (journal ++ e ∷ []) ≡ answered_count journal + 1 = count_yes is_call journal e refl in
     let node = t % length p.env.names in
-    let draw = random_number_at p.seed (numbers_taken r journal + 1) in
+    let draw = random_number_at run_stream p.seed (numbers_taken r journal + 1) in
     let drives : Drives p (turns_after_call r path) (journal ++ e ∷ []) (driver_after_end d (thread.Client t) (reply_ending reply)) = record {
       stands = record { left = h.stands.left; count = h.stands.count };
       clients = h.clients;
@@ -130,7 +130,7 @@ keeps_on p r journal path request reply run run' h below few_asks patient driver
     } in
     record {
       driver = λ _. subst (Drives p (turns_after_call r path) (journal ++ e ∷ [])) (sym driver) drives;
-      random_numbers = random_numbers ∙ ap (λ (g : Lcg). (pcg64 g).1) h.random_numbers ∙ next_numbers p.seed (numbers_taken r journal + 1) ∙ ap (random_numbers_after p.seed) (omega (arith, more));
+      random_numbers = random_numbers ∙ ap (λ (g : Lcg). (pcg64 g).1) h.random_numbers ∙ next_numbers p.seed (numbers_taken r journal + 1) ∙ ap (random_numbers_after run_stream p.seed) (omega (arith, more));
       counts = counts_on p journal t below node request draw reply run run' h.counts calls answered_is applied_is;
       asks = asks ∙ h.asks;
       waits = waits;
@@ -158,7 +158,7 @@ keeps_beside p r journal e run run' h quiet by_none crash_none same applied_is =
             processes = λ u small. d.processes u small ∙ ap (λ k. u + k * c) (sym (count_no (is_crash_of c u) journal e (crash_none u)));
             given = d.given ∙ sym kept;
           }));
-      random_numbers = ap (λ (x : Run). x.random_numbers) same ∙ h.random_numbers ∙ ap (λ n. random_numbers_after p.seed (r.asks + n)) (sym kept);
+      random_numbers = ap (λ (x : Run). x.random_numbers) same ∙ h.random_numbers ∙ ap (λ n. random_numbers_after run_stream p.seed (r.asks + n)) (sym kept);
       counts = record {
         long = ap (λ (x : Run). length x.calls.items) same ∙ h.counts.long;
         calls = λ u small. ap (λ (x : Run). slice_index x.calls.items u) same ∙ h.counts.calls u small ∙ sym (count_no (is_call_by c u) journal e (by_none u));
@@ -176,7 +176,7 @@ pub waits_on : (p : PlanValue) (r : Turns) (journal : List Event) (run : Run) (r
     → Keeps p (turns_after_wait r) journal (record run { random_numbers = random_numbers; asks = run.asks + 1; waits = run.waits + 1 })
 waits_on p r journal run random_numbers h next = record {
   driver = λ going. (let d = h.driver going in record { stands = d.stands; clients = d.clients; idle = d.idle; long = d.long; processes = d.processes; given = d.given });
-  random_numbers = next ∙ ap (λ (g : Lcg). (pcg64 g).1) h.random_numbers ∙ next_numbers p.seed (numbers_taken r journal) ∙ ap (random_numbers_after p.seed) (omega arith);
+  random_numbers = next ∙ ap (λ (g : Lcg). (pcg64 g).1) h.random_numbers ∙ next_numbers p.seed (numbers_taken r journal) ∙ ap (random_numbers_after run_stream p.seed) (omega arith);
   counts = record { long = h.counts.long; calls = h.counts.calls; answered = h.counts.answered; applied = h.counts.applied };
   asks = ap (λ n. n + 1) h.asks;
   waits = ap (λ n. n + 1) h.waits;
@@ -188,7 +188,7 @@ pub ends_on : (p : PlanValue) (r : Turns) (journal : List Event) (run : Run) (dr
     → Keeps p (turns_after_end r) journal (record run { driver = driver; random_numbers = random_numbers; asks = run.asks + 1; has_ended = true })
 ends_on p r journal run driver random_numbers h next = record {
   driver = λ going. (let same : true ≡ false = going in cc same);
-  random_numbers = next ∙ ap (λ (g : Lcg). (pcg64 g).1) h.random_numbers ∙ next_numbers p.seed (numbers_taken r journal) ∙ ap (random_numbers_after p.seed) (omega arith);
+  random_numbers = next ∙ ap (λ (g : Lcg). (pcg64 g).1) h.random_numbers ∙ next_numbers p.seed (numbers_taken r journal) ∙ ap (random_numbers_after run_stream p.seed) (omega arith);
   counts = record { long = h.counts.long; calls = h.counts.calls; answered = h.counts.answered; applied = h.counts.applied };
   asks = ap (λ n. n + 1) h.asks;
   waits = h.waits;

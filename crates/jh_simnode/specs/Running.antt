@@ -39,7 +39,7 @@ use Rattle.jh_simnode.specs.declared.serial.RunError.TheVariants as error
 use Rattle.jh_simnode.specs.Runs.{Stops, Turns, RunReaches, IsReachable, ask_move, turns_after_end}
 use Rattle.jh_simnode.specs.Runs.{is_due, move_of, run_generator, setup_of, thread_of, first_turns}
 use Rattle.jh_simnode.specs.Runs.{ticks_after, ticks_at, turns_after_wait, random_numbers_after}
-use Rattle.jh_simnode.specs.Runs.{numbers_taken}
+use Rattle.jh_simnode.specs.Runs.{numbers_taken, run_stream}
 use Rattle.jh_simnode.specs.Runs.Move.{Calls, Waits, Ends, Rests}
 
 -- how an operation ends by a reply
@@ -78,7 +78,8 @@ pub record Counts (p : PlanValue) (journal : List Event) (run : Run) : Type 0 wh
 -- what a run keeps is where its turns are
 pub record Keeps (p : PlanValue) (r : Turns) (journal : List Event) (run : Run) : Type 0 where
   pub driver : r.has_ended ≡ false → Drives p r journal run.driver
-  pub random_numbers : run.random_numbers ≡ random_numbers_after p.seed (numbers_taken r journal)
+  pub random_numbers : run.random_numbers
+      ≡ random_numbers_after run_stream p.seed (numbers_taken r journal)
   pub counts : Counts p journal run
   pub asks : run.asks ≡ r.asks
   pub waits : run.waits ≡ r.waits
@@ -113,7 +114,7 @@ pub record AwaitsReply (p : PlanValue) (r : Turns) (journal : List Event) (path 
   pub processes : AreNumbered p journal run.driver
   pub given : length r.tally ≡ answered_count journal
   pub random_numbers : run.random_numbers
-      ≡ random_numbers_after p.seed (numbers_taken r journal + 1)
+      ≡ random_numbers_after run_stream p.seed (numbers_taken r journal + 1)
   pub counts : Counts p journal run
   pub asks : run.asks ≡ r.asks + 1
   pub ended : run.has_ended ≡ r.has_ended

@@ -37,14 +37,19 @@ setup_of p = record { names = p.env.names; start = p.env.start; settings = p.set
 abbrev pub run_generator : PlanValue → Generator
 run_generator p = clients (limit p.ops p.generator)
 
--- the source of random numbers that a seed makes (O'Neill's PCG XSL RR 128/64), after so many
-unfoldable pub random_numbers_after : ℕ → ℕ → Lcg
-random_numbers_after seed zero = started 128 multiplier_128 seed (increment_of 128 0)
-random_numbers_after seed (suc n) = (pcg64 (random_numbers_after seed n)).1
+-- the source of random numbers that a seed makes on a stream (O'Neill's PCG XSL RR 128/64), after
+-- so many
+unfoldable pub random_numbers_after : ℕ → ℕ → ℕ → Lcg
+random_numbers_after stream seed zero = started 128 multiplier_128 seed (increment_of 128 stream)
+random_numbers_after stream seed (suc n) = (pcg64 (random_numbers_after stream seed n)).1
 
 -- the random number with this index, from 0
-abbrev pub random_number_at : ℕ → ℕ → ℕ
-random_number_at seed n = (pcg64 (random_numbers_after seed n)).0
+abbrev pub random_number_at : ℕ → ℕ → ℕ → ℕ
+random_number_at stream seed n = (pcg64 (random_numbers_after stream seed n)).0
+
+-- the stream that a run takes its random numbers from
+abbrev pub run_stream : ℕ
+run_stream = 0
 
 -- Where the turns of a run stand, beside its journal: the calls that the generator gave, how many
 -- asks were made, how many of the last ones got nothing, and whether the calls have ended.
@@ -70,7 +75,7 @@ numbers_taken r journal = r.asks + answered_count journal
 abbrev pub turn_question : PlanValue → Turns → List Event → Question
 turn_question p r journal = record {
   asker = thread_of p r + 1;
-  random_number = random_number_at p.seed (numbers_taken r journal);
+  random_number = random_number_at run_stream p.seed (numbers_taken r journal);
   busy = replicate (p.clients + 1) false;
 }
 
@@ -146,7 +151,7 @@ abbrev pub call_event : PlanValue → Turns → List Event → Request → Reply
 call_event p r journal request reply =
     Event.Call (process_after p.clients (thread_of p r) journal)
     (thread_of p r % length p.env.names) request
-    (random_number_at p.seed (numbers_taken r journal + 1)) reply
+    (random_number_at run_stream p.seed (numbers_taken r journal + 1)) reply
 
 -- what comes of a move
 abbrev pub Comes : PlanValue → Turns → List Event → Turns → List Event → Move → Type 0
