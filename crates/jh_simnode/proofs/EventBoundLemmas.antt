@@ -23,7 +23,7 @@ use Rattle.jh_simnode.specs.Plans.{PlanValue, IsKeptPlan}
 use Rattle.jh_simnode.specs.Runs.{Stops, Turns, Move, Comes, RunReaches, Reaches, ask_move, call_event, entry_move, is_due, move_of, move_offered, turn_question, run_generator, ticks_after, turn_move}
 use Rattle.jh_simnode.specs.Runs.Move.{Ticks, Applies, Waits, Calls, Ends, Rests}
 use Rattle.jh_simnode.proofs.EventCountLemmas.{count_yes, count_no, last_push}
-use Rattle.jh_simnode.specs.Running.{Halts}
+use Rattle.jh_simnode.specs.Running.{StopsOrFills}
 use Rattle.jh_simnode.proofs.GivenCallLemmas.{call_is}
 
 -- ---- the calls that a run gives
@@ -230,12 +230,12 @@ events_suffice p r journal kept reached =
     omega (arith, events, calls, few, steps, ops, most, entries)
 
 -- so a run never stops since its world is full
-pub halts_stops : (p : PlanValue) → IsKeptPlan p → (e : RunError) → Halts p e → Stops p e
-halts_stops p kept error.Stuck h = h
-halts_stops p kept error.OutOfMemory h = h
-halts_stops p kept (error.World world.OutOfMemory) h = h
-halts_stops p kept (error.World world.UnknownNode) h = h
-halts_stops p kept (error.World world.TooManyEvents) h =
+pub never_fills : (p : PlanValue) → IsKeptPlan p → (e : RunError) → StopsOrFills p e → Stops p e
+never_fills p kept error.Stuck h = h
+never_fills p kept error.OutOfMemory h = h
+never_fills p kept (error.World world.OutOfMemory) h = h
+never_fills p kept (error.World world.UnknownNode) h = h
+never_fills p kept (error.World world.TooManyEvents) h =
     let few = events_suffice p h.0 h.1 kept h.2 in
     let many = h.3 in
     absurd (omega (arith, few, many))

@@ -212,7 +212,7 @@ HasSmallProcess Event.Tick = Unit {0}
 
 -- Why the turns of a run end before it is over. (That a world is never full is shown of the whole
 -- run.)
-abbrev pub Halts : PlanValue → RunError → Type 0
-Halts p (error.World world.TooManyEvents) =
+abbrev pub StopsOrFills : PlanValue → RunError → Type 0
+StopsOrFills p (error.World world.TooManyEvents) =
     (r : Turns) × (journal : List Event) × RunReaches p r journal × (max_events ≤ length journal)
-Halts p e = Stops p e
+StopsOrFills p e = Stops p e

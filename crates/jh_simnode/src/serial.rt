@@ -6,7 +6,7 @@ ghost use Rattle.jh_ops.specs.Operation.{operations};
 ghost use Rattle.jh_ops.specs.OperationWritten.{IsWritable};
 ghost use Rattle.jh_simnode.specs.Histories.{CanBeText};
 ghost use Rattle.jh_simnode.specs.Plans.{IsFit, IsKeptPlan};
-ghost use Rattle.jh_simnode.specs.Running.{Halts, HasSmallProcess, IsOver};
+ghost use Rattle.jh_simnode.specs.Running.{StopsOrFills, HasSmallProcess, IsOver};
 ghost use Rattle.jh_simnode.specs.Runs.{HasOneRun, IsSerialRun, Stops, setup_of};
 
 use crate::events::WorldError;
@@ -75,7 +75,7 @@ fn run_turns(alloc: Global, plan: &Plan, world: &mut World) -> Result<(), RunErr
     ensures over { OnOk result (IsOver plan.now world.new) }
     ensures setup { OnOk result (world.new.setup ≡ setup_of plan.now) }
     ensures small { OnOk result (All HasSmallProcess world.new.journal) }
-    ensures stopped { IfErr result (Halts plan.now) }
+    ensures stopped { IfErr result (StopsOrFills plan.now) }
     ensures kept { IsKeptPlan plan.now }
 {
     let clients = plan.clients();

@@ -7,7 +7,7 @@ ghost use Rattle.jh_simnode.specs.Limits.{max_events};
 ghost use Rattle.jh_simnode.specs.Runs as rule;
 ghost use Rattle.jh_simnode.specs.Runs.{Turns};
 ghost use Rattle.jh_simnode.specs.Running as running;
-ghost use Rattle.jh_simnode.specs.Running.{Asks, Halts, HasReply, BeforeFirstTurn, MayCall};
+ghost use Rattle.jh_simnode.specs.Running.{Asks, StopsOrFills, HasReply, BeforeFirstTurn, MayCall};
 ghost use Rattle.jh_simnode.specs.Running.{NothingDue, BetweenTurns};
 ghost use Rattle.jh_simnode.specs.declared.events.Event.{Event};
 
@@ -93,7 +93,7 @@ pub fn node_of(plan: &Plan, thread: u32) -> Node
 /// alone.
 pub fn driver_of(alloc: Global, plan: &Plan) -> Result<Driver, RunError>
     ensures driver { IfOk result (running.IsFirstDriver plan.now) }
-    ensures stopped { IfErr result (Halts plan.now) }
+    ensures stopped { IfErr result (StopsOrFills plan.now) }
 {
     let limited = Gen::Limit(plan.ops(), Inner::of(alloc, plan.generator().copy(alloc)?)?);
     let source = Gen::Clients(Inner::of(alloc, limited)?);
@@ -107,7 +107,7 @@ impl Run {
     /// A run of a plan before its first turn.
     pub(crate) fn new(alloc: Global, plan: &Plan) -> Result<Run, RunError>
         ensures first { IfOk result (BeforeFirstTurn plan.now) }
-        ensures stopped { IfErr result (Halts plan.now) }
+        ensures stopped { IfErr result (StopsOrFills plan.now) }
     {
         Ok(Run {
             driver: driver_of(alloc, plan)?,
@@ -140,7 +140,7 @@ impl Run {
         ensures turns { OnOk result
             ((self.new.waits ≡ self.old.waits) × (self.new.has_ended ≡ self.old.has_ended)) }
         ensures grown { OnOk result (length world.old.journal ≤ length world.new.journal) }
-        ensures stopped { IfErr result (Halts plan.now) }
+        ensures stopped { IfErr result (StopsOrFills plan.now) }
     {
         let entries = plan.schedule().entries();
         while self.applied < entries.len() {
@@ -207,7 +207,7 @@ impl Run {
         ensures called { OnOk result (HasReply plan.now self.new world.new thread) }
         ensures grown { OnOk result (length world.old.journal < length world.new.journal) }
         ensures turns { OnOk result ((self.new.waits ≡ 0) × (self.new.has_ended ≡ false)) }
-        ensures stopped { IfErr result (Halts plan.now) }
+        ensures stopped { IfErr result (StopsOrFills plan.now) }
     {
         let draw = self.random_numbers.next_word();
         let (_, reply) = world.call(process, node_of(plan, thread), request, draw)?;
@@ -230,7 +230,7 @@ impl Run {
         ensures stands { OnOk result (BetweenTurns plan.now self.now world.new) }
         ensures grown { OnOk result (length world.old.journal ≤ length world.new.journal) }
         ensures few { length world.old.journal ≤ max_events }
-        ensures stopped { IfErr result (Halts plan.now) }
+        ensures stopped { IfErr result (StopsOrFills plan.now) }
     {
         let _events = world.journal().len();
         if ticks_at(plan, self.calls[thread as usize]) {
@@ -247,7 +247,7 @@ impl Run {
         requires crowd { plan.now.clients ≤ max_clients }
         ensures stands { OnOk result (BetweenTurns plan.now self.new world.new) }
         ensures falls { OnOk result (running.Falls self.old world.old self.new world.new) }
-        ensures stopped { IfErr result (Halts plan.now) }
+        ensures stopped { IfErr result (StopsOrFills plan.now) }
     {
         let _events = world.journal().len();
         let thread = self.next_thread(plan);

@@ -2,7 +2,7 @@ use Rattle.std.proofs.Common.{◌∙◌, All, ap, sym, subst}
 use Rattle.jh_ops.specs.OperationWritten.{IsWritable}
 use Rattle.std.proofs.lemmas.Result.{err_from_is_err_and}
 use Rattle.jh_simnode.specs.Histories.{HasIntegers, journal_history}
-use Rattle.jh_simnode.proofs.EventBoundLemmas.{halts_stops}
+use Rattle.jh_simnode.proofs.EventBoundLemmas.{never_fills}
 use Rattle.jh_simnode.proofs.WritableLemmas.{writable_from}
 use Rattle.jh_simnode.proofs.serial.run_serial.Goals as goal
 
@@ -24,4 +24,4 @@ returns-clause-text c = record {
 pub returns-in_err-run_turns-clause-judged : goal.returns-in_err-run_turns-clause-judged
 returns-in_err-run_turns-clause-judged c =
     let p = err_from_is_err_and c.from_residual-in_err-run_turns.result c.from_residual-in_err-run_turns.ensures.1 in
-    rw (p.1, p.2) (halts_stops c.args.plan.now c.in_err-run_turns.ensures.kept c.in_err-run_turns.field-0.0 c.in_err-run_turns.ensures.stopped)
+    rw (p.1, p.2) (never_fills c.args.plan.now c.in_err-run_turns.ensures.kept c.in_err-run_turns.field-0.0 c.in_err-run_turns.ensures.stopped)
