@@ -17,14 +17,15 @@ use Rattle.jh_settings.specs.Settings.{AreSettingsOf}
 use Rattle.jh_settings.specs.declared.choices.Mode.{Mode}
 use Rattle.jh_reports.specs.Lines.{line}
 use Rattle.jh_laws.specs.HistoryLines.{IsTextOfHistory}
-use Rattle.jh_reports.specs.Reports.{IsReport, output_lines, verdict_status}
+use Rattle.jh_ops.specs.HistoryWritten.{history_lines}
+use Rattle.jh_reports.specs.Reports.{IsReport, verdict_status}
 
 -- The lines of a history, which are a text of it, of what the faults of a state make, and of what is
 -- found, with the exit status.
 abbrev pub IsRunOutput : State → List Operation → Finding → ℕ → List ℕ → Type 0
 IsRunOutput last history finding status output =
     IsReport last history (line (finding_line finding)) output
-    × IsTextOfHistory (output_lines history) history
+    × IsTextOfHistory (history_lines history) history
     × (status ≡ verdict_status (finding_verdict finding))
 
 -- for a plan that is run serially

@@ -7,12 +7,13 @@ use Rattle.std.specs.Prelude.{Result, Ok, Err, IfOk, OnOk}
 use Rattle.std.specs.List.{AllByRecursion}
 use Rattle.std.proofs.lemmas.List.{append_assoc, get_or-reverse, length-reverse, reverse-append}
 use Rattle.std.proofs.lemmas.List.{reverse-reverse, take-append-drop}
+use Rattle.jh_ops.specs.HistoryWritten.{history_lines}
 use Rattle.jh_ops.specs.Operation.{Operation}
 use Rattle.jh_test_parts.specs.Records.{recorded_operations}
 use Rattle.jh_conversation.specs.Lines.{is_test_over}
 use Rattle.jh_conversation.specs.Machine.{Machine}
 use Rattle.jh_test_parts.specs.Test.{TestValue}
-use Rattle.jh_conversation.specs.Text.{end_line, recorded_lines, recorded_history, record_lines, said_lines}
+use Rattle.jh_conversation.specs.Text.{end_line, recorded_lines, recorded_history, said_lines}
 use Rattle.jh_test_parts.specs.declared.records.Recorded.{Recorded}
 
 -- What was said is the end of the history.
@@ -60,25 +61,25 @@ all_reversed P xs all = λ k d less.
 -- what is written
 
 lines_are : (t : TestValue) (m : Machine) (records : List Recorded) (n : ℕ) → n ≤ length records → m.history ≡ reverse records → m.said ≡ take n m.history
-    → record_lines t.start.names (length records - n) (drop (length records - n) records) ≡ record_lines t.start.names (length m.history - length m.said) (reverse m.said)
+    → history_lines (recorded_operations t.start.names (length records - n) (drop (length records - n) records)) ≡ history_lines (recorded_operations t.start.names (length m.history - length m.said) (reverse m.said))
 lines_are t m records n few history said =
     let first : length m.history - length m.said ≡ length records - n =
     ap₂ (λ (h s : List Recorded). length h - length s) history (said ∙ ap (take n) history) ∙ said_first records n few in
     let last : reverse m.said ≡ drop (length records - n) records = ap reverse (said ∙ ap (take n) history) ∙ said_end records n few in
-    ap₂ (record_lines t.start.names) (sym first) (sym last)
+    ap₂ (λ (k : ℕ) (rs : List Recorded). history_lines (recorded_operations t.start.names k rs)) (sym first) (sym last)
 
 module _ (t : TestValue) (m : Machine) (records : List Recorded) (n : ℕ) (few : n ≤ length records) (history : m.history ≡ reverse records) (said : m.said ≡ take n m.history) (out written : List ℕ)
-    (lines : written ≡ out ++ record_lines t.start.names (length records - n) (drop (length records - n) records)) where
+    (lines : written ≡ out ++ history_lines (recorded_operations t.start.names (length records - n) (drop (length records - n) records))) where
   pub written_over : (next : List ℕ) → next ≡ written ++ end_line → is_test_over m ≡ true → next ≡ out ++ said_lines t m
   written_over next added over =
-      let all = record_lines t.start.names (length m.history - length m.said) (reverse m.said) in
+      let all = history_lines (recorded_operations t.start.names (length m.history - length m.said) (reverse m.said)) in
       added ∙ ap (λ l. l ++ end_line) (lines ∙ ap (λ l. out ++ l) (lines_are t m records n few history said))
       ∙ append_assoc out all end_line
       ∙ ap (λ b. out ++ (all ++ (if b then end_line else []))) (sym over)
 
   pub written_on : is_test_over m ≡ false → written ≡ out ++ said_lines t m
   written_on over =
-      let all = record_lines t.start.names (length m.history - length m.said) (reverse m.said) in
+      let all = history_lines (recorded_operations t.start.names (length m.history - length m.said) (reverse m.said)) in
       lines ∙ ap (λ l. out ++ l) (lines_are t m records n few history said ∙ sym (append-nil all))
       ∙ ap (λ b. out ++ (all ++ (if b then end_line else []))) (sym over)
 
@@ -95,8 +96,8 @@ if_ok (Err e) follows p = tt
 -- the whole history
 
 module _ (t : TestValue) (m : Machine) (records : List Recorded) (names : List (List ℕ)) where
-  pub history_written : (out next : List ℕ) → names ≡ t.start.names → m.history ≡ reverse records → next ≡ out ++ record_lines names 0 (drop 0 records) → next ≡ out ++ recorded_lines t m
-  history_written out next named history is = is ∙ ap₂ (λ (n : List (List ℕ)) r. out ++ record_lines n 0 r) named (sym (ap reverse history ∙ reverse-reverse records))
+  pub history_written : (out next : List ℕ) → names ≡ t.start.names → m.history ≡ reverse records → next ≡ out ++ history_lines (recorded_operations names 0 (drop 0 records)) → next ≡ out ++ recorded_lines t m
+  history_written out next named history is = is ∙ ap₂ (λ (n : List (List ℕ)) r. out ++ history_lines (recorded_operations n 0 r)) named (sym (ap reverse history ∙ reverse-reverse records))
 
   pub history_is : names ≡ t.start.names → m.history ≡ reverse records → (ops : List Operation) → ops ≡ recorded_operations names 0 records → ops ≡ recorded_history t m
   history_is named history ops is = is ∙ ap₂ (λ (n : List (List ℕ)) r. recorded_operations n 0 r) named (sym (ap reverse history ∙ reverse-reverse records))

@@ -3,9 +3,10 @@
 ghost use Rattle.std.specs.Prelude.{◌≡◌, ◌<◌, ◌≤◌, ◌++◌, ◌∷◌, ◌^◌, [], All, drop, length, IfOk, OnOk, reverse};
 ghost use Rattle.std.specs.Prelude.{take};
 ghost use Rattle.jh_edn.specs.Print.{print};
+ghost use Rattle.jh_ops.specs.HistoryWritten.{history_lines};
 ghost use Rattle.jh_ops.specs.Operation.{operations};
 ghost use Rattle.jh_ops.specs.OperationWritten.{value_written};
-ghost use Rattle.jh_test_parts.specs.Records.{operation_of_record};
+ghost use Rattle.jh_test_parts.specs.Records.{operation_of_record, recorded_operations};
 ghost use Rattle.jh_conversation.specs.Sound.{IsSoundMachine};
 ghost use Rattle.jh_test_parts.specs.Records.{IsWritableRecord};
 ghost use Rattle.jh_conversation.specs.Text as rule;
@@ -48,7 +49,8 @@ fn write_records(
     requires few { length records.now < 2 ^ 63 }
     requires writable { All (IsWritableRecord (length nodes.now)) records.now }
     ensures { OnOk result (out.new.items
-        ≡ out.old.items ++ rule.record_lines nodes.now first (drop first records.now)) }
+        ≡ out.old.items
+        ++ history_lines (recorded_operations nodes.now first (drop first records.now))) }
 {
     for index in first..records.len() {
         write_record(alloc, nodes, index, &records[index], out)?;

@@ -7,7 +7,8 @@ use Rattle.jh_checkers.specs.Checkers.{checker_of}
 use Rattle.jh_checkers.specs.Findings.{IsFinding, finding_verdict}
 use Rattle.jh_checkers.specs.declared.finding.Finding.{Finding}
 use Rattle.jh_checkers.specs.declared.finding.Judging.{Judging}
-use Rattle.jh_laws.specs.HistoryLines.{IsTextOfHistory, history_lines}
+use Rattle.jh_ops.specs.HistoryWritten.{history_lines}
+use Rattle.jh_laws.specs.HistoryLines.{IsTextOfHistory}
 use Rattle.jh_simnode.specs.Plans.{PlanValue}
 use Rattle.jh_simnode.specs.Runs.{IsSerialRun}
 use Rattle.jh_simnode.specs.declared.events.Event.{Event}

@@ -13,7 +13,8 @@ use Rattle.jh_ops.specs.OperationWritten.{value_written, kind_name, process_valu
 use Rattle.jh_ops.specs.declared.op_text.OpError.{OpError}
 use Rattle.jh_ops.specs.declared.operation.Kind.{Kind}
 use Rattle.jh_ops.specs.declared.operation.Process.{Process}
-use Rattle.jh_laws.specs.HistoryLines.{CanPrint, history_lines}
+use Rattle.jh_ops.specs.HistoryWritten.{history_lines}
+use Rattle.jh_laws.specs.HistoryLines.{CanPrint}
 use Rattle.jh_laws.specs.Lines.{line_of, lines_of, ReadsBack}
 use Rattle.jh_laws.proofs.DepthLemmas.{deeper}
 use Rattle.jh_laws.proofs.OperationLemmas.{operation_printable, written}

@@ -1,20 +1,14 @@
--- Histories as lines of bytes (Jepsen writes one operation after another to `history.edn`; which
--- operations can be written so is this project's own).
+-- Which histories are written as lines that are read back, and which bytes are a text of a history
+-- (this project's own).
 use Rattle.std.specs.Prelude.{ℕ, ◌-◌, List, IfSome, FitsSigned}
 use Rattle.std.specs.Int.{w64}
-use Rattle.std.specs.List.{flat_map}
 use Rattle.jh_edn.specs.Edn.{Edn, members_of}
 use Rattle.jh_edn.specs.Equality.{KeysDiffer}
 use Rattle.jh_edn.specs.Printable.{IsPrintable, ArePrintablePairs}
 use Rattle.jh_edn.specs.Spelling.{depth_limit, SpellsAll}
 use Rattle.jh_ops.specs.HistoryText.{AreParsed}
 use Rattle.jh_ops.specs.Operation.{Operation}
-use Rattle.jh_ops.specs.OperationWritten.{IsWritable, pairs_written, value_written}
-use Rattle.jh_laws.specs.Lines.{line_of}
-
--- a line for each operation
-abbrev pub history_lines : List Operation → List ℕ
-history_lines history = flat_map (λ op. line_of (value_written op)) history
+use Rattle.jh_ops.specs.OperationWritten.{IsWritable, pairs_written}
 
 -- The operation can be printed: its function, its value and its other keys can be, one level down;
 -- its numbers are integers of a text; and no key stands twice.

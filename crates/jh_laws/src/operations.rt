@@ -8,7 +8,8 @@ ghost use Rattle.jh_edn.specs.Spelling.{depth_limit};
 ghost use Rattle.jh_ops.specs.Operation.{Operation};
 ghost use Rattle.jh_ops.specs.OperationText.{parsed_op};
 ghost use Rattle.jh_ops.specs.OperationWritten.{pairs_written, value_written};
-ghost use Rattle.jh_laws.specs.HistoryLines.{CanPrint, IsTextOfHistory, history_lines};
+ghost use Rattle.jh_ops.specs.HistoryWritten.{history_lines};
+ghost use Rattle.jh_laws.specs.HistoryLines.{CanPrint, IsTextOfHistory};
 ghost use Rattle.jh_laws.specs.Lines.{ReadsBack};
 
 use crate::lines::lines_read_back;

@@ -2,6 +2,7 @@ pub mod Operation
 pub mod OperationText
 pub mod PartsInside
 pub mod OperationWritten
+pub mod HistoryWritten
 pub mod PrintedInside
 pub mod Requests
 pub mod HistoryText

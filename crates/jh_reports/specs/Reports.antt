@@ -1,25 +1,19 @@
 -- What is written of a test behind its end: its history, what is left of the faults, and what is found
 -- (this project's own; histories are written as Jepsen writes them).
 use Rattle.std.specs.Prelude.{◌≡◌, ℕ, List, ◌++◌}
-use Rattle.std.specs.List.{flat_map}
 use Rattle.jh_check.specs.declared.verdict.Verdict.{Verdict}
-use Rattle.jh_edn.specs.Print.{print}
 use Rattle.jh_env.specs.Overlay.{EnvValue}
 use Rattle.jh_nemesis.specs.State.{State}
 use Rattle.jh_ops.specs.Operation.{Operation}
-use Rattle.jh_ops.specs.OperationWritten.{value_written}
-use Rattle.jh_reports.specs.Lines.{IsEnvOf, active_line, environment_line, line}
-
--- a line for each operation
-abbrev pub output_lines : List Operation → List ℕ
-output_lines history = flat_map (λ op. line (print (value_written op))) history
+use Rattle.jh_ops.specs.HistoryWritten.{history_lines}
+use Rattle.jh_reports.specs.Lines.{IsEnvOf, active_line, environment_line}
 
 -- A line for each operation of a history, a line with the ids of the active faults of a state, one
 -- with the environment that they make, and behind them the last line, which says what was found.
 abbrev pub IsReport : State → List Operation → (last_line output : List ℕ) → Type 0
 IsReport state history last_line output =
     (env : EnvValue) × IsEnvOf state env
-    × (output ≡ output_lines history
+    × (output ≡ history_lines history
     ++ (active_line state.active ++ (environment_line env ++ last_line)))
 
 -- the exit status of a verdict

@@ -2,10 +2,11 @@
 
 ghost use Rattle.std.specs.Prelude.{◌≡◌, ◌++◌, OnOk, List, ℕ};
 ghost use Rattle.jh_edn.specs.Print.{print};
+ghost use Rattle.jh_ops.specs.HistoryWritten.{history_lines};
 ghost use Rattle.jh_ops.specs.Operation.{operation, operations};
 ghost use Rattle.jh_ops.specs.OperationWritten.{value_written};
 ghost use Rattle.jh_reports.specs.Lines.{line};
-ghost use Rattle.jh_reports.specs.Reports.{IsReport, output_lines};
+ghost use Rattle.jh_reports.specs.Reports.{IsReport};
 
 use crate::lines::{write_active, write_environment};
 use jh_nemesis::Nemesis;
@@ -36,7 +37,7 @@ pub fn write_report(
 /// Adds a line for each operation.
 fn write_history(history: &[Op], output: &mut Vec<u8>) -> Result<(), AllocError>
     ensures { OnOk result
-        (output.new.items ≡ output.old.items ++ output_lines (operations history.now)) }
+        (output.new.items ≡ output.old.items ++ history_lines (operations history.now)) }
 {
     for op in history {
         write_operation_line(op, output)?;

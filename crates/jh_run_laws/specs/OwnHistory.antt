@@ -10,7 +10,8 @@ use Rattle.jh_check.specs.declared.error.CheckError.{CheckError}
 use Rattle.jh_check.specs.declared.error.CheckError.TheVariants.{OutOfMemory}
 use Rattle.jh_checkers.specs.Checkers.{checker_of}
 use Rattle.jh_checkers.specs.Findings.{RefusesChecking}
-use Rattle.jh_laws.specs.HistoryLines.{CanPrint, IsTextOfHistory, history_lines}
+use Rattle.jh_ops.specs.HistoryWritten.{history_lines}
+use Rattle.jh_laws.specs.HistoryLines.{CanPrint, IsTextOfHistory}
 use Rattle.jh_simnode.specs.Histories.{CanBeText}
 use Rattle.jh_simnode.specs.Plans.{PlanValue, IsFit}
 use Rattle.jh_simnode.specs.Runs.{IsSerialRun}

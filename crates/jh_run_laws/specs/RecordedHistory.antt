@@ -3,7 +3,8 @@
 use Rattle.std.specs.Prelude.{◌≡◌, ℕ, ◌<◌, ◌^◌, All, List}
 use Rattle.jh_ops.specs.Operation.{Operation}
 use Rattle.jh_ops.specs.Words.{IsRecordedAs}
-use Rattle.jh_laws.specs.HistoryLines.{CanPrint, IsTextOfHistory, history_lines}
+use Rattle.jh_ops.specs.HistoryWritten.{history_lines}
+use Rattle.jh_laws.specs.HistoryLines.{CanPrint, IsTextOfHistory}
 use Rattle.jh_simnode.specs.Histories.{indexed_operation}
 
 -- the operation was recorded as words, and stands at a place of a history

@@ -1,8 +1,8 @@
 use Rattle.std.proofs.Common.{◌≡◌, ◌∙◌, ◌-◌, ◌++◌, ◌≤◌, ap, subst, sym, All, List, ℕ, length, drop}
 use Rattle.std.specs.List.{AllByRecursion}
 use Rattle.std.proofs.lemmas.List.{length-reverse}
-use Rattle.jh_test_parts.specs.Records.{IsWritableRecord}
-use Rattle.jh_conversation.specs.Text.{record_lines}
+use Rattle.jh_ops.specs.HistoryWritten.{history_lines}
+use Rattle.jh_test_parts.specs.Records.{IsWritableRecord, recorded_operations}
 use Rattle.jh_conversation.proofs.TextLemmas.{all_reversed, written_on, written_over}
 use Rattle.jh_conversation.proofs.machine.Machine.write_said.Goals as goal
 
@@ -19,7 +19,7 @@ returns-in_ok-extend_from_slice c =
     written_over c.args.test.now c.args.self.now records c.count_said.result
     (let a = c.count_said.ensures.few in subst (λ n. c.count_said.result ≤ n) (ap length c.records-records.ensures.history ∙ length-reverse records) a)
     c.records-records.ensures.history c.count_said.ensures.said c.args.out.now.items c.write_records.new.out.items
-    (c.in_ok-write_records.ensures ∙ ap (λ names. c.args.out.now.items ++ record_lines names (length records - c.count_said.result) (drop (length records - c.count_said.result) records)) c.nodes.ensures)
+    (c.in_ok-write_records.ensures ∙ ap (λ names. c.args.out.now.items ++ history_lines (recorded_operations names (length records - c.count_said.result) (drop (length records - c.count_said.result) records))) c.nodes.ensures)
     c.extend_from_slice.new.self.items c.in_ok-extend_from_slice.ensures.items (sym c.is_over.ensures ∙ c.if-is_over.true)
 
 pub returns-else-is_over : goal.returns-else-is_over
@@ -28,5 +28,5 @@ returns-else-is_over c =
     written_on c.args.test.now c.args.self.now records c.count_said.result
     (let a = c.count_said.ensures.few in subst (λ n. c.count_said.result ≤ n) (ap length c.records-records.ensures.history ∙ length-reverse records) a)
     c.records-records.ensures.history c.count_said.ensures.said c.args.out.now.items c.write_records.new.out.items
-    (c.in_ok-write_records.ensures ∙ ap (λ names. c.args.out.now.items ++ record_lines names (length records - c.count_said.result) (drop (length records - c.count_said.result) records)) c.nodes.ensures)
+    (c.in_ok-write_records.ensures ∙ ap (λ names. c.args.out.now.items ++ history_lines (recorded_operations names (length records - c.count_said.result) (drop (length records - c.count_said.result) records))) c.nodes.ensures)
     (sym c.is_over.ensures ∙ c.if-is_over.false)
