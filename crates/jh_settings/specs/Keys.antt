@@ -15,6 +15,10 @@ use Rattle.jh_settings.specs.declared.keys.Key.{Key}
 abbrev pub IsDocument : List ℕ → Members → Type 0
 IsDocument bytes document = IsUtf8 bytes × (parse_document bytes ≡ Some document)
 
+-- the bytes spell no document
+abbrev pub IsNoDocument : List ℕ → Type 0
+IsNoDocument bytes = (document : Members) → IsDocument bytes document → ⊥
+
 -- a key, as a document has it
 abbrev pub key_name : Key → List ℕ
 key_name Key.Start = codes "start"

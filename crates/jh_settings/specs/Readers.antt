@@ -1,31 +1,23 @@
 -- What the readers of a document and of its values answer, for the settings of every command (this
 -- project's own).
 use Rattle.std.specs.Prelude.{◌≡◌, List, ℕ, Option, Some, None, Result, MatchOption, MatchResult}
-use Rattle.toml.specs.Data.{Data, Members}
+use Rattle.toml.specs.Data.{Data}
 use Rattle.jh_edn.specs.Edn.{Edn}
 use Rattle.jh_edn.specs.View.{view}
 use Rattle.jh_edn.specs.declared.value.Value.{Value}
 use Rattle.jh_settings.specs.declared.keys.Key.{Key}
 use Rattle.jh_settings.specs.declared.error.SettingsError.{SettingsError}
-use Rattle.jh_settings.specs.declared.error.SettingsError.TheVariants.{NotToml, Unknown, Missing}
-use Rattle.jh_settings.specs.declared.error.SettingsError.TheVariants.{BadValue, OutOfMemory}
-use Rattle.jh_settings.specs.Keys.{IsDocument, HasKnownKeys, IsFirstUnknown, first_missing}
+use Rattle.jh_settings.specs.declared.error.SettingsError.TheVariants.{NotToml, BadValue}
+use Rattle.jh_settings.specs.declared.error.SettingsError.TheVariants.{OutOfMemory}
+use Rattle.jh_settings.specs.Keys.{IsNoDocument}
 use Rattle.jh_settings.specs.Kinds.{IsElement}
 use Rattle.jh_settings.specs.Refusals.{IsFirstBadKey}
 
 -- why bytes are no table
 abbrev pub RefusesBytes : List ℕ → SettingsError → Type 0
-RefusesBytes bytes NotToml = (document : Members) → IsDocument bytes document → ⊥
+RefusesBytes bytes NotToml = IsNoDocument bytes
 RefusesBytes bytes OutOfMemory = Unit {0}
 RefusesBytes bytes _ = ⊥
-
--- why keys are refused
-abbrev pub RefusesDocumentKeys : List Key → List Key → Members → SettingsError → Type 0
-RefusesDocumentKeys keys needed document (Unknown name) = IsFirstUnknown keys document name
-RefusesDocumentKeys keys needed document (Missing key) =
-    HasKnownKeys keys document × (first_missing needed document ≡ Some key)
-RefusesDocumentKeys keys needed document OutOfMemory = Unit {0}
-RefusesDocumentKeys keys needed document _ = ⊥
 
 -- what is parsed, or a bad value under the key
 abbrev pub IsValueParsed : {A : Type 0} → Result A SettingsError → Key → Option A → Type 0

@@ -1,14 +1,16 @@
 -- Which settings are refused, and in which order (this project's own). What holds of the settings of
 -- every command takes which values are good, or which documents are refused, as an argument.
-use Rattle.std.specs.Prelude.{◌≡◌, ◌⊎◌, ℕ, List, [], ◌∷◌, IsSome}
+use Rattle.std.specs.Prelude.{◌≡◌, ◌⊎◌, ℕ, List, [], ◌∷◌, IsSome, Some}
 use Rattle.toml.specs.Data.{Members}
 use Rattle.jh_env.specs.Overlay.{EnvValue}
 use Rattle.jh_gen.specs.Generator.{Generator}
 use Rattle.jh_simnode.specs.declared.schedule.Entry.{Entry}
 use Rattle.jh_settings.specs.declared.error.SettingsError.{SettingsError}
-use Rattle.jh_settings.specs.declared.error.SettingsError.TheVariants.{NotToml, OutOfMemory}
+use Rattle.jh_settings.specs.declared.error.SettingsError.TheVariants.{NotToml, Unknown, Missing}
+use Rattle.jh_settings.specs.declared.error.SettingsError.TheVariants.{OutOfMemory}
 use Rattle.jh_settings.specs.declared.keys.Key.{Key}
-use Rattle.jh_settings.specs.Keys.{IsDocument}
+use Rattle.jh_settings.specs.Keys.{IsDocument, IsNoDocument, HasKnownKeys, IsFirstUnknown}
+use Rattle.jh_settings.specs.Keys.{first_missing}
 use Rattle.jh_settings.specs.Parsed.{IsParsedStart, parsed_store, parsed_workload}
 use Rattle.jh_settings.specs.Parsed.{IsParsedGenerator, parsed_clients, parsed_ops, parsed_mode}
 use Rattle.jh_settings.specs.Parsed.{parsed_volatile, parsed_initial, parsed_tick_every}
@@ -47,10 +49,19 @@ IsFirstBadKey Good [] key = ⊥
 IsFirstBadKey Good (other ∷ others) key =
     ((other ≡ key) × (Good key → ⊥)) ⊎ (Good other × IsFirstBadKey Good others key)
 
+-- why the keys of a document are refused, of these keys, some of which are needed: one is unknown,
+-- or else one is missing; memory may be refused for any keys
+abbrev pub RefusesDocumentKeys : List Key → List Key → Members → SettingsError → Type 0
+RefusesDocumentKeys keys needed document (Unknown name) = IsFirstUnknown keys document name
+RefusesDocumentKeys keys needed document (Missing key) =
+    HasKnownKeys keys document × (first_missing needed document ≡ Some key)
+RefusesDocumentKeys keys needed document OutOfMemory = Unit {0}
+RefusesDocumentKeys keys needed document _ = ⊥
+
 -- why bytes are refused: they spell no document, or that is refused; memory may be refused for any
 -- bytes
 abbrev pub RefusesSpelled : (Members → SettingsError → Type 0) → List ℕ → SettingsError → Type 0
-RefusesSpelled Refuses bytes NotToml = (document : Members) → IsDocument bytes document → ⊥
+RefusesSpelled Refuses bytes NotToml = IsNoDocument bytes
 RefusesSpelled Refuses bytes OutOfMemory = Unit {0}
 RefusesSpelled Refuses bytes e =
     (document : Members) × IsDocument bytes document × Refuses document e

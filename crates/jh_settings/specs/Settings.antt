@@ -6,17 +6,17 @@ use Rattle.jh_gen.specs.Generator.{Generator}
 use Rattle.jh_gen.specs.Suits.{suits}
 use Rattle.jh_simnode.specs.Plans.{PlanValue, IsFit}
 use Rattle.jh_settings.specs.declared.error.SettingsError.{SettingsError}
-use Rattle.jh_settings.specs.declared.error.SettingsError.TheVariants.{NotToml, Unknown, Missing}
-use Rattle.jh_settings.specs.declared.error.SettingsError.TheVariants.{BadValue, OutOfMemory}
+use Rattle.jh_settings.specs.declared.error.SettingsError.TheVariants.{BadValue}
 use Rattle.jh_settings.specs.declared.keys.Key.{Key}
 use Rattle.jh_settings.specs.declared.choices.Mode.{Mode}
-use Rattle.jh_settings.specs.Keys.{IsDocument, HasKnownKeys, IsFirstUnknown, first_missing}
+use Rattle.jh_settings.specs.Keys.{IsDocument, HasKnownKeys, first_missing}
 use Rattle.jh_settings.specs.Keys.{run_keys, needed_run_keys}
 use Rattle.jh_settings.specs.Parsed.{IsParsedStart, parsed_store, parsed_workload}
 use Rattle.jh_settings.specs.Parsed.{IsParsedGenerator, parsed_clients, parsed_ops, parsed_mode}
 use Rattle.jh_settings.specs.Parsed.{parsed_volatile, parsed_initial, parsed_tick_every}
 use Rattle.jh_settings.specs.Parsed.{parsed_rows, parsed_seed, parsed_budget, IsParsedSchedule}
-use Rattle.jh_settings.specs.Refusals.{IsGood, AreGood, IsFirstBadKey, RefusesSpelled}
+use Rattle.jh_settings.specs.Refusals.{IsGood, AreGood, IsFirstBadKey, RefusesDocumentKeys}
+use Rattle.jh_settings.specs.Refusals.{RefusesSpelled}
 
 -- a document means this plan, in which mode it is run, and how many configurations the judge of a register reaches at most
 pub record AreSettings (document : Members) (plan : PlanValue) (run_mode : Mode)
@@ -59,14 +59,10 @@ IsBadValue document key =
 
 -- why a document is refused: an unknown key, then a missing one, then a bad value
 abbrev pub RefusesDocument : Members → SettingsError → Type 0
-RefusesDocument document NotToml = ⊥
-RefusesDocument document (Unknown choice) = IsFirstUnknown run_keys document choice
-RefusesDocument document (Missing key) =
-    HasKnownKeys run_keys document × (first_missing needed_run_keys document ≡ Some key)
 RefusesDocument document (BadValue key) =
     HasKnownKeys run_keys document × (first_missing needed_run_keys document ≡ None)
     × IsBadValue document key
-RefusesDocument document OutOfMemory = Unit {0}
+RefusesDocument document e = RefusesDocumentKeys run_keys needed_run_keys document e
 
 -- why bytes are refused
 abbrev pub RefusesSettings : List ℕ → SettingsError → Type 0

@@ -5,7 +5,8 @@ ghost use Rattle.std.specs.Prelude.{◌≡◌, None, MatchResult};
 ghost use Rattle.toml.specs.View.{table_view};
 ghost use Rattle.jh_settings.specs.Keys as rule;
 ghost use Rattle.jh_settings.specs.Keys.{HasKnownKeys, IsDocument};
-ghost use Rattle.jh_settings.specs.Readers.{RefusesBytes, RefusesDocumentKeys};
+ghost use Rattle.jh_settings.specs.Readers.{RefusesBytes};
+ghost use Rattle.jh_settings.specs.Refusals.{RefusesDocumentKeys};
 
 use crate::error::{KeyText, SettingsError};
 use crate::keys::{Key, first_missing, first_unknown};
