@@ -5,7 +5,7 @@
 ghost use Rattle.std.specs.Prelude.{◌≡◌, ◌↔◌, ◌+◌, ◌<◌, ◌≤◌, ℕ, min, IsTrue, IsSome, IfSome};
 ghost use Rattle.std.specs.Prelude.{IsSomeAnd, MatchOption, Some, None, false, true};
 ghost use Rattle.jh_ops.specs.declared.call.Request.{Request};
-ghost use Rattle.jh_workers.specs.declared.monitor.NextMove.TheVariants as NextMoves;
+ghost use Rattle.jh_workers.specs.declared.monitor.Assignment.TheVariants as assignment;
 
 use crate::turns::Turns;
 use jh_gen::{Driver, Ended, GenAnswer, Thread};
@@ -71,15 +71,15 @@ impl From<Full> for RunError {
     }
 }
 
-/// What a client thread does next.
+/// What a client thread is asked to do.
 #[derive(Clone, Copy, Debug)]
-pub(crate) enum NextMove {
-    /// It ends: there is nothing more for any thread, or the run is stopped.
-    Stop,
-    /// It asks again once something has changed.
-    Wait,
-    /// It makes this request as this process.
-    Call(u64, Request),
+pub(crate) enum Assignment {
+    /// To make a request, as an operation of this process.
+    Calls(u64, Request),
+    /// To ask again once something has changed.
+    Waits,
+    /// To end: there is nothing more for any thread, or the run is stopped.
+    Ends,
 }
 
 /// Where a run stands.
@@ -172,31 +172,31 @@ impl RunState {
         }
     }
 
-    /// What a client thread does next. It waits while an entry of the schedule is due, so that no call
-    /// begins before the entry is taken; and it waits where it was the last to ask while others sleep,
-    /// so that they ask first. Each question to the driver takes a random number.
-    fn ask(&mut self, thread: u32, numbers: &mut Lcg128Xsl64) -> NextMove
-        ensures stopped { IsSome self.old.error → result ≡ NextMoves.Stop }
-        ensures in_time { (process : ℕ) (request : Request) → result ≡ NextMoves.Call process request
+    /// What a client thread is asked to do next. It waits while an entry of the schedule is due, so
+    /// that no call begins before the entry is taken; and it waits where it was the last to ask while
+    /// others sleep, so that they ask first. Each question to the driver takes a random number.
+    fn ask(&mut self, thread: u32, numbers: &mut Lcg128Xsl64) -> Assignment
+        ensures stopped { IsSome self.old.error → result ≡ assignment.Ends }
+        ensures in_time { (process : ℕ) (request : Request) → result ≡ assignment.Calls process request
             → IfSome self.old.due (λ at. self.old.answered < at) }
         ensures error { self.new.error ≡ self.old.error }
         ensures answered { self.new.answered ≡ self.old.answered }
     {
         if self.is_stopped() {
-            return NextMove::Stop;
+            return Assignment::Ends;
         }
         if !self.is_open || self.has_due_entry() {
-            return NextMove::Wait;
+            return Assignment::Waits;
         }
         if self.turns.hold(thread) {
-            return NextMove::Wait;
+            return Assignment::Waits;
         }
         match self.driver.ask(Thread::Client(thread), numbers.next_word()) {
             Ok(GenAnswer::Call(Process::Client(process), Call::Client(request))) => {
-                NextMove::Call(process, request)
+                Assignment::Calls(process, request)
             }
-            Ok(GenAnswer::Pending) => NextMove::Wait,
-            Ok(GenAnswer::Call(_, _)) | Ok(GenAnswer::Done) | Err(_) => NextMove::Stop,
+            Ok(GenAnswer::Pending) => Assignment::Waits,
+            Ok(GenAnswer::Call(_, _)) | Ok(GenAnswer::Done) | Err(_) => Assignment::Ends,
         }
     }
 
@@ -325,28 +325,28 @@ impl Monitor {
         self.state.lock(rt).end_sleep();
     }
 
-    /// What a client thread does next. While there is nothing for it, it sleeps until the state has
-    /// changed, and asks again with another random number.
-    pub(crate) fn next_move<R: Wait>(
+    /// What a client thread is asked to do next. While there is nothing for it, it sleeps until the
+    /// state has changed, and asks again with another random number.
+    pub(crate) fn next_assignment<R: Wait>(
         &self,
         rt: &R,
         thread: u32,
         numbers: &mut Lcg128Xsl64,
-    ) -> NextMove {
+    ) -> Assignment {
         let mut state = self.state.lock(rt);
         for _ in rt.forever() {
             let next = state.ask(thread, numbers);
             if state.free_held() {
                 self.changed.notify_all();
             }
-            if !matches!(next, NextMove::Wait) {
+            if !matches!(next, Assignment::Waits) {
                 return next;
             }
             state.begin_sleep();
             state = self.changed.wait(rt, state);
             state.end_sleep();
         }
-        NextMove::Stop
+        Assignment::Ends
     }
 
     /// No entry of the schedule is left, so client threads wait for none.

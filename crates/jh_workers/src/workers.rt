@@ -14,7 +14,7 @@ ghost use Rattle.jh_workers.specs.RecordsInside.{HoldsWords, Publishes, Publishe
 ghost use Rattle.jh_ops.specs.declared.operation.Op.{Op};
 
 use crate::log_seat::{LogSeat, OfLog};
-use crate::monitor::{Monitor, NextMove, RunError};
+use crate::monitor::{Assignment, Monitor, RunError};
 use crate::ports::{Count, Port};
 use jh_env::Node;
 use jh_gen::Ended;
@@ -261,9 +261,9 @@ fn work_as_client<B: OfLog, P: Port, R: Wait>(
     let mut calls: u32 = 0;
     monitor.enter(rt);
     for _ in rt.forever() {
-        match monitor.next_move(rt, thread, &mut numbers) {
-            NextMove::Stop | NextMove::Wait => return Ok(()),
-            NextMove::Call(process, request) => {
+        match monitor.next_assignment(rt, thread, &mut numbers) {
+            Assignment::Ends | Assignment::Waits => return Ok(()),
+            Assignment::Calls(process, request) => {
                 let asked = ClientCall {
                     process,
                     node: node_of(shared.plan, thread),
