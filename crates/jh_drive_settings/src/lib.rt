@@ -3,11 +3,12 @@
 #![tactic(auto)]
 
 mod choices;
-mod limits;
+mod laws;
 mod numbers;
 mod parts;
 mod schedule;
 mod settings;
 
-pub use limits::{MAX_RATE, MAX_RECOVERY_MS, MAX_TIME_MS, limits};
+pub use laws::limits;
+pub use numbers::{MAX_RATE, MAX_RECOVERY_MS, MAX_TIME_MS};
 pub use settings::{DriveSettings, drive_settings_of};

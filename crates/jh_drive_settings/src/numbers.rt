@@ -9,11 +9,19 @@ ghost use Rattle.jh_drive_settings.specs.Parsed.{parsed_rate, parsed_recovery, p
 ghost use Rattle.jh_drive_settings.specs.Parsed.{parsed_share, parsed_checker, parsed_time_limit};
 
 use crate::choices::{are_transactions, judge_standing};
-use crate::limits::{MAX_RATE, MAX_RECOVERY_MS, MAX_TIME_MS};
 use jh_checkers::Checker;
 use jh_gen::MAX_CALLS;
 use jh_settings::{Key, SettingsError, number_or, number_under, value_under, whole_in};
 use toml::Table;
+
+/// The latest moment of a test, in milliseconds: a day.
+pub const MAX_TIME_MS: u32 = 86_400_000;
+
+/// The most calls a second.
+pub const MAX_RATE: u32 = 1_000_000;
+
+/// The longest recovery, in milliseconds: an hour.
+pub const MAX_RECOVERY_MS: u64 = 3_600_000;
 
 /// How many calls, under `ops`: from 1 to 1,000,000.
 pub(crate) fn test_ops_under(table: &Table) -> Result<u32, SettingsError>

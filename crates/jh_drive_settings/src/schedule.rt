@@ -4,7 +4,7 @@ ghost use Rattle.std.specs.Prelude.{◌≡◌};
 ghost use Rattle.jh_edn.specs.View.{view};
 ghost use Rattle.jh_drive_settings.specs.Parsed as rule;
 
-use crate::limits::MAX_TIME_MS;
+use crate::numbers::MAX_TIME_MS;
 use jh_edn::Value;
 use jh_env::Nodes;
 use jh_gen::MAX_CALLS;

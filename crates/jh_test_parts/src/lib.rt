@@ -5,7 +5,7 @@
 mod calls;
 mod changes;
 mod complaints;
-mod limits;
+mod laws;
 mod line;
 mod named;
 mod operations;
@@ -17,11 +17,14 @@ mod values;
 
 pub use calls::{Datum, ValuedCall};
 pub use complaints::Complaint;
-pub use limits::{MAX_KEY_APPENDS, MAX_TRANSACTION_KEYS, MAX_TRANSACTION_OPS, limits};
+pub use laws::limits;
 pub use line::{LineMeaning, kept_pairs, line_meaning};
 pub use named::NamedCells;
 pub use operations::{operation_of, operations_of};
-pub use parts::{KeyShares, TestEntry, TransactionShape, When};
+pub use parts::{
+    KeyShares, MAX_KEY_APPENDS, MAX_TRANSACTION_KEYS, MAX_TRANSACTION_OPS, TestEntry,
+    TransactionShape, When,
+};
 pub use records::{ChangedCells, ChangedLink, ChangedNode, Recorded};
 pub use test::{MAX_TEST_ENTRIES, Test, TestData, TestError};
 pub use transactions::{Slot, TransactionSource};

@@ -2,6 +2,15 @@
 
 use jh_nemesis::Step;
 
+/// Over how many keys at a time transactions are, at most.
+pub const MAX_TRANSACTION_KEYS: u32 = 1_000;
+
+/// How many micro-operations a transaction has, at most.
+pub const MAX_TRANSACTION_OPS: u32 = 100;
+
+/// How many appends of a key are made before another one takes its place, at most.
+pub const MAX_KEY_APPENDS: u32 = 10_000;
+
 /// When an entry of the schedule is due, once all before it were taken.
 #[derive(Clone, Copy, Debug, PartialEq, Eq)]
 pub enum When {

@@ -9,8 +9,10 @@ ghost use Rattle.jh_gen.specs.View.{generator_of};
 ghost use Rattle.jh_test_parts.specs.Test as rule;
 ghost use Rattle.jh_test_parts.specs.Test.{IsFitTest, IsGoodShape, RefusesTest};
 
-use crate::limits::{MAX_KEY_APPENDS, MAX_TRANSACTION_KEYS, MAX_TRANSACTION_OPS};
-use crate::parts::{KeyShares, TestEntry, TransactionShape};
+use crate::parts::{
+    KeyShares, MAX_KEY_APPENDS, MAX_TRANSACTION_KEYS, MAX_TRANSACTION_OPS, TestEntry,
+    TransactionShape,
+};
 use jh_checkers::Checker;
 use jh_env::{Env, Node, Nodes};
 use jh_gen::{Gen, Inner, MAX_CALLS, MAX_CLIENTS};
