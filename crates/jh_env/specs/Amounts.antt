@@ -4,6 +4,7 @@ use Rattle.std.specs.Prelude.{⊤, ℕ, ℤ, pos, negsuc, ◌&&◌, nat_le, if�
 use Rattle.std.specs.Prelude.{Option, Some, None, option_map}
 use Rattle.jh_tables.specs.declared.faults.LinkFault.{LinkFault}
 use Rattle.jh_tables.specs.Faults.{IsSlowAmount, IsLossAmount, IsFixAmount}
+use Rattle.jh_tables.specs.Limits.{max_fixed_ms, max_loss, max_slowed_ms}
 use Rattle.jh_env.specs.declared.amounts.GivenLinkFault.{GivenLinkFault}
 
 -- the amount is in its range
@@ -21,6 +22,8 @@ amount_within least most (negsuc n) = None
 -- the fault that is given, if its amount is in its range
 abbrev pub link_fault_of : GivenLinkFault → Option LinkFault
 link_fault_of GivenLinkFault.Cut = Some LinkFault.Cut
-link_fault_of (GivenLinkFault.Slow ms) = option_map LinkFault.Slow (amount_within 1 60000 ms)
-link_fault_of (GivenLinkFault.Loss level) = option_map LinkFault.Loss (amount_within 1 20 level)
-link_fault_of (GivenLinkFault.Fix ms) = option_map LinkFault.Fix (amount_within 0 60000 ms)
+link_fault_of (GivenLinkFault.Slow ms) =
+    option_map LinkFault.Slow (amount_within 1 max_slowed_ms ms)
+link_fault_of (GivenLinkFault.Loss level) =
+    option_map LinkFault.Loss (amount_within 1 max_loss level)
+link_fault_of (GivenLinkFault.Fix ms) = option_map LinkFault.Fix (amount_within 0 max_fixed_ms ms)

@@ -1,3 +1,4 @@
+pub use Rattle.jh_tables.specs.Limits
 pub use Rattle.jh_tables.specs.Standing
 pub mod Cells
 pub mod Names

@@ -6,6 +6,7 @@ use Rattle.std.specs.Prelude.{◌++◌, length, nat_le, not}
 use Rattle.std.specs.Char.{is_ascii_alphanumeric}
 use Rattle.std.specs.List.{list_all, list_any, range_with_len}
 use Rattle.std.specs.Str.{byte, bytes_eq}
+use Rattle.jh_tables.specs.Limits.{max_nodes}
 use Rattle.jh_env.specs.declared.names.NodesError.{NodesError}
 use Rattle.jh_env.specs.declared.names.NodesError.TheVariants.{NoNodes, TooManyNodes, BadName}
 use Rattle.jh_env.specs.declared.names.NodesError.TheVariants.{DuplicateName, OutOfMemory}
@@ -22,10 +23,14 @@ dash = byte "-"
 abbrev pub is_name_byte : ℕ → Bool
 is_name_byte b = (is_ascii_alphanumeric b || (b == dot)) || ((b == dash) || (b == underscore))
 
+-- how many bytes a name has, at most
+abbrev pub max_name_bytes : ℕ
+max_name_bytes = 64
+
 -- a text that may name a node
 abbrev pub is_node_name : List ℕ → Bool
 is_node_name name =
-    not (length name == 0) && (nat_le (length name) 64 && list_all is_name_byte name)
+    not (length name == 0) && (nat_le (length name) max_name_bytes && list_all is_name_byte name)
 
 -- the name is one of these
 abbrev pub is_name_among : List (List ℕ) → List ℕ → Bool
@@ -43,7 +48,7 @@ AreNodeNames names =
 
 -- as many names as an environment may have
 abbrev pub AreFew : List (List ℕ) → Type 0
-AreFew names = (0 < length names) × (length names ≤ 64)
+AreFew names = (0 < length names) × (length names ≤ max_nodes)
 
 -- the places of so many nodes, in order
 abbrev pub node_places : ℕ → List ℕ
@@ -68,7 +73,7 @@ RefusesSomeName names error =
 -- why names are refused: their number, else the first name that is refused
 abbrev pub RefusesNames : List (List ℕ) → NodesError → Type 0
 RefusesNames names NoNodes = names ≡ []
-RefusesNames names TooManyNodes = 64 < length names
+RefusesNames names TooManyNodes = max_nodes < length names
 RefusesNames names BadName = AreFew names × RefusesSomeName names BadName
 RefusesNames names DuplicateName = AreFew names × RefusesSomeName names DuplicateName
 RefusesNames names OutOfMemory = AreFew names × RefusesSomeName names OutOfMemory

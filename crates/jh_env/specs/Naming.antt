@@ -2,11 +2,12 @@
 -- places or as the value `[SOURCE DESTINATION]` of their names; a node as itself or by its name; a
 -- clock to move as its node, or its name, and milliseconds. A fault is judged by the places alone,
 -- so it is judged alike however they are given.
-use Rattle.std.specs.Prelude.{◌≡◌, ◌≢◌, ℕ, ◌^◌, ◌&&◌, Bool, true, false, not, ℤ, pos, negsuc}
+use Rattle.std.specs.Prelude.{◌≡◌, ◌≢◌, ℕ, ◌&&◌, Bool, true, false, not, ℤ, pos, negsuc}
 use Rattle.std.specs.Prelude.{List, [], ◌∷◌, ◌++◌, length, nat_lt, nat_le, if◌then◌else◌}
 use Rattle.std.specs.Prelude.{is_none, IsSome, Option, Some, None, option_and_then, option_map}
 use Rattle.std.specs.List.{filter_map, list_all, list_any}
 use Rattle.jh_edn.specs.Edn.{Edn, int, str, elements_of}
+use Rattle.jh_tables.specs.Limits.{max_bumped_ms}
 use Rattle.jh_tables.specs.Plain.{fault_on_links}
 use Rattle.jh_tables.specs.declared.faults.LinkFault.{LinkFault}
 use Rattle.jh_env.specs.Faults.{FaultValue, is_same_bumped, is_self_link, is_unknown_bump}
@@ -65,10 +66,10 @@ bump_of names b =
     option_and_then (λ written. option_map (λ node. (node, written.1)) (place_of names written.0))
     (bump_spelled b)
 
--- some milliseconds, at most 10^9 either way
+-- by so many milliseconds a fault may move a clock
 abbrev pub is_bump_amount : ℤ → Bool
-is_bump_amount (pos n) = nat_lt 0 n && nat_le n (10 ^ 9)
-is_bump_amount (negsuc n) = nat_lt n (10 ^ 9)
+is_bump_amount (pos n) = nat_lt 0 n && nat_le n max_bumped_ms
+is_bump_amount (negsuc n) = nat_lt n max_bumped_ms
 
 -- none of these is the same as one before it, or as one of those before all of them
 abbrev pub are_apart_after : List (ℕ × ℤ) → List (ℕ × ℤ) → Bool

@@ -2,6 +2,7 @@
 -- This project's own.
 use Rattle.std.specs.Prelude.{◌≡◌, ◌*◌, ◌≤◌, length}
 use Rattle.std.specs.List.{All}
+use Rattle.jh_tables.specs.Limits.{max_nodes}
 use Rattle.jh_env.specs.Names.{AreFew, AreNodeNames}
 use Rattle.jh_env.specs.Starting.{StartValue, IsStartingLink, IsStartingNode}
 use Rattle.jh_env.specs.declared.starting.Start.TheInside.{Inside}
@@ -14,7 +15,7 @@ start_value a =
 -- good names, a cell for each pair of nodes and each node, and amounts within their ranges
 pub record IsSetUp (a : Inside) : Type 0 where
   pub names : AreFew a.names × AreNodeNames a.names
-  pub few : length a.nodes.items ≤ 64
+  pub few : length a.nodes.items ≤ max_nodes
   pub named : length a.nodes.items ≡ length a.names
   pub square : length a.links.items ≡ length a.nodes.items * length a.nodes.items
   pub links : All IsStartingLink a.links.items

@@ -1,11 +1,12 @@
 -- Why the text of an environment is refused (this project's own): its keys, the shape of its
 -- values, its names, then the first entry in error.
-use Rattle.std.specs.Prelude.{◌≡◌, ℕ, ◌-◌, ◌^◌, ◌<◌, ◌&&◌, Bool, true, false, not, ℤ, pos, negsuc}
+use Rattle.std.specs.Prelude.{◌≡◌, ℕ, ◌-◌, ◌<◌, ◌&&◌, Bool, true, false, not, ℤ, pos, negsuc}
 use Rattle.std.specs.Prelude.{int_le, List, [], ◌∷◌, take, if◌then◌else◌, slice_get, position}
 use Rattle.std.specs.Prelude.{bytes_eq, Option, Some, None, is_some, option_and_then, Ok, Err}
 use Rattle.std.specs.List.{list_all, list_any}
 use Rattle.std.specs.Option.{option_or}
 use Rattle.jh_edn.specs.Edn.{Edn}
+use Rattle.jh_tables.specs.Limits.{max_loss, max_start_delay_ms, max_start_offset_ms}
 use Rattle.jh_env.specs.declared.names.NodesError.{NodesError}
 use Rattle.jh_env.specs.declared.texts.EnvTextError.{EnvTextError}
 use Rattle.jh_env.specs.declared.texts.EnvTextError.TheVariants.{NotMap, UnknownKey, MissingNodes}
@@ -40,15 +41,16 @@ links_itself (OfNode node says) = false
 abbrev pub is_within : ℤ → ℤ → ℤ → Bool
 is_within least most z = int_le least z && int_le z most
 
--- a link's change is in its range: a delay of 0 to 60,000 milliseconds, a level of loss of 0 to 20
+-- a link's change is in its range: a delay of 0 or more milliseconds, a level of loss of 0 or more
 abbrev pub is_link_amount : LinkChange → Bool
 is_link_amount LinkChange.Cut = true
-is_link_amount (LinkChange.Delay ms) = is_within (pos 0) (pos 60000) ms
-is_link_amount (LinkChange.Loss level) = is_within (pos 0) (pos 20) level
+is_link_amount (LinkChange.Delay ms) = is_within (pos 0) (pos max_start_delay_ms) ms
+is_link_amount (LinkChange.Loss level) = is_within (pos 0) (pos max_loss) level
 
--- a node's change is in its range: a clock that is off by at most 10^12 milliseconds either way
+-- a node's change is in its range: a clock that is off by so much at most, either way
 abbrev pub is_node_amount : NodeChange → Bool
-is_node_amount (NodeChange.Clock ms) = is_within (negsuc (10 ^ 12 - 1)) (pos (10 ^ 12)) ms
+is_node_amount (NodeChange.Clock ms) =
+    is_within (negsuc (max_start_offset_ms - 1)) (pos max_start_offset_ms) ms
 is_node_amount _ = true
 
 -- the change of an entry is in its range

@@ -3,7 +3,8 @@
 
 ghost use Rattle.std.specs.Prelude.{◌≡◌, ◌<◌, ◌≤◌, ◌+◌, [], length, IfOk, IfSome};
 ghost use Rattle.jh_tables.specs.Standing.{IsLinkInRange, IsNodeInRange, IsPut, IsTaken};
-ghost use Rattle.jh_tables.specs.Standing.{StandsAtSome, max_laid};
+ghost use Rattle.jh_tables.specs.Limits.{max_laid};
+ghost use Rattle.jh_tables.specs.Standing.{StandsAtSome};
 ghost use Rattle.jh_env.specs.Names.{AreFew, AreNodeNames};
 ghost use Rattle.jh_env.specs.Overlay.{StandsFor, StandsWith, KeepsStart, cells_of, link_of};
 ghost use Rattle.jh_env.specs.Overlay.{node_of, tables_of, work_of};

@@ -5,6 +5,7 @@ ghost use Rattle.std.specs.Prelude.{option_map, IfOk, IfSome, MatchResult, Match
 ghost use Rattle.std.specs.List.{All, list_all};
 ghost use Rattle.std.specs.Str.{bytes_eq};
 ghost use Rattle.std.specs.String.{string_bytes};
+ghost use Rattle.jh_tables.specs.Limits.{max_nodes};
 ghost use Rattle.jh_env.specs.Names as rule;
 ghost use Rattle.jh_env.specs.Names.{AreNodeNames, AreFew, MayFollow, RefusesName, RefusesNames};
 ghost use Rattle.jh_env.specs.Names.{is_name_byte, node_places};
@@ -28,11 +29,12 @@ impl Model for Nodes {
 
     ghost Value = { List (List ℕ) };
 
+    ghost use Rattle.jh_tables.specs.Limits.{max_nodes};
     ghost use Rattle.jh_env.specs.Names.{AreNodeNames};
 
     ghost view = { λ a. map string_bytes a.names.keys };
 
-    ghost invariant = { λ a. (0 < length a.names.keys) × (length a.names.keys ≤ 64)
+    ghost invariant = { λ a. (0 < length a.names.keys) × (length a.names.keys ≤ max_nodes)
         × AreNodeNames (map string_bytes a.names.keys) };
 }
 
@@ -144,7 +146,7 @@ impl Nodes {
     /// How many nodes there are, 1 to 64.
     pub fn len(&self) -> usize
         ensures len { result ≡ length self.now }
-        ensures bounded { (0 < result) × (result ≤ 64) }
+        ensures bounded { (0 < result) × (result ≤ max_nodes) }
         ensures named { AreNodeNames self.now }
     {
         self.names.len()

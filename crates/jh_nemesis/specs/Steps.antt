@@ -3,6 +3,7 @@ use Rattle.std.specs.Prelude.{◌≡◌, ◌⊎◌, ℕ, Bool, true, false, List
 use Rattle.jh_edn.specs.Edn.{is_empty}
 use Rattle.std.specs.Prelude.{not, nat_le, if◌then◌else◌}
 use Rattle.jh_env.specs.Faults.{FitsCount}
+use Rattle.jh_tables.specs.Limits.{max_laid}
 use Rattle.jh_nemesis.specs.State.{State, Active, has_id, is_active, next_state}
 use Rattle.jh_nemesis.specs.State.{state_back_to, state_forth_to}
 use Rattle.jh_nemesis.specs.declared.steps.Step.{Step}
@@ -17,9 +18,9 @@ use Rattle.jh_nemesis.specs.declared.steps.BeginError.TheVariants as BeginError
 use Rattle.jh_nemesis.specs.declared.steps.WithdrawError.TheVariants as WithdrawError
 use Rattle.jh_nemesis.specs.declared.steps.WithdrawAllError.TheVariants as WithdrawAllError
 
--- how many faults are active at once, at most
+-- how many faults are active at once, at most: as many as can be put on an environment
 abbrev pub max_active : ℕ
-max_active = 256
+max_active = max_laid
 
 -- how many steps lie in the past, at most
 abbrev pub max_steps : ℕ

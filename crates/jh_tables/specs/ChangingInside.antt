@@ -16,6 +16,7 @@ use Rattle.jh_tables.specs.declared.faults.NodeFault.{NodeFault}
 use Rattle.jh_tables.specs.declared.changing.Change.{Change}
 use Rattle.jh_tables.specs.Faults.{FaultValue, FixValue, names_link, names_node}
 use Rattle.jh_tables.specs.Faults.FaultValue.{Bump}
+use Rattle.jh_tables.specs.Limits.{max_loss, max_nodes}
 use Rattle.jh_tables.specs.Overlay.{cuts, delay_by, loss_by, pauses, kills, bump_by}
 use Rattle.jh_tables.specs.Tallies.{Tallies, calm_tally, link_tally, node_tally, running_tally}
 
@@ -23,7 +24,7 @@ use Rattle.jh_tables.specs.Tallies.{Tallies, calm_tally, link_tally, node_tally,
 abbrev pub IsLevelThere : LinkCount → Type 0
 IsLevelThere (LinkCount.Cuts count) = ⊤
 IsLevelThere (LinkCount.Slowed ms) = ⊤
-IsLevelThere (LinkCount.Losses level count) = level < 20
+IsLevelThere (LinkCount.Losses level count) = level < max_loss
 
 -- there is something to write over
 abbrev pub IsThere : Tallies → ℕ → TableWrite → Type 0
@@ -121,7 +122,8 @@ abbrev pub CanChangeLink : Change → LinkFault → LinkTally → Type 0
 CanChangeLink change LinkFault.Cut t = CanChange change 65535 t.cuts 1
 CanChangeLink change (LinkFault.Slow ms) t = CanChange change (2 ^ 64 - 1) t.slowed_ms ms
 CanChangeLink change (LinkFault.Loss level) t =
-    (0 < level) × (level ≤ 20) × CanChange change 65535 (slice_index_or t.losses (level - 1) 0) 1
+    (0 < level) × (level ≤ max_loss)
+    × CanChange change 65535 (slice_index_or t.losses (level - 1) 0) 1
 CanChangeLink change (LinkFault.Fix ms) t = ⊤
 
 -- the tally of a node that the fault names can be changed
@@ -201,7 +203,7 @@ IsEntryTaken stamp old new =
 -- the bits of these links are set too, and every other stays
 abbrev pub AreMarked : List (ℕ × ℕ) → List ℕ → List ℕ → Type 0
 AreMarked links old new =
-    (a b : ℕ) → a < 64 → b < 64
+    (a b : ℕ) → a < max_nodes → b < max_nodes
     → (bit_at (slice_index_or new a 0) b == 1)
     ≡ ((bit_at (slice_index_or old a 0) b == 1) || names_link links a b)
 
@@ -210,7 +212,7 @@ pub record CanChangeCounts (change : Change) (fault : FaultValue) (a b : ℕ) (t
     : Type 0 where
   pub cuts : CanChange change 65535 t.cuts (one_if (cuts a b fault))
   pub slowed_ms : CanChange change (2 ^ 64 - 1) t.slowed_ms (delay_by a b fault)
-  pub losses : (i : ℕ) → i < 20
+  pub losses : (i : ℕ) → i < max_loss
       → CanChange change 65535 (slice_index_or t.losses i 0) (one_if (loses a b (i + 1) fault))
 
 -- all counts and sums can be changed
@@ -235,7 +237,7 @@ abbrev pub AreEntriesChanged
 AreEntriesChanged change stamp None old new = new ≡ old
 AreEntriesChanged Change.Add stamp (Some fix) old new =
     (place : ℕ) × (entry : FixEntry) × (slice_get old place ≡ Some None)
-    × IsEntryOf 64 stamp fix.0 fix.1 entry × (new ≡ slice_set old place (Some entry))
+    × IsEntryOf max_nodes stamp fix.0 fix.1 entry × (new ≡ slice_set old place (Some entry))
 AreEntriesChanged Change.Remove stamp (Some fix) old new =
     (place : ℕ) × (entry : FixEntry) × (slice_get old place ≡ Some (Some entry))
     × (entry.stamp ≡ stamp) × (new ≡ slice_set old place None)

@@ -1,10 +1,11 @@
 -- Faults, as contracts see them (Jepsen's pages on nemeses and nets name cuts of links, slow and
 -- lossy links, paused and killed processes and bumped clocks; fixed delays and the amounts are this
 -- project's own).
-use Rattle.std.specs.Prelude.{◌≡◌, ◌≢◌, ℕ, ◌+◌, ◌-◌, ◌^◌, ◌==◌, ◌&&◌, ◌<◌, ◌≤◌, Bool, false, ℤ, pos}
+use Rattle.std.specs.Prelude.{◌≡◌, ◌≢◌, ℕ, ◌+◌, ◌-◌, ◌==◌, ◌&&◌, ◌<◌, ◌≤◌, Bool, false, ℤ, pos}
 use Rattle.std.specs.Prelude.{negsuc, ◌≤ℤ◌, List, length, take, slice_index_or, Option, Some, None}
 use Rattle.std.specs.Prelude.{is_some, if◌then◌else◌}
 use Rattle.std.specs.List.{list_any, All}
+use Rattle.jh_tables.specs.Limits.{max_bumped_ms, max_fixed_ms, max_loss, max_slowed_ms}
 
 -- A link is the pair of its source's place and its destination's. Delays and bumps are in
 -- milliseconds, a level of loss is one twentieth. Each link and node stands once.
@@ -43,21 +44,22 @@ AreApart {A} same xs =
     (i : ℕ) (d : A) → i < length xs
     → list_any (λ x. same x (slice_index_or xs i d)) (take i xs) ≡ false
 
--- by how much a fault may slow a link: 1 to 60,000 milliseconds
+-- by how many milliseconds a fault may slow a link
 abbrev pub IsSlowAmount : ℕ → Type 0
-IsSlowAmount ms = (0 < ms) × (ms ≤ 60000)
+IsSlowAmount ms = (0 < ms) × (ms ≤ max_slowed_ms)
 
--- the level of loss that a fault may have: 1 to 20
+-- the level of loss that a fault may have
 abbrev pub IsLossAmount : ℕ → Type 0
-IsLossAmount level = (0 < level) × (level ≤ 20)
+IsLossAmount level = (0 < level) × (level ≤ max_loss)
 
--- the delay that a fault may fix: 0 to 60,000 milliseconds
+-- at how many milliseconds a fault may fix a delay
 abbrev pub IsFixAmount : ℕ → Type 0
-IsFixAmount ms = ms ≤ 60000
+IsFixAmount ms = ms ≤ max_fixed_ms
 
--- by how much a fault may move a clock: some milliseconds, at most 10^9 either way
+-- by how many milliseconds a fault may move a clock: not 0, and at most so many either way
 abbrev pub IsBumpAmount : ℤ → Type 0
-IsBumpAmount ms = (ms ≢ pos 0) × (negsuc (10 ^ 9 - 1) ≤ℤ ms) × (ms ≤ℤ pos (10 ^ 9))
+IsBumpAmount ms =
+    (ms ≢ pos 0) × (negsuc (max_bumped_ms - 1) ≤ℤ ms) × (ms ≤ℤ pos max_bumped_ms)
 
 -- each bump is in its range, and no node is bumped twice
 abbrev pub AreBumps : List (ℕ × ℤ) → Type 0

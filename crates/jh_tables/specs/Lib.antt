@@ -1,4 +1,5 @@
 pub mod Cells
+pub mod Limits
 pub mod Faults
 pub mod Plain
 pub mod Overlay

@@ -1,6 +1,6 @@
 -- Which faults tables stand for (this project's own).
-use Rattle.std.specs.Prelude.{◌≡◌, ℕ, ◌+◌, ◌*◌, ◌==◌, ◌<◌, ◌≤◌, ◌++◌, ◌∷◌, Bool, ℤ, pos, ◌+ℤ◌, ◌≤ℤ◌}
-use Rattle.std.specs.Prelude.{◌^◌, List, length, map, fold, Option, Some, slice_index_or, is_some}
+use Rattle.std.specs.Prelude.{◌≡◌, ℕ, ◌+◌, ◌==◌, ◌<◌, ◌≤◌, ◌++◌, ◌∷◌, Bool, ℤ, pos, ◌+ℤ◌, ◌≤ℤ◌}
+use Rattle.std.specs.Prelude.{List, length, map, fold, Option, Some, slice_index_or, is_some}
 use Rattle.std.specs.Prelude.{⊤}
 use Rattle.std.specs.List.{All, AllPairs, Contains, sum_by, count_by}
 use Rattle.jh_tables.specs.declared.counted.LinkTally.{LinkTally}
@@ -9,6 +9,8 @@ use Rattle.jh_tables.specs.declared.counted.FixEntry.{FixEntry}
 use Rattle.jh_tables.specs.declared.cells.Link.{Link}
 use Rattle.jh_tables.specs.declared.cells.NodeCell.{NodeCell}
 use Rattle.jh_tables.specs.Cells.{Table}
+use Rattle.jh_tables.specs.Limits.{max_delay_ms, max_loss, max_offset_ms, max_start_delay_ms}
+use Rattle.jh_tables.specs.Limits.{max_start_offset_ms}
 use Rattle.jh_tables.specs.Faults.{FaultValue, IsFault, FitsCount, fix_value, names_link}
 use Rattle.jh_tables.specs.Faults.FaultValue.{Fix}
 use Rattle.jh_tables.specs.Overlay.{IsOverlay, cuts, delay_by, loss_by, pauses, kills, bump_by}
@@ -34,8 +36,8 @@ is_fix fault = is_some (fix_value fault)
 pub record IsLinkTally (a b : ℕ) (faults : List FaultValue) (tally : LinkTally) : Type 0 where
   pub cuts : tally.cuts ≡ count_by (cuts a b) faults
   pub slowed_ms : tally.slowed_ms ≡ sum_by (delay_by a b) faults
-  pub levels : length tally.losses ≡ 20
-  pub losses : (i : ℕ) → i < 20
+  pub levels : length tally.losses ≡ max_loss
+  pub losses : (i : ℕ) → i < max_loss
       → slice_index_or tally.losses i 0 ≡ count_by (loses a b (i + 1)) faults
 
 -- the counts and the sum of the node are those of the faults
@@ -109,35 +111,22 @@ IsTaken fault old new =
     (before after : List (ℕ × FaultValue))
     → StandsAt old (before ++ fault ∷ after) → StandsAt new (before ++ after)
 
--- a link as it may be at the start: a delay of at most a minute, a level of loss of at most twenty
+-- a link as it may be at the start: its delay and its level of loss are in their ranges
 abbrev pub IsStartingLink : Link → Type 0
-IsStartingLink l = (l.delay ≤ 60000) × (l.loss ≤ 20)
+IsStartingLink l = (l.delay ≤ max_start_delay_ms) × (l.loss ≤ max_loss)
 
 -- at most so many milliseconds either way
 abbrev pub IsWithin : ℕ → ℤ → Type 0
 IsWithin most z = (pos 0 ≤ℤ (z +ℤ pos most)) × (z ≤ℤ pos most)
 
--- a node as it may be at the start: a clock that is off by at most 10^12 milliseconds either way
+-- a node as it may be at the start: its clock is off by so much at most
 abbrev pub IsStartingNode : NodeCell → Type 0
-IsStartingNode n = IsWithin (10 ^ 12) n.clock
-
--- how many faults can be put and not taken
-abbrev pub max_laid : ℕ
-max_laid = 256
-
--- the most milliseconds by which a message is late: a minute at the start or of a fix, and one more
--- for each fault
-abbrev pub max_delay : ℕ
-max_delay = 60000 * 257
-
--- the most milliseconds by which a clock is off: 10^12 at the start, and 10^9 for each fault
-abbrev pub max_offset : ℕ
-max_offset = 10 ^ 12 + 256 * 10 ^ 9
+IsStartingNode n = IsWithin max_start_offset_ms n.clock
 
 -- a link as so many faults can make it at most
 abbrev pub IsLinkInRange : Link → Type 0
-IsLinkInRange l = (l.delay ≤ max_delay) × (l.loss ≤ 20)
+IsLinkInRange l = (l.delay ≤ max_delay_ms) × (l.loss ≤ max_loss)
 
 -- a node as so many faults can make it at most
 abbrev pub IsNodeInRange : NodeCell → Type 0
-IsNodeInRange n = IsWithin max_offset n.clock
+IsNodeInRange n = IsWithin max_offset_ms n.clock

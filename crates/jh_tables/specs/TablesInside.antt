@@ -5,7 +5,7 @@ use Rattle.std.specs.List.{All}
 use Rattle.jh_tables.specs.Faults.{FaultValue, IsFixAmount}
 use Rattle.jh_tables.specs.Tallies.{cells_now, cells_at_start}
 use Rattle.jh_tables.specs.Standing.{TablesValue, AreTallies, IsStartingLink, IsStartingNode}
-use Rattle.jh_tables.specs.Standing.{max_laid}
+use Rattle.jh_tables.specs.Limits.{max_laid, max_nodes}
 use Rattle.jh_tables.specs.declared.tables.Tables.TheInside.{Inside}
 
 -- the cells that are read off the tallies, and how many faults are put
@@ -28,9 +28,9 @@ pub record IsWhole (a : Inside) : Type 0 where
   pub laid : a.laid ≡ length faults
   pub few : a.laid ≤ max_laid
   pub tallies : AreTallies (length a.counted.nodes) a.counted faults
-  pub nodes : length a.counted.nodes ≤ 64
+  pub nodes : length a.counted.nodes ≤ max_nodes
   pub square : length a.counted.links ≡ length a.counted.nodes * length a.counted.nodes
-  pub room : length a.counted.fixes ≡ 256
+  pub room : length a.counted.fixes ≡ max_laid
   pub delays : All HasFixAmount a.counted.fixes
   pub starting_links : All IsStartingLink (cells_at_start a.counted).links
   pub starting_nodes : All IsStartingNode (cells_at_start a.counted).nodes

@@ -11,6 +11,7 @@ use Rattle.jh_tables.specs.declared.counted.LinkTally.{LinkTally}
 use Rattle.jh_tables.specs.declared.counted.NodeTally.{NodeTally}
 use Rattle.jh_tables.specs.declared.counted.FixEntry.{FixEntry}
 use Rattle.jh_tables.specs.Cells.{Table, calm_link, running_node}
+use Rattle.jh_tables.specs.Limits.{max_laid, max_loss}
 use Rattle.jh_tables.specs.Overlay.{is_paused, is_killed}
 
 -- The tally of the link from a to b of n nodes stands at a * n + b, that of a node at its place; an
@@ -40,21 +41,21 @@ node_tally tallies a = slice_index_or tallies a running_tally
 
 -- the tally of a link and of a node on which no fault is put
 abbrev pub fresh_link : Link → LinkTally
-fresh_link link = record { start = link; cuts = 0; slowed_ms = 0; losses = replicate 20 0 }
+fresh_link link = record { start = link; cuts = 0; slowed_ms = 0; losses = replicate max_loss 0 }
 
 abbrev pub fresh_node : NodeCell → NodeTally
 fresh_node node = record { start = node; pauses = 0; kills = 0; bumped_ms = pos 0 }
 
--- these entries, and behind them free ones up to 256
+-- these entries, and behind them free ones, so that there is one for each fault
 abbrev pub with_free_entries : List (Option FixEntry) → List (Option FixEntry)
-with_free_entries entries = entries ++ replicate (256 - length entries) None
+with_free_entries entries = entries ++ replicate (max_laid - length entries) None
 
 -- the tallies of cells on which no fault is put
 abbrev pub faultless_tallies : List Link → List NodeCell → Tallies
 faultless_tallies links nodes = record {
   links = map fresh_link links;
   nodes = map fresh_node nodes;
-  fixes = replicate 256 None;
+  fixes = replicate max_laid None;
   work = 0;
 }
 
@@ -88,7 +89,8 @@ level_held losses i = if nat_lt 0 (slice_index_or losses i 0) then i + 1 else 0
 
 -- the greatest level that is held, or else the one of the start
 abbrev pub greatest_level : List ℕ → ℕ → ℕ
-greatest_level losses start = fold (λ m i. max m (level_held losses i)) start (range_with_len 0 20)
+greatest_level losses start =
+    fold (λ m i. max m (level_held losses i)) start (range_with_len 0 max_loss)
 
 -- the link that is read off a tally
 abbrev pub link_now : LinkTally → Option (ℕ × ℕ) → Link

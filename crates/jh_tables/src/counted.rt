@@ -6,6 +6,7 @@ ghost use Rattle.std.specs.Prelude.{◌≡◌, ◌<◌, ◌≤◌, ◌+◌, ◌*
 ghost use Rattle.std.specs.Prelude.{slice_index_or, slice_set, IfOk};
 ghost use Rattle.std.specs.List.{count_by};
 ghost use Rattle.std.specs.Vec.{vec_capacity};
+ghost use Rattle.jh_tables.specs.Limits.{max_laid, max_nodes};
 ghost use Rattle.jh_tables.specs.Tallies.{calm_tally, faultless_tallies, fresh_link, fresh_node};
 ghost use Rattle.jh_tables.specs.Tallies.{running_tally, with_free_entries};
 ghost use Rattle.jh_tables.specs.ChangingInside.{one_if, written_tallies, IsThere};
@@ -65,7 +66,7 @@ pub struct FixEntry {
 pub enum LinkCount {
     Cuts(u16),
     Slowed(u64),
-    /// The count at this place, below 20, among those of the levels of loss.
+    /// The count at this place, below `LEVELS`, among those of the levels of loss.
     Losses(usize, u16),
 }
 
@@ -104,6 +105,7 @@ impl Model for Counted {
     ghost use Rattle.std.specs.Prelude.{◌≡◌, ◌≤◌, ◌*◌, length, is_some};
     ghost use Rattle.std.specs.List.{count_by};
     ghost use Rattle.std.specs.Vec.{vec_capacity};
+    ghost use Rattle.jh_tables.specs.Limits.{max_laid, max_nodes};
     ghost use Rattle.jh_tables.specs.Tallies.{Tallies, with_free_entries};
 
     ghost Value = { Tallies };
@@ -115,10 +117,10 @@ impl Model for Counted {
       work = a.work;
     } };
 
-    ghost invariant = { λ a. (length a.nodes.items ≤ 64)
+    ghost invariant = { λ a. (length a.nodes.items ≤ max_nodes)
         × (length a.links.items ≡ length a.nodes.items * length a.nodes.items)
         × (a.used ≡ count_by is_some a.fixes.items)
-        × (length a.fixes.items ≤ 256) × (256 ≤ vec_capacity a.fixes) };
+        × (length a.fixes.items ≤ max_laid) × (max_laid ≤ vec_capacity a.fixes) };
 }
 
 /// A tally for each link, in which no fault counts.
@@ -159,7 +161,7 @@ fn entries_of(
     entries: &[Option<FixEntry>],
 ) -> Result<Vec<Option<FixEntry>>, AllocError>
     ensures entries { IfOk result (λ copy. copy.items ≡ entries.now) }
-    ensures room { IfOk result (λ copy. 256 ≤ vec_capacity copy) }
+    ensures room { IfOk result (λ copy. max_laid ≤ vec_capacity copy) }
 {
     let mut copy = Vec::with_capacity(alloc, MAX_FIXES)?;
     copy.extend_from_slice(entries)?;
@@ -168,14 +170,14 @@ fn entries_of(
 
 /// Makes entries reach a place, by free ones. It takes no memory.
 fn reach(entries: &mut Vec<Option<FixEntry>>, place: usize)
-    requires place { place < 256 }
-    requires few { length entries.old.items ≤ 256 }
-    requires room { 256 ≤ vec_capacity entries.old }
+    requires place { place < max_laid }
+    requires few { length entries.old.items ≤ max_laid }
+    requires room { max_laid ≤ vec_capacity entries.old }
     ensures same { with_free_entries entries.new.items ≡ with_free_entries entries.old.items }
     ensures used { count_by is_some entries.new.items ≡ count_by is_some entries.old.items }
     ensures there { place < length entries.new.items }
-    ensures few { length entries.new.items ≤ 256 }
-    ensures room { 256 ≤ vec_capacity entries.new }
+    ensures few { length entries.new.items ≤ max_laid }
+    ensures room { max_laid ≤ vec_capacity entries.new }
 {
     for _place in entries.len()..place + 1 {
         entries.push_reserved(None);
@@ -184,17 +186,17 @@ fn reach(entries: &mut Vec<Option<FixEntry>>, place: usize)
 
 /// How many entries are in use, once one is written over another.
 fn used_after(used: usize, before: &Option<FixEntry>, after: &Option<FixEntry>) -> usize
-    requires { (one_if (is_some before.now) ≤ used) × (used ≤ 256) }
+    requires { (one_if (is_some before.now) ≤ used) × (used ≤ max_laid) }
     ensures { result + one_if (is_some before.now) ≡ used + one_if (is_some after.now) }
 {
     used - usize::from(before.is_some()) + usize::from(after.is_some())
 }
 
 impl Counted {
-    /// Tallies in which no fault counts, and 256 free entries. Nothing is written yet. The memory
-    /// that entries will need is taken here.
+    /// Tallies in which no fault counts, and `MAX_FIXES` free entries. Nothing is written yet. The
+    /// memory that entries will need is taken here.
     pub fn new(alloc: Global, links: &[Link], nodes: &[NodeCell]) -> Result<Counted, AllocError>
-        requires few { length nodes.now ≤ 64 }
+        requires few { length nodes.now ≤ max_nodes }
         requires square { length links.now ≡ length nodes.now * length nodes.now }
         ensures { IfOk result (λ new. new ≡ faultless_tallies links.now nodes.now) }
     {
@@ -223,7 +225,7 @@ impl Counted {
     /// How many nodes there are.
     pub fn count(&self) -> usize
         ensures count { result ≡ length self.now.nodes }
-        ensures few { result ≤ MAX_NODES }
+        ensures few { result ≤ max_nodes }
         ensures square { length self.now.links ≡ result * result }
     {
         self.nodes.len()
@@ -248,7 +250,7 @@ impl Counted {
     /// The entries of fixes that were ever in use. All behind them are free.
     pub fn fixes(&self) -> &[Option<FixEntry>]
         ensures all { self.now.fixes ≡ with_free_entries result.now }
-        ensures few { length result.now ≤ 256 }
+        ensures few { length result.now ≤ max_laid }
     {
         &self.fixes
     }

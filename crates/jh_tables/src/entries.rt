@@ -5,6 +5,7 @@
 ghost use Rattle.std.specs.Prelude.{◌≡◌, ◌<◌, ◌≤◌, ◌+◌, length, is_some, true, false, slice_get};
 ghost use Rattle.std.specs.Prelude.{Some, None, MatchOption};
 ghost use Rattle.std.specs.List.{All, count_by, list_any};
+ghost use Rattle.jh_tables.specs.Limits.{max_laid, max_nodes};
 ghost use Rattle.jh_tables.specs.Tallies.{is_after, is_fixed_in, later_fix, latest_fix};
 ghost use Rattle.jh_tables.specs.Tallies.{with_free_entries};
 ghost use Rattle.jh_tables.specs.Faults.{AreKnownLinks, FitsCount, fix_value};
@@ -21,7 +22,7 @@ use crate::nodes::Node;
 
 /// Whether the entry fixes the delay of a link.
 fn is_fixed_in(fix: &FixEntry, from: Node, to: Node) -> bool
-    requires { (from < 64) × (to < 64) }
+    requires { (from < max_nodes) × (to < max_nodes) }
     ensures { result ≡ is_fixed_in fix.now from to }
 {
     fix.links[from.place() as usize] >> to.place() & 1 == 1
@@ -44,7 +45,7 @@ fn later_fix(
     latest: Option<(u32, u64)>,
     entry: &Option<FixEntry>,
 ) -> Option<(u32, u64)>
-    requires { (from < 64) × (to < 64) }
+    requires { (from < max_nodes) × (to < max_nodes) }
     ensures { result ≡ later_fix from to latest entry.now }
 {
     match entry {
@@ -57,7 +58,7 @@ fn later_fix(
 
 /// The stamp and the delay of the latest fix of a link among entries.
 fn latest_among(entries: &[Option<FixEntry>], from: Node, to: Node) -> Option<(u32, u64)>
-    requires { (from < 64) × (to < 64) }
+    requires { (from < max_nodes) × (to < max_nodes) }
     ensures { result ≡ latest_fix from to entries.now }
 {
     let mut latest = None;
@@ -69,7 +70,7 @@ fn latest_among(entries: &[Option<FixEntry>], from: Node, to: Node) -> Option<(u
 
 /// The stamp and the delay of the latest fix of a link. No entry is looked at where none is in use.
 pub(crate) fn latest_fix(counted: &Counted, from: Node, to: Node) -> Option<(u32, u64)>
-    requires { (from < 64) × (to < 64) }
+    requires { (from < max_nodes) × (to < max_nodes) }
     ensures { result ≡ latest_fix from to counted.now.fixes }
 {
     if counted.used() == 0 {
@@ -80,7 +81,7 @@ pub(crate) fn latest_fix(counted: &Counted, from: Node, to: Node) -> Option<(u32
 
 /// Sets the bits of these links: in the word of its source the bit of its destination.
 fn mark_links(words: &mut [u64; MAX_NODES], links: &[(Node, Node)])
-    requires { AreKnownLinks 64 links.now }
+    requires { AreKnownLinks max_nodes links.now }
     ensures { AreMarked links.now words.old words.new }
 {
     for (from, to) in links {
@@ -91,8 +92,8 @@ fn mark_links(words: &mut [u64; MAX_NODES], links: &[(Node, Node)])
 
 /// The entry of a fix.
 fn entry_of(stamp: u32, ms: u64, links: &[(Node, Node)]) -> FixEntry
-    requires { AreKnownLinks 64 links.now }
-    ensures { IsEntryOf 64 stamp ms links.now result }
+    requires { AreKnownLinks max_nodes links.now }
+    ensures { IsEntryOf max_nodes stamp ms links.now result }
 {
     let mut words = [0; MAX_NODES];
     mark_links(&mut words, links);
@@ -115,8 +116,8 @@ fn is_of_stamp(entry: &Option<FixEntry>, stamp: u32) -> bool
 
 /// The first entry that is free, among these or behind them.
 fn first_free(entries: &[Option<FixEntry>]) -> usize
-    requires room { count_by is_some entries.now < 256 }
-    requires few { length entries.now ≤ 256 }
+    requires room { count_by is_some entries.now < max_laid }
+    requires few { length entries.now ≤ max_laid }
     ensures { slice_get (with_free_entries entries.now) result ≡ Some None }
 {
     match entries.iter().position(|entry| entry.is_none()) {
@@ -128,9 +129,9 @@ fn first_free(entries: &[Option<FixEntry>]) -> usize
 /// An entry that is free: the one at this place, or else the first. Those behind these entries are
 /// free too.
 fn free_place(entries: &[Option<FixEntry>], likely: usize) -> usize
-    requires within { likely < 256 }
-    requires room { count_by is_some entries.now < 256 }
-    requires few { length entries.now ≤ 256 }
+    requires within { likely < max_laid }
+    requires room { count_by is_some entries.now < max_laid }
+    requires few { length entries.now ≤ max_laid }
     ensures { slice_get (with_free_entries entries.now) result ≡ Some None }
 {
     match entries.get(likely) {
@@ -184,7 +185,7 @@ fn fix_of(fault: &PlainFault) -> Option<(u64, &[(Node, Node)])>
 
 /// Changes the entries of fixes.
 pub(crate) fn change_entries(counted: &mut Counted, change: Change, fault: &PlainFault, stamp: u32)
-    requires fits { FitsCount 64 (fault_of fault.now) }
+    requires fits { FitsCount max_nodes (fault_of fault.now) }
     requires room { CanChangeEntries change stamp (fix_value (fault_of fault.now)) counted.old.fixes }
     ensures changed { AreEntriesChanged change stamp
         (fix_value (fault_of fault.now)) counted.old.fixes counted.new.fixes }

@@ -1,6 +1,7 @@
 //! The cells that are read off tallies. `specs/Tallies.antt` says which.
 
 ghost use Rattle.std.specs.Prelude.{◌≡◌, ◌<◌, ◌+◌, ◌^◌};
+ghost use Rattle.jh_tables.specs.Limits.{max_loss};
 ghost use Rattle.jh_tables.specs.Tallies.{delay_fixed, greatest_level, level_held, link_now};
 ghost use Rattle.jh_tables.specs.Tallies.{node_now};
 ghost use Rattle.jh_tables.specs.Standing.{IsWithin};
@@ -10,7 +11,7 @@ use crate::counted::{LEVELS, LinkTally, NodeTally};
 
 /// The level at this place among the counts, where its count is not 0, and 0 otherwise.
 fn level_held(losses: &[u16; LEVELS], place: usize) -> u8
-    requires { place < 20 }
+    requires { place < max_loss }
     ensures { result ≡ level_held losses.now place }
 {
     if losses[place] > 0 {

@@ -8,7 +8,7 @@ ghost use Rattle.jh_tables.specs.Plain.{fault_of};
 ghost use Rattle.jh_tables.specs.Cells.{link_at, node_at};
 ghost use Rattle.jh_tables.specs.Standing.{IsLinkInRange, IsNodeInRange, IsPut, IsStartingLink};
 ghost use Rattle.jh_tables.specs.Standing.{IsStartingNode, IsTaken, StandsAt, StandsAtSome};
-ghost use Rattle.jh_tables.specs.Standing.{max_laid};
+ghost use Rattle.jh_tables.specs.Limits.{max_laid, max_nodes};
 ghost use Rattle.jh_tables.specs.ChangingInside.{AreEntriesChanged, AreChanged, CanChangeEntries};
 ghost use Rattle.jh_tables.specs.ChangingInside.{CanChangeTallies};
 
@@ -48,7 +48,7 @@ impl Tables {
     /// Tables of these cells, on which no fault is put: the link from a to b of n nodes at a * n +
     /// b, and each node at its place. All the memory that they will need is taken here.
     pub fn start(alloc: Global, links: &[Link], nodes: &[NodeCell]) -> Result<Tables, AllocError>
-        requires few { length nodes.now ≤ 64 }
+        requires few { length nodes.now ≤ max_nodes }
         requires square { length links.now ≡ length nodes.now * length nodes.now }
         requires starting { All IsStartingLink links.now × All IsStartingNode nodes.now }
         ensures stands { IfOk result (λ tables. StandsAt tables []) }
@@ -76,7 +76,7 @@ impl Tables {
     /// How many nodes there are, at most 64.
     pub fn count(&self) -> usize
         ensures count { result ≡ length self.now.start.nodes }
-        ensures few { result ≤ 64 }
+        ensures few { result ≤ max_nodes }
     {
         self.counted.count()
     }
@@ -158,7 +158,7 @@ impl Tables {
 /// Changes all that a fault touches.
 fn change_all(counted: &mut Counted, change: Change, fault: &PlainFault, stamp: u32)
     requires fits { FitsCount (length counted.old.nodes) (fault_of fault.now) }
-    requires few { length counted.old.nodes ≤ 64 }
+    requires few { length counted.old.nodes ≤ max_nodes }
     requires right { IsFault (fault_of fault.now) }
     requires room { CanChangeTallies change (fault_of fault.now) counted.old }
     requires entries { CanChangeEntries change stamp
