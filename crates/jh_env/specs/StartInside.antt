@@ -9,14 +9,16 @@ use Rattle.jh_env.specs.declared.starting.Start.TheInside.{Inside}
 
 -- the names and the cells
 abbrev pub start_value : Inside → StartValue
-start_value a =
-    record { names = a.names; cells = record { links = a.links.items; nodes = a.nodes.items } }
+start_value a = record {
+  names = a.names;
+  cells = record { links = a.link_cells.items; nodes = a.node_cells.items };
+}
 
 -- good names, a cell for each pair of nodes and each node, and amounts within their ranges
 pub record IsSetUp (a : Inside) : Type 0 where
   pub names : AreFew a.names × AreNodeNames a.names
-  pub few : length a.nodes.items ≤ max_nodes
-  pub named : length a.nodes.items ≡ length a.names
-  pub square : length a.links.items ≡ length a.nodes.items * length a.nodes.items
-  pub links : All IsStartingLink a.links.items
-  pub nodes : All IsStartingNode a.nodes.items
+  pub few : length a.node_cells.items ≤ max_nodes
+  pub named : length a.node_cells.items ≡ length a.names
+  pub square : length a.link_cells.items ≡ length a.node_cells.items * length a.node_cells.items
+  pub links : All IsStartingLink a.link_cells.items
+  pub nodes : All IsStartingNode a.node_cells.items

@@ -57,10 +57,10 @@ impl Env {
     {
         let Start {
             names,
-            links,
-            nodes,
+            link_cells,
+            node_cells,
         } = start;
-        let tables = Tables::start(alloc, &links, &nodes)?;
+        let tables = Tables::start(alloc, &link_cells, &node_cells)?;
         Ok(Env { names, tables })
     }
 

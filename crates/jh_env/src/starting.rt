@@ -24,8 +24,8 @@ pub const MAX_START_OFFSET_MS: i64 = 1_000_000_000_000;
 #[derive(Debug, Drop)]
 pub struct Start {
     pub(crate) names: Nodes,
-    pub(crate) links: Vec<Link>,
-    pub(crate) nodes: Vec<NodeCell>,
+    pub(crate) link_cells: Vec<Link>,
+    pub(crate) node_cells: Vec<NodeCell>,
 }
 
 impl Model for Start {
@@ -58,8 +58,8 @@ impl Start {
     {
         let count = nodes.len();
         Ok(Start {
-            links: vec![in alloc; Link::calm(); count * count]?,
-            nodes: vec![in alloc; NodeCell::running(); count]?,
+            link_cells: vec![in alloc; Link::calm(); count * count]?,
+            node_cells: vec![in alloc; NodeCell::running(); count]?,
             names: nodes,
         })
     }
@@ -75,10 +75,10 @@ impl Start {
     pub fn link(&self, from: Node, to: Node) -> Option<Link>
         ensures { result ≡ link_at self.now.cells from to }
     {
-        let count = self.nodes.len();
+        let count = self.node_cells.len();
         let (from, to) = (from.place() as usize, to.place() as usize);
         if from < count && to < count && from != to {
-            Some(self.links[from * count + to])
+            Some(self.link_cells[from * count + to])
         } else {
             None
         }
@@ -88,7 +88,7 @@ impl Start {
     pub fn node(&self, node: Node) -> Option<NodeCell>
         ensures { result ≡ node_at self.now.cells node }
     {
-        self.nodes.get(node.place() as usize).copied()
+        self.node_cells.get(node.place() as usize).copied()
     }
 
     /// Sets the link from one node to another.
@@ -100,7 +100,7 @@ impl Start {
             (λ _. SetsLink self.old from to link self.new)
             (λ e. (self.new ≡ self.old) × RefusesLink self.old from to link e) }
     {
-        let count = self.nodes.len();
+        let count = self.node_cells.len();
         let (source, destination) = (from.place() as usize, to.place() as usize);
         if source >= count || destination >= count {
             return Err(StartError::UnknownNode);
@@ -111,7 +111,7 @@ impl Start {
         if link.delay > MAX_START_DELAY_MS || link.loss > MAX_START_LOSS {
             return Err(StartError::BadAmount);
         }
-        self.links[source * count + destination] = link;
+        self.link_cells[source * count + destination] = link;
         Ok(())
     }
 
@@ -125,13 +125,13 @@ impl Start {
             (λ e. (self.new ≡ self.old) × RefusesNode self.old node cell e) }
     {
         let place = node.place() as usize;
-        if place >= self.nodes.len() {
+        if place >= self.node_cells.len() {
             return Err(StartError::UnknownNode);
         }
         if cell.clock < -MAX_START_OFFSET_MS || cell.clock > MAX_START_OFFSET_MS {
             return Err(StartError::BadAmount);
         }
-        self.nodes[place] = cell;
+        self.node_cells[place] = cell;
         Ok(())
     }
 }
