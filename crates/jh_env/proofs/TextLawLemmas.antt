@@ -14,7 +14,7 @@ use Rattle.jh_env.specs.Text.{sections, Shape, shape_of, text_keys}
 use Rattle.jh_env.specs.TextErrors.{AreSound, HasEntryError, HasShape, RefusesEntry, RefusesTextNames, RefusesEnvText}
 use Rattle.jh_env.specs.TextCells.{link_after, node_after, AreCellsOf, IsTextOf}
 use Rattle.jh_env.specs.TextLaws.{CanStart, AreSameCells}
-use Rattle.jh_env.specs.TextWritten.{entries_written, text_of}
+use Rattle.jh_env.specs.TextWritten.{entries_written, edn_of_env}
 use Rattle.jh_env.proofs.TextReadBackLemmas.{fold_written-link, fold_written-node}
 use Rattle.jh_env.proofs.TextShapeLemmas.{text_shape, shape_written}
 use Rattle.jh_env.proofs.TextSoundLemmas.{written_sound}
@@ -62,7 +62,7 @@ parsed_node env a starts =
     ] refl
 
 -- the text that is written of an environment that can start means its cells
-pub text_reads_back : (env : EnvValue) → CanStart env → IsTextOf (text_of env) env.names (cells_of env)
+pub text_reads_back : (env : EnvValue) → CanStart env → IsTextOf (edn_of_env env) env.names (cells_of env)
 unfolding is_pair
 text_reads_back env starts =
     let parsed : AreCellsOf env.names (flat_map (entries_written env) sections) (cells_of env) = record {

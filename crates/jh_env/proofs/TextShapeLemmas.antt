@@ -14,7 +14,7 @@ use Rattle.jh_env.specs.declared.texts.entries.NodeChange.{NodeChange}
 use Rattle.jh_env.specs.Overlay.{EnvValue}
 use Rattle.jh_env.specs.Text.{◌>>=◌, OfLink, OfNode, Keys, Shape, each_of, text_of_string, names_of, entry_in, entries_of, entries_under, all_entries, nodes_keyword, sections}
 use Rattle.jh_env.specs.TextErrors.{HasShape}
-use Rattle.jh_env.specs.TextWritten.{link_change, node_change, life_change, entries_written, edn_of_entry, section_pair, text_of}
+use Rattle.jh_env.specs.TextWritten.{link_change, node_change, life_change, entries_written, edn_of_entry, section_pair, edn_of_env}
 use Rattle.jh_edn.proofs.CitedLemmas.{list_of-items_of}
 use Rattle.jh_env.proofs.TextLemmas.{each_of-map}
 use Rattle.jh_env.proofs.TextSoundLemmas.{link_parts, node_parts, if_gives, unless_gives, all_written}
@@ -90,7 +90,7 @@ under_read env Section.Clock = section_read env Section.Clock
 abbrev pub shape_written : EnvValue → Shape
 shape_written env = record { names = env.names; entries = flat_map (entries_written env) sections }
 
-pub text_shape : (env : EnvValue) → HasShape (text_of env) (shape_written env)
+pub text_shape : (env : EnvValue) → HasShape (edn_of_env env) (shape_written env)
 unfolding keys_written
 text_shape env =
     let all : all_entries (keys_written env).pairs ≡ Some (flat_map (entries_written env) sections) =

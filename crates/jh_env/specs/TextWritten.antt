@@ -1,4 +1,4 @@
--- The text that is written of an environment (this project's own): all six keys in order, and under
+-- The value that is written of an environment (this project's own): all six keys in order, and under
 -- them what is not calm or not running, links by the place of their source and then of their
 -- destination, nodes by place.
 use Rattle.std.specs.Prelude.{ℕ, ◌==◌, Bool, false, ℤ, pos, nat_lt, List, [], ◌∷◌, map, length}
@@ -96,9 +96,9 @@ section_pair env section = (
       (items_of (map edn_of_entry (entries_written env section))),
 )
 
--- the text of an environment as it is now
-abbrev pub text_of : EnvValue → Edn
-text_of env =
+-- the value that spells an environment as it is now
+abbrev pub edn_of_env : EnvValue → Edn
+edn_of_env env =
     mapping (members_of
     ((keyword nodes_keyword, vector (items_of (map str env.names)))
     ∷ map (section_pair env) sections))

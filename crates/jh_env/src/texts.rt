@@ -9,7 +9,7 @@ ghost use Rattle.jh_edn.specs.View.{view};
 ghost use Rattle.jh_env.specs.Overlay.{StandsFor, work_of};
 ghost use Rattle.jh_env.specs.TextCells.{IsTextOf};
 ghost use Rattle.jh_env.specs.TextErrors.{RefusesEnvText};
-ghost use Rattle.jh_env.specs.TextWritten.{text_of};
+ghost use Rattle.jh_env.specs.TextWritten.{edn_of_env};
 
 mod entries;
 mod laws;
@@ -136,7 +136,7 @@ pub fn env_of_value(alloc: Global, value: &Value) -> Result<Env, EnvTextError>
 /// `:nodes :cut :slow :loss :down :clock`, and under them only what is not calm or not running,
 /// links by the place of their source and then of their destination, nodes by place.
 pub fn value_of_env(alloc: Global, env: &Env) -> Result<Value, AllocError>
-    ensures { IfOk result (λ value. view value ≡ text_of env.now) }
+    ensures { IfOk result (λ value. view value ≡ edn_of_env env.now) }
 {
     Ok(Value::Map(Pairs::of(writing::pairs_of(alloc, env)?)))
 }

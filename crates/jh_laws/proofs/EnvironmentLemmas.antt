@@ -16,7 +16,7 @@ use Rattle.jh_env.specs.Overlay.{EnvValue, link_of, node_of}
 use Rattle.jh_env.specs.Starting.{IsStartingLink, IsStartingNode}
 use Rattle.jh_env.specs.Text.{◌>>=◌, Entry, OfLink, OfNode, keyword_of, nodes_keyword, sections}
 use Rattle.jh_env.specs.TextLaws.{CanStart}
-use Rattle.jh_env.specs.TextWritten.{places, link_change, node_change, life_change, is_zero, link_entry, node_entry, entries_written, link_amounts, node_amount, edn_of_entry, text_of}
+use Rattle.jh_env.specs.TextWritten.{places, link_change, node_change, life_change, is_zero, link_entry, node_entry, entries_written, link_amounts, node_amount, edn_of_entry, edn_of_env}
 use Rattle.jh_laws.proofs.KeyLemmas.{keywords_differ}
 
 -- ---- what each of a list is
@@ -166,7 +166,7 @@ section_printable env starts section = (some_depth_more, entries_printable (entr
 some_depth_whole : 0 < depth_limit
 some_depth_whole = omega arith
 
-pub environment_printable : (env : EnvValue) → CanStart env → IsPrintable depth_limit (text_of env)
+pub environment_printable : (env : EnvValue) → CanStart env → IsPrintable depth_limit (edn_of_env env)
 environment_printable env starts = (
   some_depth_whole,
   (

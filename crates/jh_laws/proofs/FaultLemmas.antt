@@ -18,7 +18,7 @@ use Rattle.jh_env.specs.declared.amounts.GivenLinkFault.{GivenLinkFault}
 use Rattle.jh_tables.specs.Plain.{fault_on_links, fault_on_nodes}
 use Rattle.jh_tables.specs.declared.faults.LinkFault.{LinkFault}
 use Rattle.jh_tables.specs.declared.faults.NodeFault.{NodeFault}
-use Rattle.jh_step_texts.specs.FaultWritten.{is_link_before, is_node_before, is_bump_before, fault_in_order, name_text, link_text, links_text, nodes_text, bump_text, bumps_text, text_of_fault}
+use Rattle.jh_step_texts.specs.FaultWritten.{is_link_before, is_node_before, is_bump_before, fault_in_order, edn_of_name, edn_of_link, edn_of_links, edn_of_nodes, edn_of_bump, edn_of_bumps, edn_of_fault}
 use Rattle.jh_env.specs.Names.{AreNodeNames}
 use Rattle.jh_env.proofs.TextPlaceLemmas.{place_of-at}
 use Rattle.jh_env.specs.TextErrors.{place_of}
@@ -44,29 +44,29 @@ pub pairs_of-members : (pairs : List (Edn × Edn)) → pairs_in (members_of pair
 pairs_of-members [] = refl
 pairs_of-members (p ∷ ps) = ap (λ rest. p ∷ rest) (pairs_of-members ps)
 
-links_are : (names : List (List ℕ)) (links : List (ℕ × ℕ)) → links_in (links_text names links) ≡ Some (map (link_text names) links)
-links_are names links = sequence_of (λ l. is_some (link_names l)) (link_text names) (λ l. refl) links
+links_are : (names : List (List ℕ)) (links : List (ℕ × ℕ)) → links_in (edn_of_links names links) ≡ Some (map (edn_of_link names) links)
+links_are names links = sequence_of (λ l. is_some (link_names l)) (edn_of_link names) (λ l. refl) links
 
-nodes_are : (names : List (List ℕ)) (nodes : List ℕ) → nodes_in (nodes_text names nodes) ≡ Some (map (name_text names) nodes)
-nodes_are names nodes = sequence_of (λ n. is_some (node_name n)) (name_text names) (λ n. refl) nodes
+nodes_are : (names : List (List ℕ)) (nodes : List ℕ) → nodes_in (edn_of_nodes names nodes) ≡ Some (map (edn_of_name names) nodes)
+nodes_are names nodes = sequence_of (λ n. is_some (node_name n)) (edn_of_name names) (λ n. refl) nodes
 
-bumps_are : (names : List (List ℕ)) (bumps : List (ℕ × ℤ)) → bumps_in (bumps_text names bumps) ≡ Some (map (bump_text names) bumps)
+bumps_are : (names : List (List ℕ)) (bumps : List (ℕ × ℤ)) → bumps_in (edn_of_bumps names bumps) ≡ Some (map (edn_of_bump names) bumps)
 bumps_are names bumps =
-    ap (all_of (λ b. is_some (bump_spelled b))) (pairs_of-members (map (bump_text names) bumps))
-    ∙ ap (λ t. if t then Some (map (bump_text names) bumps) else None) (all_pass (λ b. is_some (bump_spelled b)) (bump_text names) (λ b. refl) bumps)
+    ap (all_of (λ b. is_some (bump_spelled b))) (pairs_of-members (map (edn_of_bump names) bumps))
+    ∙ ap (λ t. if t then Some (map (edn_of_bump names) bumps) else None) (all_pass (λ b. is_some (bump_spelled b)) (edn_of_bump names) (λ b. refl) bumps)
 
 -- ---- where the names stand
 
 pub place_again : (names : List (List ℕ)) → AreNodeNames names → (a : ℕ) → a < length names → place_of names (slice_index_or names a []) ≡ Some a
 place_again names named a below = place_of-at names a (slice_index_or names a []) named (slice_get-get_or names a [] below)
 
-ends_again : (names : List (List ℕ)) → AreNodeNames names → (l : ℕ × ℕ) → (l.0 < length names) × (l.1 < length names) → ends_of names (link_text names l) ≡ Some l
+ends_again : (names : List (List ℕ)) → AreNodeNames names → (l : ℕ × ℕ) → (l.0 < length names) × (l.1 < length names) → ends_of names (edn_of_link names l) ≡ Some l
 ends_again names named l below = rw (place_again names named l.0 below.0, place_again names named l.1 below.1) refl
 
-node_again : (names : List (List ℕ)) → AreNodeNames names → (a : ℕ) → a < length names → named_node names (name_text names a) ≡ Some a
+node_again : (names : List (List ℕ)) → AreNodeNames names → (a : ℕ) → a < length names → named_node names (edn_of_name names a) ≡ Some a
 node_again names named a below = place_again names named a below
 
-bump_again : (names : List (List ℕ)) → AreNodeNames names → (b : ℕ × ℤ) → b.0 < length names → bump_of names (bump_text names b) ≡ Some b
+bump_again : (names : List (List ℕ)) → AreNodeNames names → (b : ℕ × ℤ) → b.0 < length names → bump_of names (edn_of_bump names b) ≡ Some b
 bump_again names named b below = ap (option_map (λ node. (node, b.1))) (place_again names named b.0 below)
 
 -- what a list of texts means, where each means what it was written of
@@ -85,10 +85,10 @@ abbrev AreKnown : List (List ℕ) → List (ℕ × ℕ) → Type 0
 AreKnown names links = AllByRecursion (λ l. (l.0 < length names) × (l.1 < length names)) links
 
 links_again : (names : List (List ℕ)) → AreNodeNames names → (kind : LinkFault) (links : List (ℕ × ℕ)) → AreKnown names links
-    → list_any is_self_link links ≡ false → parsed_links names (Some kind) (map (link_text names) links) ≡ Ok (fault_on_links kind (kept_links links))
+    → list_any is_self_link links ≡ false → parsed_links names (Some kind) (map (edn_of_link names) links) ≡ Ok (fault_on_links kind (kept_links links))
 links_again names named kind links those others =
-    let known = all_known (link_text names) (ends_of names) (λ l. (l.0 < length names) × (l.1 < length names)) (ends_again names named) links those in
-    let again = all_again (link_text names) (ends_of names) (λ l. (l.0 < length names) × (l.1 < length names)) (ends_again names named) links those in
+    let known = all_known (edn_of_link names) (ends_of names) (λ l. (l.0 < length names) × (l.1 < length names)) (ends_again names named) links those in
+    let again = all_again (edn_of_link names) (ends_of names) (λ l. (l.0 < length names) × (l.1 < length names)) (ends_again names named) links those in
     rw (known, again, others) refl
 
 within : (least most n : ℕ) → least ≤ n → n ≤ most → amount_within least most (pos n) ≡ Some n
@@ -97,10 +97,10 @@ within least most n low high = rw (le-leb least n low, le-leb n most high) refl
 -- ---- faults of nodes
 
 nodes_again : (names : List (List ℕ)) → AreNodeNames names → (kind : NodeFault) (nodes : List ℕ) → AllByRecursion (λ n. n < length names) nodes
-    → parsed_nodes names kind (map (name_text names) nodes) ≡ Ok (fault_on_nodes kind (kept_nodes nodes))
+    → parsed_nodes names kind (map (edn_of_name names) nodes) ≡ Ok (fault_on_nodes kind (kept_nodes nodes))
 nodes_again names named kind nodes those =
-    let known = all_known (name_text names) (named_node names) (λ n. n < length names) (node_again names named) nodes those in
-    let again = all_again (name_text names) (named_node names) (λ n. n < length names) (node_again names named) nodes those in
+    let known = all_known (edn_of_name names) (named_node names) (λ n. n < length names) (node_again names named) nodes those in
+    let again = all_again (edn_of_name names) (named_node names) (λ n. n < length names) (node_again names named) nodes those in
     rw (known, again) refl
 
 -- ---- bumps
@@ -142,10 +142,10 @@ are_bumps_again bumps right apart =
     and_from (list_all (λ b. is_bump_amount b.1) bumps) (are_apart_after [] bumps) (amounts bumps right) (apart_after [] bumps (nothing_before bumps) apart)
 
 bumps_again : (names : List (List ℕ)) → AreNodeNames names → (bumps : List (ℕ × ℤ)) → AllByRecursion (λ b. b.0 < length names) bumps
-    → are_bumps bumps ≡ true → parsed_bumps names (map (bump_text names) bumps) ≡ Ok (Bump bumps)
+    → are_bumps bumps ≡ true → parsed_bumps names (map (edn_of_bump names) bumps) ≡ Ok (Bump bumps)
 bumps_again names named bumps those right =
-    let known = all_known (bump_text names) (bump_of names) (λ b. b.0 < length names) (bump_again names named) bumps those in
-    let again = all_again (bump_text names) (bump_of names) (λ b. b.0 < length names) (bump_again names named) bumps those in
+    let known = all_known (edn_of_bump names) (bump_of names) (λ b. b.0 < length names) (bump_again names named) bumps those in
+    let again = all_again (edn_of_bump names) (bump_of names) (λ b. b.0 < length names) (bump_again names named) bumps those in
     rw (known, again, right) refl
 
 -- ---- any fault
@@ -176,7 +176,7 @@ NodesKept = (nodes : List ℕ) → AreApart is_same_node nodes → kept_nodes (i
 module _ (links_kept : LinksKept) (nodes_kept : NodesKept) (names : List (List ℕ)) (named : AreNodeNames names) where
   links_parsed : (kind : LinkFault) (links : List (ℕ × ℕ)) → All (λ l. (l.0 < length names) × (l.1 < length names)) links
       → list_any is_self_link links ≡ false → AreApart is_same_link links
-      → parsed_links names (Some kind) (map (link_text names) (in_order is_link_before links)) ≡ Ok (fault_on_links kind (in_order is_link_before links))
+      → parsed_links names (Some kind) (map (edn_of_link names) (in_order is_link_before links)) ≡ Ok (fault_on_links kind (in_order is_link_before links))
   links_parsed kind links fits others apart =
       links_again names named kind (in_order is_link_before links)
       (all_in_order is_link_before (λ l. (l.0 < length names) × (l.1 < length names)) links (recursion_from_All (λ l. (l.0 < length names) × (l.1 < length names)) links fits))
@@ -184,16 +184,16 @@ module _ (links_kept : LinksKept) (nodes_kept : NodesKept) (names : List (List �
       ∙ ap (λ kept. Ok (fault_on_links kind kept)) (links_kept links apart)
 
   nodes_parsed : (kind : NodeFault) (nodes : List ℕ) → All (λ n. n < length names) nodes → AreApart is_same_node nodes
-      → parsed_nodes names kind (map (name_text names) (in_order is_node_before nodes)) ≡ Ok (fault_on_nodes kind (in_order is_node_before nodes))
+      → parsed_nodes names kind (map (edn_of_name names) (in_order is_node_before nodes)) ≡ Ok (fault_on_nodes kind (in_order is_node_before nodes))
   nodes_parsed kind nodes fits apart =
       nodes_again names named kind (in_order is_node_before nodes) (all_in_order is_node_before (λ n. n < length names) nodes (recursion_from_All (λ n. n < length names) nodes fits))
       ∙ ap (λ kept. Ok (fault_on_nodes kind kept)) (nodes_kept nodes apart)
 
-  pub fault_again : (fault : FaultValue) → IsFaultOn (length names) fault → IsTextOfFault (text_of_fault names fault) names (fault_in_order fault)
+  pub fault_again : (fault : FaultValue) → IsFaultOn (length names) fault → IsTextOfFault (edn_of_fault names fault) names (fault_in_order fault)
   unfolding fault_kind_named
   fault_again (Cut links) h =
       let ls = in_order is_link_before links in (
-        Links GivenLinkFault.Cut (map (link_text names) ls),
+        Links GivenLinkFault.Cut (map (edn_of_link names) ls),
         ap (option_map (Links GivenLinkFault.Cut)) (links_are names ls),
         links_parsed LinkFault.Cut links h.fits h.others h.is_fault,
       )
@@ -201,41 +201,41 @@ module _ (links_kept : LinksKept) (nodes_kept : NodesKept) (names : List (List �
       let ls = in_order is_link_before links in
       let given : GivenLinkFault = GivenLinkFault.Slow (pos ms) in
       let right : link_fault_of given ≡ Some (LinkFault.Slow ms) = ap (option_map LinkFault.Slow) (within 1 60000 ms (omega (arith, h.is_fault.0.0)) h.is_fault.0.1) in (
-        Links given (map (link_text names) ls),
+        Links given (map (edn_of_link names) ls),
         ap (option_map (Links given)) (links_are names ls),
-        ap (λ kind. parsed_links names kind (map (link_text names) ls)) right ∙ links_parsed (LinkFault.Slow ms) links h.fits h.others h.is_fault.1,
+        ap (λ kind. parsed_links names kind (map (edn_of_link names) ls)) right ∙ links_parsed (LinkFault.Slow ms) links h.fits h.others h.is_fault.1,
       )
   fault_again (Loss level links) h =
       let ls = in_order is_link_before links in
       let given : GivenLinkFault = GivenLinkFault.Loss (pos level) in
       let right : link_fault_of given ≡ Some (LinkFault.Loss level) = ap (option_map LinkFault.Loss) (within 1 20 level (omega (arith, h.is_fault.0.0)) h.is_fault.0.1) in (
-        Links given (map (link_text names) ls),
+        Links given (map (edn_of_link names) ls),
         ap (option_map (Links given)) (links_are names ls),
-        ap (λ kind. parsed_links names kind (map (link_text names) ls)) right ∙ links_parsed (LinkFault.Loss level) links h.fits h.others h.is_fault.1,
+        ap (λ kind. parsed_links names kind (map (edn_of_link names) ls)) right ∙ links_parsed (LinkFault.Loss level) links h.fits h.others h.is_fault.1,
       )
   fault_again (Fix ms links) h =
       let ls = in_order is_link_before links in
       let given : GivenLinkFault = GivenLinkFault.Fix (pos ms) in
       let right : link_fault_of given ≡ Some (LinkFault.Fix ms) = ap (option_map LinkFault.Fix) (within 0 60000 ms (omega arith) h.is_fault.0) in (
-        Links given (map (link_text names) ls),
+        Links given (map (edn_of_link names) ls),
         ap (option_map (Links given)) (links_are names ls),
-        ap (λ kind. parsed_links names kind (map (link_text names) ls)) right ∙ links_parsed (LinkFault.Fix ms) links h.fits h.others h.is_fault.1,
+        ap (λ kind. parsed_links names kind (map (edn_of_link names) ls)) right ∙ links_parsed (LinkFault.Fix ms) links h.fits h.others h.is_fault.1,
       )
   fault_again (Pause nodes) h =
       let ns = in_order is_node_before nodes in (
-        Nodes NodeFault.Pause (map (name_text names) ns),
+        Nodes NodeFault.Pause (map (edn_of_name names) ns),
         ap (option_map (Nodes NodeFault.Pause)) (nodes_are names ns),
         nodes_parsed NodeFault.Pause nodes h.fits h.is_fault,
       )
   fault_again (Kill nodes) h =
       let ns = in_order is_node_before nodes in (
-        Nodes NodeFault.Kill (map (name_text names) ns),
+        Nodes NodeFault.Kill (map (edn_of_name names) ns),
         ap (option_map (Nodes NodeFault.Kill)) (nodes_are names ns),
         nodes_parsed NodeFault.Kill nodes h.fits h.is_fault,
       )
   fault_again (Bump bumps) h =
       let bs = in_order is_bump_before bumps in (
-        Bumps (map (bump_text names) bs),
+        Bumps (map (edn_of_bump names) bs),
         ap (option_map Bumps) (bumps_are names bs),
         bumps_again names named bs (known_bumps (length names) bumps h.fits) (are_bumps_again bs (right_bumps bumps h.is_fault.0) (apart_bumps bumps h.is_fault.1)),
       )

@@ -14,11 +14,11 @@ use Rattle.jh_edn.specs.Printable.{IsPrintable, ArePrintable, ArePrintablePairs}
 use Rattle.jh_edn.specs.Spelling.{depth_limit, is_name}
 use Rattle.jh_env.specs.Faults.{FaultValue, IsBumpAmount, is_same_bumped}
 use Rattle.jh_env.specs.Faults.{Cut, Slow, Loss, Fix, Pause, Kill, Bump}
-use Rattle.jh_step_texts.specs.FaultWritten.{is_link_before, is_node_before, is_bump_before, name_text, link_text, links_text, bump_text, text_of_fault}
+use Rattle.jh_step_texts.specs.FaultWritten.{is_link_before, is_node_before, is_bump_before, edn_of_name, edn_of_link, edn_of_links, edn_of_bump, edn_of_fault}
 use Rattle.jh_env.specs.Names.{AreNodeNames}
 use Rattle.jh_env.specs.TextErrors.{place_of}
 use Rattle.jh_step_texts.specs.StepText.{parsed_step}
-use Rattle.jh_step_texts.specs.StepWritten.{text_of_step}
+use Rattle.jh_step_texts.specs.StepWritten.{edn_of_step}
 use Rattle.jh_nemesis.specs.declared.steps.Step.{Step}
 use Rattle.jh_step_texts.specs.declared.steps.StepTextError.{StepTextError}
 use Rattle.jh_nemesis.specs.declared.steps.Step.TheVariants.{Begin, Withdraw, WithdrawAll, Undo, Redo}
@@ -30,7 +30,7 @@ use Rattle.jh_laws.proofs.FaultLemmas.{LinksKept, NodesKept, fault_again, place_
 -- ---- what is parsed
 
 pub step_again : LinksKept → NodesKept → (names : List (List ℕ)) → AreNodeNames names → (step : Step) → IsStepOver (length names) step
-    → parsed_step names (text_of_step names step) ≡ Ok (step_in_order step)
+    → parsed_step names (edn_of_step names step) ≡ Ok (step_in_order step)
 step_again links_kept nodes_kept names named (Begin id fault) h =
     let parsed = fault_again links_kept nodes_kept names named fault h.1 in
     rw (parsed.1, lt-ltb id (2 ^ 32) h.0, parsed.2) refl
@@ -53,11 +53,11 @@ three = omega arith
 small : (n : ℕ) → n ≤ 2 ^ 32 → FitsSigned w64 (pos n)
 small n h = record { sfits = omega (arith, h) }
 
-links_printable : (names : List (List ℕ)) (links : List (ℕ × ℕ)) → ArePrintable 1 (items_of (map (link_text names) links))
+links_printable : (names : List (List ℕ)) (links : List (ℕ × ℕ)) → ArePrintable 1 (items_of (map (edn_of_link names) links))
 links_printable names [] = tt
 links_printable names (l ∷ ls) = ((one, (tt, (tt, tt))), links_printable names ls)
 
-nodes_printable : (names : List (List ℕ)) (nodes : List ℕ) → ArePrintable 1 (items_of (map (name_text names) nodes))
+nodes_printable : (names : List (List ℕ)) (nodes : List ℕ) → ArePrintable 1 (items_of (map (edn_of_name names) nodes))
 nodes_printable names [] = tt
 nodes_printable names (n ∷ ns) = (tt, nodes_printable names ns)
 
@@ -66,7 +66,7 @@ bump_fits (pos n) h = record { sfits = omega (arith, ints, h.2) }
 bump_fits (negsuc n) h = record { sfits = omega (arith, ints, h.1) }
 
 bumps_printable : (names : List (List ℕ)) (bumps : List (ℕ × ℤ)) → AllByRecursion (λ b. IsBumpAmount b.1) bumps
-    → ArePrintablePairs 1 (members_of (map (bump_text names) bumps))
+    → ArePrintablePairs 1 (members_of (map (edn_of_bump names) bumps))
 bumps_printable names [] right = tt
 bumps_printable names (b ∷ bs) right = (tt, bump_fits b.1 right.0, bumps_printable names bs right.1)
 
@@ -79,12 +79,12 @@ number_in None = 0
 number_in (Some n) = n
 
 -- different nodes have different names
-same_place : (names : List (List ℕ)) → AreNodeNames names → (a b : ℕ) → a < length names → b < length names → name_text names a ≡ name_text names b → a ≡ b
+same_place : (names : List (List ℕ)) → AreNodeNames names → (a b : ℕ) → a < length names → b < length names → edn_of_name names a ≡ edn_of_name names b → a ≡ b
 same_place names named a b a_below b_below same =
     ap number_in (sym (place_again names named a a_below) ∙ ap (λ v. place_of names (text_in v)) same ∙ place_again names named b b_below)
 
 bump_new : (names : List (List ℕ)) → AreNodeNames names → (b : ℕ × ℤ) (bumps : List (ℕ × ℤ)) → b.0 < length names → AllByRecursion (λ x. x.0 < length names) bumps
-    → list_any (is_same_bumped b) bumps ≡ false → IsNew (name_text names b.0) (keys_of (members_of (map (bump_text names) bumps)))
+    → list_any (is_same_bumped b) bumps ≡ false → IsNew (edn_of_name names b.0) (keys_of (members_of (map (edn_of_bump names) bumps)))
 bump_new names named b [] below known none = tt
 bump_new names named b (x ∷ xs) below known none =
     let parts = or_parts (is_same_bumped b x) (list_any (is_same_bumped b) xs) none in (
@@ -93,7 +93,7 @@ bump_new names named b (x ∷ xs) below known none =
     )
 
 bumps_differ : (names : List (List ℕ)) → AreNodeNames names → (bumps : List (ℕ × ℤ)) → AllByRecursion (λ b. b.0 < length names) bumps → Apart is_same_bumped bumps
-    → KeysDiffer (members_of (map (bump_text names) bumps))
+    → KeysDiffer (members_of (map (edn_of_bump names) bumps))
 bumps_differ names named [] known apart = tt
 bumps_differ names named (b ∷ bs) known apart = (bump_new names named b bs known.0 known.1 apart.0, bumps_differ names named bs known.1 apart.1)
 
@@ -149,10 +149,10 @@ some_depth : 0 < depth_limit
 some_depth = omega arith
 
 module _ (names : List (List ℕ)) (named : AreNodeNames names) where
-  links_there : (links : List (ℕ × ℕ)) → IsPrintable 2 (links_text names links)
+  links_there : (links : List (ℕ × ℕ)) → IsPrintable 2 (edn_of_links names links)
   links_there links = (two, links_printable names links)
 
-  fault_printable : (fault : FaultValue) → IsFaultOn (length names) fault → IsPrintable 3 (text_of_fault names fault)
+  fault_printable : (fault : FaultValue) → IsFaultOn (length names) fault → IsPrintable 3 (edn_of_fault names fault)
   fault_printable (Cut links) h = (three, (cut_is, (links_there (in_order is_link_before links), tt)))
   fault_printable (Slow ms links) h = (three, (slow_is, (small ms (omega (arith, h.is_fault.0.1)), (links_there (in_order is_link_before links), tt))))
   fault_printable (Loss level links) h = (three, (loss_is, (small level (omega (arith, h.is_fault.0.1)), (links_there (in_order is_link_before links), tt))))
@@ -164,11 +164,11 @@ module _ (names : List (List ℕ)) (named : AreNodeNames names) where
       let differ = bumps_differ names named bs (known_bumps (length names) bumps h.fits) (apart_bumps bumps h.is_fault.1) in
       (three, (bump_is, ((two, bumps_printable names bs (right_bumps bumps h.is_fault.0), differ), tt)))
 
-  pub fault_prints : (fault : FaultValue) → IsFaultOn (length names) fault → IsPrintable depth_limit (text_of_fault names fault)
-  fault_prints fault h = deeper (text_of_fault names fault) 3 depth_limit (omega arith) (fault_printable fault h)
+  pub fault_prints : (fault : FaultValue) → IsFaultOn (length names) fault → IsPrintable depth_limit (edn_of_fault names fault)
+  fault_prints fault h = deeper (edn_of_fault names fault) 3 depth_limit (omega arith) (fault_printable fault h)
 
-  pub step_prints : (step : Step) → IsStepOver (length names) step → IsPrintable depth_limit (text_of_step names step)
-  step_prints (Begin id fault) h = (some_depth, (begin_is, (small id (omega (arith, h.0)), (deeper (text_of_fault names fault) 3 63 (omega arith) (fault_printable fault h.1), tt))))
+  pub step_prints : (step : Step) → IsStepOver (length names) step → IsPrintable depth_limit (edn_of_step names step)
+  step_prints (Begin id fault) h = (some_depth, (begin_is, (small id (omega (arith, h.0)), (deeper (edn_of_fault names fault) 3 63 (omega arith) (fault_printable fault h.1), tt))))
   step_prints (Withdraw id) h = (some_depth, (withdraw_is, (small id (omega (arith, h)), tt)))
   step_prints WithdrawAll h = (some_depth, (withdraw_all_is, tt))
   step_prints Undo h = (some_depth, (undo_is, tt))
@@ -177,7 +177,7 @@ module _ (names : List (List ℕ)) (named : AreNodeNames names) where
 -- ---- several steps
 
 pub steps_again : LinksKept → NodesKept → (names : List (List ℕ)) → AreNodeNames names → (steps : List Step) → AllByRecursion (IsStepOver (length names)) steps
-    → map (parsed_step names) (map (text_of_step names) steps) ≡ map Ok (map step_in_order steps)
+    → map (parsed_step names) (map (edn_of_step names) steps) ≡ map Ok (map step_in_order steps)
 steps_again links_kept nodes_kept names named [] all = refl
 steps_again links_kept nodes_kept names named (step ∷ steps) all =
     let here = step_again links_kept nodes_kept names named step all.0 in
@@ -185,10 +185,10 @@ steps_again links_kept nodes_kept names named (step ∷ steps) all =
     λ i. here i ∷ behind i
 
 pub steps_print : (names : List (List ℕ)) → AreNodeNames names → (steps : List Step) → All (IsStepOver (length names)) steps
-    → All (IsPrintable depth_limit) (map (text_of_step names) steps)
+    → All (IsPrintable depth_limit) (map (edn_of_step names) steps)
 steps_print names named steps all =
-    All-map (IsPrintable depth_limit) (text_of_step names) steps
-    (All-weaker (IsStepOver (length names)) (λ step. IsPrintable depth_limit (text_of_step names step)) (λ step h. step_prints names named step h) steps all)
+    All-map (IsPrintable depth_limit) (edn_of_step names) steps
+    (All-weaker (IsStepOver (length names)) (λ step. IsPrintable depth_limit (edn_of_step names step)) (λ step h. step_prints names named step h) steps all)
 
 abbrev pub oks : List Step → List (Result Step StepTextError)
 oks steps = map Ok steps

@@ -8,7 +8,7 @@ ghost use Rattle.jh_edn.specs.Spelling.{depth_limit, SpellsAll};
 ghost use Rattle.jh_env.specs.Overlay.{EnvValue, cells_of};
 ghost use Rattle.jh_env.specs.TextCells.{IsTextOf};
 ghost use Rattle.jh_env.specs.TextLaws.{CanStart, AreSameCells};
-ghost use Rattle.jh_env.specs.TextWritten.{text_of};
+ghost use Rattle.jh_env.specs.TextWritten.{edn_of_env};
 ghost use Rattle.jh_laws.specs.Lines.{ReadsBack};
 
 use jh_edn::print_laws;
@@ -18,13 +18,14 @@ use jh_env::environments_read_back;
 /// alone, and what whoever reads these bytes has is a text of that environment's names and cells.
 /// So two environments that are printed alike have the same names and cells.
 pub fn environment_lines_read_back()
-    ensures printable { (env : EnvValue) → CanStart env → IsPrintable depth_limit (text_of env) }
+    ensures printable { (env : EnvValue) → CanStart env → IsPrintable depth_limit (edn_of_env env) }
     ensures spells { (env : EnvValue) → CanStart env
-        → ReadsBack (text_of env ∷ []) (print (text_of env)) }
+        → ReadsBack (edn_of_env env ∷ []) (print (edn_of_env env)) }
     ensures bytes { (env : EnvValue) (value : Edn) → CanStart env
-        → SpellsAll (value ∷ []) (print (text_of env)) → IsTextOf value env.names (cells_of env) }
+        → SpellsAll (value ∷ []) (print (edn_of_env env))
+        → IsTextOf value env.names (cells_of env) }
     ensures one { (env other : EnvValue) → CanStart env → CanStart other
-        → print (text_of env) ≡ print (text_of other)
+        → print (edn_of_env env) ≡ print (edn_of_env other)
         → (other.names ≡ env.names) × AreSameCells (cells_of env) (cells_of other) }
 {
     print_laws();

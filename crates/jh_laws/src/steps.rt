@@ -7,14 +7,14 @@ ghost use Rattle.jh_edn.specs.Printable.{IsPrintable};
 ghost use Rattle.jh_edn.specs.Spelling.{depth_limit, SpellsAll};
 ghost use Rattle.jh_env.specs.Cells.{Table};
 ghost use Rattle.jh_env.specs.Faults.{FaultValue};
-ghost use Rattle.jh_step_texts.specs.FaultWritten.{fault_in_order, text_of_fault};
+ghost use Rattle.jh_step_texts.specs.FaultWritten.{fault_in_order, edn_of_fault};
 ghost use Rattle.jh_env.specs.Names.{AreNodeNames};
 ghost use Rattle.jh_env.specs.Overlay.{EnvValue, cells_of};
 ghost use Rattle.jh_env.specs.TextLaws.{CanStart, AreSameCells};
-ghost use Rattle.jh_env.specs.TextWritten.{text_of};
+ghost use Rattle.jh_env.specs.TextWritten.{edn_of_env};
 ghost use Rattle.jh_step_texts.specs.FaultText.{IsRingOverAll, fault_spelling};
 ghost use Rattle.jh_step_texts.specs.StepText.{fault_of_begin, parsed_step};
-ghost use Rattle.jh_step_texts.specs.StepWritten.{text_of_step};
+ghost use Rattle.jh_step_texts.specs.StepWritten.{edn_of_step};
 ghost use Rattle.jh_nemesis.specs.declared.steps.Step.{Step};
 ghost use Rattle.jh_laws.specs.Lines.{lines_of, ReadsBack};
 ghost use Rattle.jh_laws.specs.StepLines.{AreBytesOf, IsFaultOn, IsStepOver, IsTextOfFault};
@@ -32,15 +32,15 @@ use jh_step_texts::order_changes_no_fault;
 pub fn faults_read_back()
     ensures written { (names : List (List ℕ)) (fault : FaultValue) → AreNodeNames names
         → IsFaultOn (length names) fault
-        → IsTextOfFault (text_of_fault names fault) names (fault_in_order fault) }
+        → IsTextOfFault (edn_of_fault names fault) names (fault_in_order fault) }
     ensures printable { (names : List (List ℕ)) (fault : FaultValue) → AreNodeNames names
-        → IsFaultOn (length names) fault → IsPrintable depth_limit (text_of_fault names fault) }
+        → IsFaultOn (length names) fault → IsPrintable depth_limit (edn_of_fault names fault) }
     ensures spells { (names : List (List ℕ)) (fault : FaultValue) → AreNodeNames names
         → IsFaultOn (length names) fault
-        → ReadsBack (text_of_fault names fault ∷ []) (print (text_of_fault names fault)) }
+        → ReadsBack (edn_of_fault names fault ∷ []) (print (edn_of_fault names fault)) }
     ensures bytes { (names : List (List ℕ)) (fault : FaultValue) (value : Edn) → AreNodeNames names
         → IsFaultOn (length names) fault
-        → SpellsAll (value ∷ []) (print (text_of_fault names fault))
+        → SpellsAll (value ∷ []) (print (edn_of_fault names fault))
         → IsTextOfFault value names (fault_in_order fault) }
 {
     order_changes_no_fault();
@@ -54,18 +54,18 @@ pub fn faults_read_back()
 pub fn steps_read_back()
     ensures written { (names : List (List ℕ)) (step : Step) → AreNodeNames names
         → IsStepOver (length names) step
-        → parsed_step names (text_of_step names step) ≡ Ok (step_in_order step) }
+        → parsed_step names (edn_of_step names step) ≡ Ok (step_in_order step) }
     ensures printable { (names : List (List ℕ)) (step : Step) → AreNodeNames names
-        → IsStepOver (length names) step → IsPrintable depth_limit (text_of_step names step) }
+        → IsStepOver (length names) step → IsPrintable depth_limit (edn_of_step names step) }
     ensures spells { (names : List (List ℕ)) (step : Step) → AreNodeNames names
         → IsStepOver (length names) step
-        → ReadsBack (text_of_step names step ∷ []) (print (text_of_step names step)) }
+        → ReadsBack (edn_of_step names step ∷ []) (print (edn_of_step names step)) }
     ensures lines { (names : List (List ℕ)) (steps : List Step) → AreNodeNames names
         → All (IsStepOver (length names)) steps
-        → ReadsBack (map (text_of_step names) steps) (lines_of (map (text_of_step names) steps)) }
+        → ReadsBack (map (edn_of_step names) steps) (lines_of (map (edn_of_step names) steps)) }
     ensures bytes { (names : List (List ℕ)) (steps : List Step) (values : List Edn)
         → AreNodeNames names → All (IsStepOver (length names)) steps
-        → SpellsAll values (lines_of (map (text_of_step names) steps))
+        → SpellsAll values (lines_of (map (edn_of_step names) steps))
         → map (parsed_step names) values ≡ map Ok (map step_in_order steps) }
 {
     order_changes_no_fault();
@@ -80,7 +80,7 @@ pub fn inputs_read_back()
     ensures written { (env : EnvValue) (steps : List Step) → CanStart env
         → All (IsStepOver (length env.names)) steps
         → AreBytesOf env.names (cells_of env) (map step_in_order steps)
-        (lines_of (text_of env ∷ map (text_of_step env.names) steps)) }
+        (lines_of (edn_of_env env ∷ map (edn_of_step env.names) steps)) }
     ensures one { (bytes : List ℕ) (names others : List (List ℕ)) (cells more : Table)
         (steps those : List Step)
         → AreBytesOf names cells steps bytes → AreBytesOf others more those bytes

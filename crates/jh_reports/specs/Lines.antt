@@ -5,7 +5,7 @@ use Rattle.jh_edn.specs.Edn.{Edn, int}
 use Rattle.jh_edn.specs.Parts.{vector_of}
 use Rattle.jh_edn.specs.Print.{print}
 use Rattle.jh_env.specs.Overlay.{EnvValue, StandsFor}
-use Rattle.jh_env.specs.TextWritten.{text_of}
+use Rattle.jh_env.specs.TextWritten.{edn_of_env}
 use Rattle.jh_nemesis.specs.State.{State, Active, faults_in}
 
 -- a text with its line feed
@@ -21,7 +21,7 @@ abbrev pub active_line : Active → List ℕ
 active_line active = line (codes ":active " ++ print (ids_of active))
 
 abbrev pub environment_line : EnvValue → List ℕ
-environment_line env = line (print (text_of env))
+environment_line env = line (print (edn_of_env env))
 
 -- the environment is what the active faults of the state make of its start
 pub record IsEnvOf (state : State) (env : EnvValue) : Type 0 where

@@ -3,7 +3,7 @@ use Rattle.std.proofs.Common.{◌≡◌, ℕ, ◌≤◌, ◌<◌, ◌^◌, true,
 use Rattle.std.specs.Prelude.{ℤ, IfSome}
 use Rattle.std.specs.Option.{option_and_then, option_map_or}
 use Rattle.toml.specs.Data.{string, integer, boolean, array, Members, as_str, as_bool, items_depth, members_depth, items_have_valid_dates, members_have_valid_dates}
-use Rattle.jh_env.specs.TextWritten.{text_of}
+use Rattle.jh_env.specs.TextWritten.{edn_of_env}
 use Rattle.jh_ops.specs.declared.call.Workload.{Workload}
 use Rattle.jh_ops.specs.Requests.{workload_name, workload_named, max_calls_of}
 use Rattle.jh_gen_texts.specs.GeneratorWritten.{text_of_generator}
@@ -49,7 +49,7 @@ module _ (p : PlanValue) (budget : ℕ) where
   seed_with None = refl
   seed_with (Some z) = refl
 
-  start_with : (o : Option ℤ) → data_under Key.Start (document_with p budget o) ≡ Some (printed_text (text_of p.env))
+  start_with : (o : Option ℤ) → data_under Key.Start (document_with p budget o) ≡ Some (printed_text (edn_of_env p.env))
   start_with None = refl
   start_with (Some z) = refl
 
@@ -83,7 +83,7 @@ module _ (p : PlanValue) (budget : ℕ) where
   pub schedule_there : data_under Key.Schedule (document_of p budget) ≡ Some (array (schedule_texts p.env.names p.schedule))
   schedule_there = schedule_with p.settings.initial
 
-  pub start_there : data_under Key.Start (document_of p budget) ≡ Some (printed_text (text_of p.env))
+  pub start_there : data_under Key.Start (document_of p budget) ≡ Some (printed_text (edn_of_env p.env))
   start_there = start_with p.settings.initial
 
   pub generator_there : data_under Key.Generator (document_of p budget) ≡ Some (printed_text (text_of_generator p.generator))

@@ -15,9 +15,9 @@ use Rattle.jh_env.specs.Faults.{FaultValue, Cut, Slow, Loss, Fix, Pause, Kill, B
 use Rattle.jh_env.specs.Names.{AreNodeNames, is_node_name, is_name_byte}
 use Rattle.jh_env.specs.Overlay.{EnvValue, link_of, node_of}
 use Rattle.jh_env.specs.Text.{◌>>=◌, Entry, keyword_of, nodes_keyword}
-use Rattle.jh_env.specs.TextWritten.{places, link_change, node_change, link_entry, node_entry, entries_written, link_amounts, node_amount, edn_of_entry, section_pair, text_of}
-use Rattle.jh_step_texts.specs.FaultWritten.{fault_in_order, name_text, link_text, bump_text, fault_values}
-use Rattle.jh_step_texts.specs.StepWritten.{text_of_step}
+use Rattle.jh_env.specs.TextWritten.{places, link_change, node_change, link_entry, node_entry, entries_written, link_amounts, node_amount, edn_of_entry, section_pair, edn_of_env}
+use Rattle.jh_step_texts.specs.FaultWritten.{fault_in_order, edn_of_name, edn_of_link, edn_of_bump, fault_values}
+use Rattle.jh_step_texts.specs.StepWritten.{edn_of_step}
 use Rattle.jh_nemesis.specs.declared.steps.Step.{Step}
 use Rattle.jh_nemesis.specs.declared.steps.Step.TheVariants.{Begin, Withdraw, WithdrawAll, Undo, Redo}
 use Rattle.jh_laws.proofs.EnvironmentLemmas.{all_kept}
@@ -61,15 +61,15 @@ name_or (name ∷ names) (suc a) h = name_or names a h.1
 -- ---- steps
 
 module _ (names : List (List ℕ)) (ascii : AllByRecursion IsAscii names) where
-  links_ascii : (links : List (ℕ × ℕ)) → HaveAscii (items_of (map (link_text names) links))
+  links_ascii : (links : List (ℕ × ℕ)) → HaveAscii (items_of (map (edn_of_link names) links))
   links_ascii [] = tt
   links_ascii (l ∷ ls) = ((name_or names l.0 ascii, (name_or names l.1 ascii, tt)), links_ascii ls)
 
-  nodes_ascii : (nodes : List ℕ) → HaveAscii (items_of (map (name_text names) nodes))
+  nodes_ascii : (nodes : List ℕ) → HaveAscii (items_of (map (edn_of_name names) nodes))
   nodes_ascii [] = tt
   nodes_ascii (n ∷ ns) = (name_or names n ascii, nodes_ascii ns)
 
-  bumps_ascii : (bumps : List (ℕ × ℤ)) → PairsHaveAscii (members_of (map (bump_text names) bumps))
+  bumps_ascii : (bumps : List (ℕ × ℤ)) → PairsHaveAscii (members_of (map (edn_of_bump names) bumps))
   bumps_ascii [] = tt
   bumps_ascii (b ∷ bs) = (name_or names b.0 ascii, tt, bumps_ascii bs)
 
@@ -82,7 +82,7 @@ module _ (names : List (List ℕ)) (ascii : AllByRecursion IsAscii names) where
   values_ascii (Kill nodes) = (tested (codes "kill") refl, (nodes_ascii nodes, tt))
   values_ascii (Bump bumps) = (tested (codes "bump") refl, (bumps_ascii bumps, tt))
 
-  pub step_ascii : (step : Step) → HasAscii (text_of_step names step)
+  pub step_ascii : (step : Step) → HasAscii (edn_of_step names step)
   step_ascii (Begin id fault) = (tested (codes "begin") refl, (tt, (values_ascii (fault_in_order fault), tt)))
   step_ascii (Withdraw id) = (tested (codes "withdraw") refl, (tt, tt))
   step_ascii WithdrawAll = (tested (codes "withdraw-all") refl, tt)
@@ -157,7 +157,7 @@ module _ (env : EnvValue) (ascii : AllByRecursion IsAscii env.names) where
   section_ascii : (section : Section) → HasAscii (section_pair env section).1
   section_ascii section = entries_ascii (entries_written env section) (written_ascii section)
 
-  pub environment_ascii : HasAscii (text_of env)
+  pub environment_ascii : HasAscii (edn_of_env env)
   environment_ascii = (
     tested nodes_keyword refl,
     strings_ascii env.names ascii,

@@ -16,7 +16,7 @@ use Rattle.jh_edn.proofs.PrintedBackLemmas.{printed_spells}
 use Rattle.jh_env.specs.Names.{AreNodeNames}
 use Rattle.jh_env.specs.Overlay.{EnvValue}
 use Rattle.jh_env.specs.TextLaws.{CanStart}
-use Rattle.jh_env.specs.TextWritten.{text_of}
+use Rattle.jh_env.specs.TextWritten.{edn_of_env}
 use Rattle.jh_env.proofs.ApartLemmas.{links_kept, nodes_kept}
 use Rattle.jh_step_texts.proofs.FaultOrderLemmas.{in_order_fits}
 use Rattle.jh_nemesis.specs.Steps.{FitsNodes}
@@ -105,8 +105,8 @@ step_fits count Redo h = h
 
 -- ---- the start
 
-pub start_utf8 : (env : EnvValue) → CanStart env → IsUtf8 (print (text_of env))
-start_utf8 env starts = printed_utf8 (text_of env) depth_limit (environment_printable env starts) (environment_ascii env (names_ascii env.names starts.named))
+pub start_utf8 : (env : EnvValue) → CanStart env → IsUtf8 (print (edn_of_env env))
+start_utf8 env starts = printed_utf8 (edn_of_env env) depth_limit (environment_printable env starts) (environment_ascii env (names_ascii env.names starts.named))
 
 -- ---- the whole
 
@@ -133,8 +133,8 @@ module _ (p : PlanValue) (budget : ℕ) (can : CanBeWritten p) (known : IsWholly
 
   start_parsed : IsParsedStart (document_of p budget) p.env
   start_parsed = (
-    text_of p.env,
-    (printed_text (text_of p.env), start_there p budget, printed_element (text_of p.env) (environment_printable p.env known.start)),
+    edn_of_env p.env,
+    (printed_text (edn_of_env p.env), start_there p budget, printed_element (edn_of_env p.env) (environment_printable p.env known.start)),
     start_text p.env known.start known.kept.calm,
     known.kept.calm,
   )

@@ -7,8 +7,8 @@ use Rattle.toml.specs.Data.{member}
 use Rattle.toml.specs.View.{items_of as data_items}
 use Rattle.jh_edn.specs.Edn.{Edn, int, keyword, vector, items_of}
 use Rattle.jh_edn.specs.Print.{print}
-use Rattle.jh_env.specs.TextWritten.{text_of}
-use Rattle.jh_step_texts.specs.StepWritten.{text_of_step}
+use Rattle.jh_env.specs.TextWritten.{edn_of_env}
+use Rattle.jh_step_texts.specs.StepWritten.{edn_of_step}
 use Rattle.jh_ops.specs.Requests.{workload_name}
 use Rattle.jh_gen_texts.specs.GeneratorWritten.{text_of_generator}
 use Rattle.jh_simnode.specs.StoreNames.{store_name}
@@ -37,7 +37,7 @@ due_value (Some spread) at =
 -- the value of an entry: AT and STEP, over nodes of these names
 abbrev pub spread_value : List (List ℕ) → Option Spread → Entry → Edn
 spread_value names spread entry =
-    vector (items_of (due_value spread entry.at ∷ text_of_step names entry.step ∷ []))
+    vector (items_of (due_value spread entry.at ∷ edn_of_step names entry.step ∷ []))
 
 -- the same as settings of a run have it
 abbrev pub entry_value : List (List ℕ) → Entry → Edn
@@ -76,7 +76,7 @@ members_behind_initial p =
     ∷ (Key.Rows, whole_number p.rows)
     ∷ (Key.Schedule, array (schedule_texts p.env.names p.schedule))
     ∷ (Key.Seed, whole_number p.seed)
-    ∷ (Key.Start, printed_text (text_of p.env))
+    ∷ (Key.Start, printed_text (edn_of_env p.env))
     ∷ (Key.Store, string (store_name p.settings.store))
     ∷ (Key.TickEvery, whole_number p.tick_every)
     ∷ (Key.Volatile, boolean p.settings.volatile)

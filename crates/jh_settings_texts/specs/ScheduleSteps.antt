@@ -5,11 +5,11 @@ use Rattle.jh_settings.specs.Settings.{AreSettingsOf}
 use Rattle.jh_settings.specs.declared.choices.Mode.{Mode}
 use Rattle.jh_simnode.specs.Plans.{PlanValue}
 use Rattle.jh_simnode.specs.declared.schedule.Entry.{Entry}
-use Rattle.jh_step_texts.specs.StepWritten.{text_of_step}
+use Rattle.jh_step_texts.specs.StepWritten.{edn_of_step}
 
 -- the texts of the steps of entries, over nodes with these names
 abbrev pub step_texts : List (List ℕ) → List Entry → List Edn
-step_texts names entries = map (λ entry. text_of_step names entry.step) entries
+step_texts names entries = map (λ entry. edn_of_step names entry.step) entries
 
 -- The settings that bytes spell mean a run whose schedule has these steps.
 abbrev pub AreStepsIn : List ℕ → List Edn → Type 0

@@ -7,7 +7,7 @@ use Rattle.toml.specs.Data.{Data, string, integer, boolean, array, Members, no_m
 use Rattle.jh_edn.specs.Printable.{IsPrintable}
 use Rattle.jh_edn.specs.Spelling.{depth_limit}
 use Rattle.jh_env.specs.TextLaws.{CanStart}
-use Rattle.jh_env.specs.TextWritten.{text_of}
+use Rattle.jh_env.specs.TextWritten.{edn_of_env}
 use Rattle.jh_ops.specs.declared.call.Workload.{Workload}
 use Rattle.jh_ops.specs.Requests.{workload_name}
 use Rattle.jh_gen.specs.GeneratorText.{parsed_generator}
@@ -39,7 +39,7 @@ put_cluster p others =
     put_key Key.Workload (string (workload_name p.settings.workload))
     (put_key Key.Store (string (store_name p.settings.store))
     (put_key Key.Generator (printed_text (text_of_generator p.generator))
-    (put_key Key.Start (printed_text (text_of p.env)) others)))
+    (put_key Key.Start (printed_text (edn_of_env p.env)) others)))
 
 -- the members with what is held at first, if anything
 abbrev pub put_initial : Option ℤ → Members → Members

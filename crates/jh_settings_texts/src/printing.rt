@@ -9,7 +9,7 @@ ghost use Rattle.jh_edn.specs.Spelling.{depth_limit};
 ghost use Rattle.jh_edn.specs.View.{view};
 ghost use Rattle.jh_env.specs.Names.{AreNodeNames};
 ghost use Rattle.jh_env.specs.TextLaws.{CanStart};
-ghost use Rattle.jh_env.specs.TextWritten.{text_of};
+ghost use Rattle.jh_env.specs.TextWritten.{edn_of_env};
 ghost use Rattle.jh_nemesis.specs.Steps.{FitsNodes};
 ghost use Rattle.jh_gen.specs.GeneratorText.{parsed_generator};
 ghost use Rattle.jh_gen.specs.View.{generator_of};
@@ -46,7 +46,7 @@ fn printed(alloc: Global, value: &Value) -> Result<String, AllocError>
 /// What is printed of an environment that can start.
 pub(crate) fn start_text(alloc: Global, env: &Env) -> Result<String, AllocError>
     requires { CanStart env.now }
-    ensures { IfOk result (λ text. string_bytes text ≡ print (text_of env.now)) }
+    ensures { IfOk result (λ text. string_bytes text ≡ print (edn_of_env env.now)) }
 {
     let value = value_of_env(alloc, env)?;
     printed(alloc, &value)

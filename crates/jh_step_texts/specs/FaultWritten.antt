@@ -1,4 +1,4 @@
--- The text that is written of a fault (this project's own): `[:cut LINKS]`, `[:slow MS LINKS]`,
+-- The value that is written of a fault (this project's own): `[:cut LINKS]`, `[:slow MS LINKS]`,
 -- `[:loss LEVEL LINKS]`, `[:fix MS LINKS]`, `[:pause NODES]`, `[:kill NODES]` and
 -- `[:bump {"n1" 500, ..}]`, where LINKS are `[["n2" "n1"] ..]` and NODES `["n1" ..]`: links by the
 -- place of their source and then of their destination, nodes and bumps by place.
@@ -12,37 +12,42 @@ use Rattle.jh_step_texts.specs.Kinds.{fault_kind_name}
 use Rattle.jh_step_texts.specs.declared.kinds.FaultKind.{FaultKind}
 
 -- the string with the name of the node at this place
-abbrev pub name_text : List (List ℕ) → ℕ → Edn
-name_text names a = str (slice_index_or names a [])
+abbrev pub edn_of_name : List (List ℕ) → ℕ → Edn
+edn_of_name names a = str (slice_index_or names a [])
 
-abbrev pub link_text : List (List ℕ) → (ℕ × ℕ) → Edn
-link_text names link = vector (items_of (name_text names link.0 ∷ name_text names link.1 ∷ []))
+abbrev pub edn_of_link : List (List ℕ) → (ℕ × ℕ) → Edn
+edn_of_link names link =
+    vector (items_of (edn_of_name names link.0 ∷ edn_of_name names link.1 ∷ []))
 
-abbrev pub links_text : List (List ℕ) → List (ℕ × ℕ) → Edn
-links_text names links = vector (items_of (map (link_text names) links))
+abbrev pub edn_of_links : List (List ℕ) → List (ℕ × ℕ) → Edn
+edn_of_links names links = vector (items_of (map (edn_of_link names) links))
 
-abbrev pub nodes_text : List (List ℕ) → List ℕ → Edn
-nodes_text names nodes = vector (items_of (map (name_text names) nodes))
+abbrev pub edn_of_nodes : List (List ℕ) → List ℕ → Edn
+edn_of_nodes names nodes = vector (items_of (map (edn_of_name names) nodes))
 
-abbrev pub bump_text : List (List ℕ) → (ℕ × ℤ) → Edn × Edn
-bump_text names bump = (name_text names bump.0, int bump.1)
+abbrev pub edn_of_bump : List (List ℕ) → (ℕ × ℤ) → Edn × Edn
+edn_of_bump names bump = (edn_of_name names bump.0, int bump.1)
 
-abbrev pub bumps_text : List (List ℕ) → List (ℕ × ℤ) → Edn
-bumps_text names bumps = mapping (members_of (map (bump_text names) bumps))
+abbrev pub edn_of_bumps : List (List ℕ) → List (ℕ × ℤ) → Edn
+edn_of_bumps names bumps = mapping (members_of (map (edn_of_bump names) bumps))
 
--- the values of the text, in the order in which the fault holds its links, nodes or bumps
+-- what stands in the value, in the order in which the fault holds its links, nodes or bumps
 abbrev pub fault_values : List (List ℕ) → FaultValue → List Edn
-fault_values names (Cut links) = keyword (fault_kind_name FaultKind.Cut) ∷ links_text names links ∷ []
+fault_values names (Cut links) =
+    keyword (fault_kind_name FaultKind.Cut) ∷ edn_of_links names links ∷ []
 fault_values names (Slow ms links) =
-    keyword (fault_kind_name FaultKind.Slow) ∷ int (pos ms) ∷ links_text names links ∷ []
+    keyword (fault_kind_name FaultKind.Slow) ∷ int (pos ms) ∷ edn_of_links names links ∷ []
 fault_values names (Loss level links) =
-    keyword (fault_kind_name FaultKind.Loss) ∷ int (pos level) ∷ links_text names links ∷ []
+    keyword (fault_kind_name FaultKind.Loss) ∷ int (pos level) ∷ edn_of_links names links ∷ []
 fault_values names (Fix ms links) =
-    keyword (fault_kind_name FaultKind.Fix) ∷ int (pos ms) ∷ links_text names links ∷ []
-fault_values names (Pause nodes) = keyword (fault_kind_name FaultKind.Pause) ∷ nodes_text names nodes ∷ []
-fault_values names (Kill nodes) = keyword (fault_kind_name FaultKind.Kill) ∷ nodes_text names nodes ∷ []
-fault_values names (Bump bumps) = keyword (fault_kind_name FaultKind.Bump) ∷ bumps_text names bumps ∷ []
+    keyword (fault_kind_name FaultKind.Fix) ∷ int (pos ms) ∷ edn_of_links names links ∷ []
+fault_values names (Pause nodes) =
+    keyword (fault_kind_name FaultKind.Pause) ∷ edn_of_nodes names nodes ∷ []
+fault_values names (Kill nodes) =
+    keyword (fault_kind_name FaultKind.Kill) ∷ edn_of_nodes names nodes ∷ []
+fault_values names (Bump bumps) =
+    keyword (fault_kind_name FaultKind.Bump) ∷ edn_of_bumps names bumps ∷ []
 
--- the text of a fault on nodes of these names
-abbrev pub text_of_fault : List (List ℕ) → FaultValue → Edn
-text_of_fault names fault = vector (items_of (fault_values names (fault_in_order fault)))
+-- the value that spells a fault on nodes of these names
+abbrev pub edn_of_fault : List (List ℕ) → FaultValue → Edn
+edn_of_fault names fault = vector (items_of (fault_values names (fault_in_order fault)))

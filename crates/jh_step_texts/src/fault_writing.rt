@@ -9,10 +9,10 @@ ghost use Rattle.jh_env.specs.Amounts.{IsLinkAmount};
 ghost use Rattle.jh_env.specs.Faults.{FitsCount};
 ghost use Rattle.jh_tables.specs.Faults.FaultValue.{Bump};
 ghost use Rattle.jh_edn.specs.Edn as edn;
-ghost use Rattle.jh_step_texts.specs.FaultWritten as text;
+ghost use Rattle.jh_step_texts.specs.FaultWritten as rule;
 ghost use Rattle.jh_step_texts.specs.Kinds.{fault_kind_name};
 ghost use Rattle.jh_step_texts.specs.WritingInside.{link_fault_values};
-ghost use Rattle.jh_step_texts.specs.FaultWritten.{fault_values, text_of_fault};
+ghost use Rattle.jh_step_texts.specs.FaultWritten.{edn_of_fault, fault_values};
 
 use crate::kinds::FaultKind;
 use jh_edn::{Pairs, Text, Value, Values};
@@ -22,7 +22,7 @@ use std::alloc::{AllocError, Global};
 /// The string with the name of a node.
 fn name_value(alloc: Global, nodes: &Nodes, node: Node) -> Result<Value, AllocError>
     requires { node < length nodes.now }
-    ensures { IfOk result (λ value. view value ≡ text.name_text nodes.now node) }
+    ensures { IfOk result (λ value. view value ≡ rule.edn_of_name nodes.now node) }
 {
     match nodes.name(node) {
         Some(name) => Ok(Value::Str(Text::of(alloc, name)?)),
@@ -33,7 +33,7 @@ fn name_value(alloc: Global, nodes: &Nodes, node: Node) -> Result<Value, AllocEr
 /// The value of a link: the names of its source and of its destination.
 fn link_value(alloc: Global, nodes: &Nodes, link: (Node, Node)) -> Result<Value, AllocError>
     requires { (link.0 < length nodes.now) × (link.1 < length nodes.now) }
-    ensures { IfOk result (λ value. view value ≡ text.link_text nodes.now link) }
+    ensures { IfOk result (λ value. view value ≡ rule.edn_of_link nodes.now link) }
 {
     let mut ends = Vec::new(alloc);
     ends.push(name_value(alloc, nodes, link.0)?)?;
@@ -49,7 +49,7 @@ fn link_values(
 ) -> Result<Vec<Value>, AllocError>
     requires { All (λ l. (l.0 < length nodes.now) × (l.1 < length nodes.now)) links.now }
     ensures { IfOk result
-        (λ values. views values.items ≡ map (text.link_text nodes.now) links.now) }
+        (λ values. views values.items ≡ map (rule.edn_of_link nodes.now) links.now) }
 {
     let mut values = Vec::new(alloc);
     for link in links {
@@ -62,7 +62,7 @@ fn link_values(
 fn node_values(alloc: Global, nodes: &Nodes, named: &[Node]) -> Result<Vec<Value>, AllocError>
     requires { All (λ n. n < length nodes.now) named.now }
     ensures { IfOk result
-        (λ values. views values.items ≡ map (text.name_text nodes.now) named.now) }
+        (λ values. views values.items ≡ map (rule.edn_of_name nodes.now) named.now) }
 {
     let mut values = Vec::new(alloc);
     for node in named {
@@ -79,7 +79,7 @@ fn bump_pairs(
 ) -> Result<Vec<(Value, Value)>, AllocError>
     requires { All (λ b. b.0 < length nodes.now) bumps.now }
     ensures { IfOk result
-        (λ pairs. view_pairs pairs.items ≡ map (text.bump_text nodes.now) bumps.now) }
+        (λ pairs. view_pairs pairs.items ≡ map (rule.edn_of_bump nodes.now) bumps.now) }
 {
     let mut pairs = Vec::new(alloc);
     for (node, ms) in bumps {
@@ -195,7 +195,7 @@ fn fault_values(alloc: Global, nodes: &Nodes, fault: &Fault) -> Result<Vec<Value
 /// comparisons for n links, nodes or bumps.
 pub fn value_of_fault(alloc: Global, nodes: &Nodes, fault: &Fault) -> Result<Value, AllocError>
     requires { FitsCount (length nodes.now) fault.now }
-    ensures { IfOk result (λ value. view value ≡ text_of_fault nodes.now fault.now) }
+    ensures { IfOk result (λ value. view value ≡ edn_of_fault nodes.now fault.now) }
 {
     let values = fault_values(alloc, nodes, &fault.in_order(alloc)?)?;
     Ok(Value::Vector(Values::of(values)))

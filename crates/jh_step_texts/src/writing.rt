@@ -3,7 +3,7 @@
 ghost use Rattle.std.specs.Prelude.{◌≡◌, ◌∷◌, [], pos, length, IfOk};
 ghost use Rattle.jh_edn.specs.Edn.{int, keyword};
 ghost use Rattle.jh_edn.specs.View.{view, views};
-ghost use Rattle.jh_step_texts.specs.StepWritten.{step_values, text_of_step};
+ghost use Rattle.jh_step_texts.specs.StepWritten.{step_values, edn_of_step};
 ghost use Rattle.jh_nemesis.specs.Steps.{FitsNodes};
 
 use crate::fault_writing::value_of_fault;
@@ -57,7 +57,7 @@ fn step_values(alloc: Global, nodes: &Nodes, step: &Step) -> Result<Vec<Value>, 
 /// Each node that a begun fault names is one of these, which `Fault::fits_nodes` tests.
 pub fn value_of_step(alloc: Global, nodes: &Nodes, step: &Step) -> Result<Value, AllocError>
     requires { FitsNodes (length nodes.now) step.now }
-    ensures { IfOk result (λ value. view value ≡ text_of_step nodes.now step.now) }
+    ensures { IfOk result (λ value. view value ≡ edn_of_step nodes.now step.now) }
 {
     Ok(Value::Vector(Values::of(step_values(alloc, nodes, step)?)))
 }

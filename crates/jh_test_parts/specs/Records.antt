@@ -12,8 +12,8 @@ use Rattle.jh_nemesis.specs.declared.steps.Step.{Step}
 use Rattle.jh_ops.specs.Operation.{Operation}
 use Rattle.jh_ops.specs.declared.operation.Kind.{Kind}
 use Rattle.jh_ops.specs.declared.operation.Process.{Process}
-use Rattle.jh_step_texts.specs.FaultWritten.{name_text}
-use Rattle.jh_step_texts.specs.StepWritten.{text_of_step}
+use Rattle.jh_step_texts.specs.FaultWritten.{edn_of_name}
+use Rattle.jh_step_texts.specs.StepWritten.{edn_of_step}
 use Rattle.jh_ops.specs.Requests.{request_name}
 use Rattle.jh_test_parts.specs.Changes.{ChangedCells}
 use Rattle.jh_test_parts.specs.declared.records.ChangedLink.{ChangedLink}
@@ -44,12 +44,12 @@ node_value n = map_of (
 -- `["n1" "n2" {..}]`
 abbrev pub changed_link_value : List (List ℕ) → ChangedLink → Edn
 changed_link_value names changed = vector_of (
-    name_text names changed.source ∷ name_text names changed.destination ∷ link_value changed.link ∷ []
+    edn_of_name names changed.source ∷ edn_of_name names changed.destination ∷ link_value changed.link ∷ []
     )
 
 -- `["n1" {..}]`
 abbrev pub changed_node_value : List (List ℕ) → ChangedNode → Edn
-changed_node_value names changed = vector_of (name_text names changed.node ∷ node_value changed.cell ∷ [])
+changed_node_value names changed = vector_of (edn_of_name names changed.node ∷ node_value changed.cell ∷ [])
 
 -- an operation at its place in the history
 abbrev pub operation_placed : (index time : ℕ) → Kind → Process → List ℕ → Edn → List (Edn × Edn)
@@ -67,7 +67,7 @@ operation_placed index time kind process function value rest = record {
 -- the other keys of a step's record
 abbrev pub step_pairs : List (List ℕ) → Step → ChangedCells → List (Edn × Edn)
 step_pairs names step cells =
-    (keyword (codes "step"), text_of_step names step)
+    (keyword (codes "step"), edn_of_step names step)
     ∷ (keyword (codes "links"), vector_of (map (changed_link_value names) cells.links))
     ∷ (keyword (codes "nodes"), vector_of (map (changed_node_value names) cells.nodes)) ∷ []
 
@@ -76,7 +76,7 @@ abbrev pub operation_of_record : List (List ℕ) → ℕ → Recorded → Operat
 operation_of_record names index (Invoked time process node call) =
     operation_placed index time Kind.Invoke (Process.Client process) (request_name call.request)
     call.value
-    ((keyword (codes "node"), name_text names node) ∷ [])
+    ((keyword (codes "node"), edn_of_name names node) ∷ [])
 operation_of_record names index (Ended time process kind request value rest) =
     operation_placed index time kind (Process.Client process) (request_name request) value rest
 operation_of_record names index (StepBegun time entry step cells) =

@@ -8,7 +8,7 @@ ghost use Rattle.jh_edn.specs.View.{view};
 ghost use Rattle.jh_ops.specs.Operation.{operation, operations};
 ghost use Rattle.jh_ops.specs.declared.operation.Kind.TheVariants as Kind;
 ghost use Rattle.jh_ops.specs.declared.operation.Process.TheVariants.{Client, Nemesis};
-ghost use Rattle.jh_step_texts.specs.FaultWritten.{name_text};
+ghost use Rattle.jh_step_texts.specs.FaultWritten.{edn_of_name};
 ghost use Rattle.jh_nemesis.specs.Steps.{FitsNodes};
 ghost use Rattle.jh_tables.specs.Standing.{IsLinkInRange};
 ghost use Rattle.jh_test_parts.specs.Records as rule;
@@ -24,7 +24,7 @@ use std::alloc::{AllocError, Global};
 
 /// The string with the name of a node; it is empty where there is no such node.
 fn name_value(alloc: Global, nodes: &Nodes, node: Node) -> Result<Value, AllocError>
-    ensures { IfOk result (λ value. view value ≡ name_text nodes.now node) }
+    ensures { IfOk result (λ value. view value ≡ edn_of_name nodes.now node) }
 {
     let name = nodes.name(node).unwrap_or("");
     Ok(Value::Str(Text::of(alloc, name)?))
@@ -146,7 +146,7 @@ fn step_pairs(
 /// The other key of a call's record.
 fn node_pairs(alloc: Global, nodes: &Nodes, node: Node) -> Result<Pairs, AllocError>
     ensures { IfOk result
-        (λ pairs. pairs ≡ (keyword (codes "node"), name_text nodes.now node) ∷ []) }
+        (λ pairs. pairs ≡ (keyword (codes "node"), edn_of_name nodes.now node) ∷ []) }
 {
     let mut pairs = Vec::new(alloc);
     pairs.push(pair_of(alloc, "node", name_value(alloc, nodes, node)?)?)?;

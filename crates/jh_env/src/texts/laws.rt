@@ -7,7 +7,7 @@ ghost use Rattle.jh_env.specs.Overlay.{EnvValue, cells_of};
 ghost use Rattle.jh_env.specs.TextCells.{IsTextOf};
 ghost use Rattle.jh_env.specs.TextErrors.{RefusesEnvText};
 ghost use Rattle.jh_env.specs.TextLaws.{CanStart, AreSameCells};
-ghost use Rattle.jh_env.specs.TextWritten.{text_of};
+ghost use Rattle.jh_env.specs.TextWritten.{edn_of_env};
 ghost use Rattle.jh_env.specs.declared.texts.EnvTextError.{EnvTextError};
 
 /// What is written of an environment that can start is a text of its names and cells, a text of an
@@ -15,7 +15,7 @@ ghost use Rattle.jh_env.specs.declared.texts.EnvTextError.{EnvTextError};
 /// `value_of_env` writes, `env_of_value` reads back.
 pub fn environments_read_back()
     ensures written { (env : EnvValue) → CanStart env
-        → IsTextOf (text_of env) env.names (cells_of env) }
+        → IsTextOf (edn_of_env env) env.names (cells_of env) }
     ensures accepted { (value : Edn) (names : List (List ℕ)) (cells : Table) (e : EnvTextError)
         → IsTextOf value names cells → RefusesEnvText value e → e ≡ EnvTextError.OutOfMemory }
     ensures means_one { (value : Edn) (names others : List (List ℕ)) (cells more : Table)

@@ -3,21 +3,21 @@ use Rattle.std.proofs.lemmas.List.Elements.{All-cons}
 use Rattle.jh_edn.specs.Printable.{IsPrintable}
 use Rattle.jh_edn.specs.Spelling.{depth_limit}
 use Rattle.jh_env.specs.TextCells.{IsTextOf}
-use Rattle.jh_env.specs.TextWritten.{text_of}
+use Rattle.jh_env.specs.TextWritten.{edn_of_env}
 use Rattle.jh_step_texts.specs.StepText.{parsed_step}
-use Rattle.jh_step_texts.specs.StepWritten.{text_of_step}
+use Rattle.jh_step_texts.specs.StepWritten.{edn_of_step}
 use Rattle.jh_laws.proofs.LineLemmas.{first_in, rest_in}
 use Rattle.jh_laws.proofs.StepLemmas.{steps_print, one_list}
 use Rattle.jh_laws.proofs.steps.inputs_read_back.Goals as goal
 
 pub returns-clause-written : goal.returns-clause-written
 returns-clause-written c = λ env steps starts all.
-    let texts = map (text_of_step env.names) steps in
-    let printable = All-cons (IsPrintable depth_limit) (text_of env) texts (c.environment_lines_read_back.ensures.printable env starts) (steps_print env.names starts.named steps all) in
+    let texts = map (edn_of_step env.names) steps in
+    let printable = All-cons (IsPrintable depth_limit) (edn_of_env env) texts (c.environment_lines_read_back.ensures.printable env starts) (steps_print env.names starts.named steps all) in
     record {
-      first = text_of env;
+      first = edn_of_env env;
       others = texts;
-      spelled = (c.lines_read_back.ensures (text_of env ∷ texts) printable).0;
+      spelled = (c.lines_read_back.ensures (edn_of_env env ∷ texts) printable).0;
       environment = c.environments_read_back.ensures.written env starts;
       parsed = c.steps_read_back.ensures.bytes env.names steps texts starts.named all (c.steps_read_back.ensures.lines env.names steps starts.named all).0;
     }
