@@ -1,9 +1,10 @@
 -- What a fault does to its links, given with an amount of its own type: it is that, or its amount is out of its range.
 use Rattle.std.proofs.Common.{◌≡◌, ℕ, ◌≤◌, true, false, refl, arith, ◌∙◌, sym}
-use Rattle.std.specs.Prelude.{◌&&◌, ℤ, nat_le, if◌then◌else◌, pos, Option, Some, None, option_map}
+use Rattle.std.specs.Prelude.{◌&&◌, ℤ, nat_le, if◌then◌else◌, pos, IsSome, Option, Some, None, option_map}
 use Rattle.std.proofs.lemmas.Bool.{and_from, and_parts, leb-true, le-leb, false≢true}
 use Rattle.jh_tables.specs.declared.faults.LinkFault.{LinkFault}
 use Rattle.jh_env.specs.Amounts.{IsLinkAmount, amount_within, link_fault_of}
+use Rattle.jh_env.specs.Faults.{IsFixAmount, IsLossAmount, IsSlowAmount}
 use Rattle.jh_env.specs.declared.amounts.GivenLinkFault.{GivenLinkFault}
 
 -- it is this one and in its range, or this one is not
@@ -31,3 +32,17 @@ judged_loss level given is = rw is (judged_within 1 20 level LinkFault.Loss (λ 
 
 pub judged_fix : (ms : ℕ) (given : ℤ) → given ≡ pos ms → IsJudged (LinkFault.Fix ms) (link_fault_of (GivenLinkFault.Fix given))
 judged_fix ms given is = rw is (judged_within 0 60000 ms LinkFault.Fix (λ h. h.1) (λ h. (omega arith, h)))
+
+-- what an amount in its range is given as, stands for a fault
+some_judged : (kind : LinkFault) (judged : Option LinkFault) → IsJudged kind judged → IsLinkAmount kind → IsSome judged
+some_judged kind (Some judged) is right = refl
+some_judged kind None wrong right = absurd (wrong right)
+
+pub given_slow : (ms : ℕ) → IsSlowAmount ms → IsSome (link_fault_of (GivenLinkFault.Slow (pos ms)))
+given_slow ms right = some_judged (LinkFault.Slow ms) (link_fault_of (GivenLinkFault.Slow (pos ms))) (judged_slow ms (pos ms) refl) right
+
+pub given_loss : (level : ℕ) → IsLossAmount level → IsSome (link_fault_of (GivenLinkFault.Loss (pos level)))
+given_loss level right = some_judged (LinkFault.Loss level) (link_fault_of (GivenLinkFault.Loss (pos level))) (judged_loss level (pos level) refl) right
+
+pub given_fix : (ms : ℕ) → IsFixAmount ms → IsSome (link_fault_of (GivenLinkFault.Fix (pos ms)))
+given_fix ms right = some_judged (LinkFault.Fix ms) (link_fault_of (GivenLinkFault.Fix (pos ms))) (judged_fix ms (pos ms) refl) right

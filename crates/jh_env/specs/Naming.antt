@@ -1,17 +1,19 @@
 -- How a fault is given what it is about (this project's own): a link as its two nodes, as their
 -- places or as the value `[SOURCE DESTINATION]` of their names; a node as itself or by its name; a
 -- clock to move as its node, or its name, and milliseconds. A fault is judged by the places alone,
--- so it is judged alike however they are given.
-use Rattle.std.specs.Prelude.{◌≡◌, ◌≢◌, ℕ, ◌&&◌, Bool, true, false, not, ℤ, pos, negsuc}
+-- so it is judged alike however they are given, and why one is refused stands here alone.
+use Rattle.std.specs.Prelude.{◌≡◌, ◌≢◌, ◌⊎◌, ℕ, ◌&&◌, Bool, true, not, ℤ, pos, negsuc}
 use Rattle.std.specs.Prelude.{List, [], ◌∷◌, ◌++◌, length, nat_lt, nat_le, if◌then◌else◌}
-use Rattle.std.specs.Prelude.{is_none, IsSome, Option, Some, None, option_and_then, option_map}
+use Rattle.std.specs.Prelude.{is_none, Option, Some, None, option_and_then, option_map, ok_or}
+use Rattle.std.specs.Prelude.{Result, Ok, Err, IsOk}
 use Rattle.std.specs.List.{filter_map, list_all, list_any}
 use Rattle.jh_edn.specs.Edn.{Edn, int, str, elements_of}
 use Rattle.jh_tables.specs.Limits.{max_bumped_ms}
-use Rattle.jh_tables.specs.Plain.{fault_on_links}
+use Rattle.jh_tables.specs.Plain.{fault_on_links, fault_on_nodes}
 use Rattle.jh_tables.specs.declared.faults.LinkFault.{LinkFault}
-use Rattle.jh_env.specs.Faults.{FaultValue, is_same_bumped, is_self_link, is_unknown_bump}
-use Rattle.jh_env.specs.Faults.{is_unknown_link, is_unknown_node, kept_links}
+use Rattle.jh_tables.specs.declared.faults.NodeFault.{NodeFault}
+use Rattle.jh_env.specs.Faults.{FaultValue, Bump, is_same_bumped, is_self_link, is_unknown_bump}
+use Rattle.jh_env.specs.Faults.{is_unknown_link, is_unknown_node, kept_links, kept_nodes}
 use Rattle.jh_env.specs.TextErrors.{place_of}
 use Rattle.jh_env.specs.declared.faults.FaultError.{FaultError}
 use Rattle.jh_env.specs.declared.faults.FaultError.TheVariants.{UnknownNode, SelfLink, BadAmount}
@@ -81,47 +83,35 @@ are_apart_after before (b ∷ bs) =
 abbrev pub are_bumps : List (ℕ × ℤ) → Bool
 are_bumps bumps = list_all (λ b. is_bump_amount b.1) bumps && are_apart_after [] bumps
 
--- each of these stands for something
-abbrev pub AreAllFound : {A B : Type 0} → (A → Option B) → List A → Type 0
-AreAllFound found items = list_any (λ x. is_none (found x)) items ≡ false
+-- The fault that does this to the links that are found, each once, or why there is none, whatever
+-- memory there is: an unknown node anywhere, else a node linked with itself, else its amount, for
+-- which no kind stands.
+abbrev pub judged_links : {A : Type 0} → (A → Option (ℕ × ℕ)) → Option LinkFault → List A
+    → Result FaultValue FaultError
+judged_links ends kind links =
+    if list_any (λ l. is_none (ends l)) links then Err UnknownNode
+    else if list_any is_self_link (filter_map ends links) then Err SelfLink
+    else ok_or (option_map (λ k. fault_on_links k (kept_links (filter_map ends links))) kind)
+    BadAmount
 
--- each link is found, and none goes from a node to itself
-abbrev pub AreLinksBy : {A : Type 0} → (A → Option (ℕ × ℕ)) → List A → Type 0
-AreLinksBy ends links =
-    AreAllFound ends links × (list_any is_self_link (filter_map ends links) ≡ false)
+-- the fault of this kind on the nodes that are found, each once, if each node is
+abbrev pub judged_nodes : {A : Type 0} → (A → Option ℕ) → NodeFault → List A
+    → Result FaultValue FaultError
+judged_nodes found kind nodes =
+    if list_any (λ n. is_none (found n)) nodes then Err UnknownNode
+    else Ok (fault_on_nodes kind (kept_nodes (filter_map found nodes)))
 
--- the fault that does this to the links that are found, each once; none stands for what has an amount
--- out of its range
-abbrev pub IsFaultBy : {A : Type 0} → (A → Option (ℕ × ℕ)) → Option LinkFault → List A
-    → FaultValue → Type 0
-IsFaultBy ends None links fault = ⊥
-IsFaultBy ends (Some kind) links fault =
-    fault ≡ fault_on_links kind (kept_links (filter_map ends links))
+-- The fault of the bumps that are found, or why there is none: an unknown node anywhere, else an
+-- amount out of range or a node that is bumped twice.
+abbrev pub judged_bumps : {A : Type 0} → (A → Option (ℕ × ℤ)) → List A
+    → Result FaultValue FaultError
+judged_bumps found bumps =
+    if list_any (λ b. is_none (found b)) bumps then Err UnknownNode
+    else if are_bumps (filter_map found bumps) then Ok (Bump (filter_map found bumps))
+    else Err BadAmount
 
--- Why a fault on the links that are found is refused: an unknown node anywhere, else a node linked
--- with itself, else its amount, for which none stands, else memory, which only a link to keep needs.
-abbrev pub RefusesLinksBy : {A : Type 0} → (A → Option (ℕ × ℕ)) → Option LinkFault → List A
-    → FaultError → Type 0
-RefusesLinksBy ends kind links UnknownNode = list_any (λ l. is_none (ends l)) links ≡ true
-RefusesLinksBy ends kind links SelfLink =
-    AreAllFound ends links × (list_any is_self_link (filter_map ends links) ≡ true)
-RefusesLinksBy ends kind links BadAmount = AreLinksBy ends links × (kind ≡ None)
-RefusesLinksBy ends kind links OutOfMemory =
-    AreLinksBy ends links × IsSome kind × (links ≢ [])
-
--- why a fault on the nodes that are found is refused: an unknown node anywhere, else memory
-abbrev pub RefusesNodesBy : {A : Type 0} → (A → Option ℕ) → List A → FaultError → Type 0
-RefusesNodesBy found nodes UnknownNode = list_any (λ n. is_none (found n)) nodes ≡ true
-RefusesNodesBy found nodes SelfLink = ⊥
-RefusesNodesBy found nodes BadAmount = ⊥
-RefusesNodesBy found nodes OutOfMemory = AreAllFound found nodes × (nodes ≢ [])
-
--- Why bumps of the nodes that are found are refused: an unknown node anywhere, else an amount out
--- of range or a node that is bumped twice, else memory.
-abbrev pub RefusesBumpsBy : {A : Type 0} → (A → Option (ℕ × ℤ)) → List A → FaultError → Type 0
-RefusesBumpsBy found bumps UnknownNode = list_any (λ b. is_none (found b)) bumps ≡ true
-RefusesBumpsBy found bumps SelfLink = ⊥
-RefusesBumpsBy found bumps BadAmount =
-    AreAllFound found bumps × (are_bumps (filter_map found bumps) ≡ false)
-RefusesBumpsBy found bumps OutOfMemory =
-    AreAllFound found bumps × (are_bumps (filter_map found bumps) ≡ true) × (bumps ≢ [])
+-- Why a fault of what is given is refused: as it is judged, or else for memory, which only
+-- something to keep needs.
+abbrev pub RefusesFault : {A : Type 0} → Result FaultValue FaultError → List A → FaultError → Type 0
+RefusesFault judged given refusal =
+    (judged ≡ Err refusal) ⊎ ((refusal ≡ OutOfMemory) × IsOk judged × (given ≢ []))

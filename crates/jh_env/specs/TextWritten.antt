@@ -1,5 +1,5 @@
--- The value that is written of an environment (this project's own): all six keys in order, and under
--- them what is not calm or not running, links by the place of their source and then of their
+-- The value that is written of an environment (this project's own): all six keys in order, and
+-- under them what is not calm or not running, links by the place of their source and then of their
 -- destination, nodes by place.
 use Rattle.std.specs.Prelude.{ℕ, ◌==◌, Bool, false, ℤ, pos, nat_lt, List, [], ◌∷◌, map, length}
 use Rattle.std.specs.Prelude.{filter_map, flat_map, if◌then◌else◌, codes, slice_get, Option, Some}

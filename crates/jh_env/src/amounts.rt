@@ -1,5 +1,6 @@
-//! What a fault does to its links, as it is given with any amount. `specs/Amounts.antt` says which
-//! amounts are in their ranges; whether one is, is judged here alone.
+//! What a fault does to its links, given with any amount, and whether that is in its range, which
+//! is asked here alone. `specs/Amounts.antt` says what stands for a given amount; the ranges are
+//! those of faults as jh_tables defines them.
 
 ghost use Rattle.std.specs.Prelude.{◌≡◌, ◌↔◌, IfSome, IsTrue, MatchOption};
 ghost use Rattle.jh_env.specs.Amounts.{IsLinkAmount, link_fault_of};

@@ -1,19 +1,17 @@
-//! Faults that name nodes of an environment, each link and node once, and why others are refused:
-//! `specs/Faults.antt` has the rules. What a fault is and does stands in jh_tables, where a new
-//! kind is added first.
+//! Faults that name nodes of an environment, each link and node once: `specs/Faults.antt` says
+//! which of those given are kept, and `specs/Naming.antt` why a fault is refused. What a fault is
+//! and does stands in jh_tables, where a new kind is added first.
 
-ghost use Rattle.std.specs.Prelude.{◌≡◌, ◌↔◌, length, true, false, IsTrue, MatchResult, IfOk, ⊤};
-ghost use Rattle.std.specs.List.{filter_map, list_any};
+ghost use Rattle.std.specs.Prelude.{◌≡◌, ◌↔◌, length, false, pos, IsTrue, MatchResult, IfOk, Ok};
+ghost use Rattle.std.specs.List.{list_any};
 ghost use Rattle.jh_tables.specs.Faults.FaultValue.{Cut, Slow, Loss, Fix, Pause, Kill, Bump};
-ghost use Rattle.jh_tables.specs.Plain.{fault_of, fault_on_nodes};
+ghost use Rattle.jh_tables.specs.Plain.{fault_of};
 ghost use Rattle.jh_env.specs.Faults.{AreBumps, AreLinksOf, FitsCount, IsFault, IsFixAmount};
-ghost use Rattle.jh_env.specs.Faults.{IsLossAmount, IsSlowAmount, RefusesBumps, RefusesLinks};
-ghost use Rattle.jh_env.specs.Faults.{RefusesNodes, is_unknown_bump, is_unknown_node};
-ghost use Rattle.jh_env.specs.Faults.{kept_links, kept_nodes};
+ghost use Rattle.jh_env.specs.Faults.{IsLossAmount, IsSlowAmount, is_unknown_bump};
+ghost use Rattle.jh_env.specs.Faults.{is_unknown_node, kept_links, kept_nodes};
 ghost use Rattle.jh_env.specs.Amounts.{link_fault_of};
-ghost use Rattle.jh_env.specs.Naming.{AreAllFound, AreLinksBy, IsFaultBy};
-ghost use Rattle.jh_env.specs.Naming.{are_bumps};
-ghost use Rattle.jh_env.specs.Naming.{RefusesBumpsBy, RefusesLinksBy, RefusesNodesBy};
+ghost use Rattle.jh_env.specs.Naming.{RefusesFault, judged_bumps, judged_links, judged_nodes};
+ghost use Rattle.jh_env.specs.Naming.{known_bump, known_link, known_node};
 
 use crate::amounts::GivenLinkFault;
 use crate::environment::Env;
@@ -104,9 +102,9 @@ impl Fault {
         links: &[L],
     ) -> Result<Fault, FaultError>
         ensures made { MatchResult result
-            (λ fault. IsFaultBy (L.linked nodes.now) (link_fault_of given) links.now fault
-            × AreLinksBy (L.linked nodes.now) links.now)
-            (RefusesLinksBy (L.linked nodes.now) (link_fault_of given) links.now) }
+            (λ fault. judged_links (L.linked nodes.now) (link_fault_of given) links.now ≡ Ok fault)
+            (RefusesFault (judged_links (L.linked nodes.now) (link_fault_of given) links.now)
+            links.now) }
         ensures fits { IfOk result (FitsCount (length nodes.now)) }
     {
         let kind = judging::judged_links(nodes, given, links)?;
@@ -129,10 +127,8 @@ impl Fault {
         named: &[N],
     ) -> Result<Fault, FaultError>
         ensures made { MatchResult result
-            (λ fault. (fault
-            ≡ fault_on_nodes kind (kept_nodes (filter_map (N.named nodes.now) named.now)))
-            × AreAllFound (N.named nodes.now) named.now)
-            (RefusesNodesBy (N.named nodes.now) named.now) }
+            (λ fault. judged_nodes (N.named nodes.now) kind named.now ≡ Ok fault)
+            (RefusesFault (judged_nodes (N.named nodes.now) kind named.now) named.now) }
         ensures fits { IfOk result (FitsCount (length nodes.now)) }
     {
         if judging::is_any_node_unknown(nodes, named) {
@@ -157,10 +153,8 @@ impl Fault {
         bumps: &[B],
     ) -> Result<Fault, FaultError>
         ensures made { MatchResult result
-            (λ fault. (fault ≡ Bump (filter_map (B.bumped nodes.now) bumps.now))
-            × AreAllFound (B.bumped nodes.now) bumps.now
-            × (are_bumps (filter_map (B.bumped nodes.now) bumps.now) ≡ true))
-            (RefusesBumpsBy (B.bumped nodes.now) bumps.now) }
+            (λ fault. judged_bumps (B.bumped nodes.now) bumps.now ≡ Ok fault)
+            (RefusesFault (judged_bumps (B.bumped nodes.now) bumps.now) bumps.now) }
         ensures fits { IfOk result (FitsCount (length nodes.now)) }
     {
         if judging::is_any_bump_unknown(nodes, bumps) {
@@ -184,7 +178,8 @@ impl Fault {
         ensures made { MatchResult result
             (λ fault. (fault ≡ Cut (kept_links links.now))
             × AreLinksOf (length nodes.now) links.now)
-            (RefusesLinks (length nodes.now) links.now ⊤) }
+            (RefusesFault (judged_links (known_link nodes.now) (link_fault_of GivenLinkFault.Cut)
+            links.now) links.now) }
         ensures fits { IfOk result (FitsCount (length nodes.now)) }
     {
         Fault::on_links(alloc, nodes, GivenLinkFault::Cut, links)
@@ -203,7 +198,8 @@ impl Fault {
         ensures made { MatchResult result
             (λ fault. (fault ≡ Slow ms (kept_links links.now))
             × AreLinksOf (length nodes.now) links.now × IsSlowAmount ms)
-            (RefusesLinks (length nodes.now) links.now (IsSlowAmount ms)) }
+            (RefusesFault (judged_links (known_link nodes.now)
+            (link_fault_of (GivenLinkFault.Slow (pos ms))) links.now) links.now) }
         ensures fits { IfOk result (FitsCount (length nodes.now)) }
     {
         Fault::on_links(alloc, nodes, GivenLinkFault::Slow(i128::from(ms)), links)
@@ -221,7 +217,8 @@ impl Fault {
         ensures made { MatchResult result
             (λ fault. (fault ≡ Loss level (kept_links links.now))
             × AreLinksOf (length nodes.now) links.now × IsLossAmount level)
-            (RefusesLinks (length nodes.now) links.now (IsLossAmount level)) }
+            (RefusesFault (judged_links (known_link nodes.now)
+            (link_fault_of (GivenLinkFault.Loss (pos level))) links.now) links.now) }
         ensures fits { IfOk result (FitsCount (length nodes.now)) }
     {
         Fault::on_links(alloc, nodes, GivenLinkFault::Loss(i128::from(level)), links)
@@ -241,7 +238,8 @@ impl Fault {
         ensures made { MatchResult result
             (λ fault. (fault ≡ Fix ms (kept_links links.now))
             × AreLinksOf (length nodes.now) links.now × IsFixAmount ms)
-            (RefusesLinks (length nodes.now) links.now (IsFixAmount ms)) }
+            (RefusesFault (judged_links (known_link nodes.now)
+            (link_fault_of (GivenLinkFault.Fix (pos ms))) links.now) links.now) }
         ensures fits { IfOk result (FitsCount (length nodes.now)) }
     {
         Fault::on_links(alloc, nodes, GivenLinkFault::Fix(i128::from(ms)), links)
@@ -254,7 +252,8 @@ impl Fault {
         ensures made { MatchResult result
             (λ fault. (fault ≡ Pause (kept_nodes paused.now))
             × (list_any (is_unknown_node (length nodes.now)) paused.now ≡ false))
-            (RefusesNodes (length nodes.now) paused.now) }
+            (RefusesFault (judged_nodes (known_node nodes.now) NodeFault.Pause paused.now)
+            paused.now) }
         ensures fits { IfOk result (FitsCount (length nodes.now)) }
     {
         Fault::on_nodes(alloc, nodes, NodeFault::Pause, paused)
@@ -267,7 +266,8 @@ impl Fault {
         ensures made { MatchResult result
             (λ fault. (fault ≡ Kill (kept_nodes killed.now))
             × (list_any (is_unknown_node (length nodes.now)) killed.now ≡ false))
-            (RefusesNodes (length nodes.now) killed.now) }
+            (RefusesFault (judged_nodes (known_node nodes.now) NodeFault.Kill killed.now)
+            killed.now) }
         ensures fits { IfOk result (FitsCount (length nodes.now)) }
     {
         Fault::on_nodes(alloc, nodes, NodeFault::Kill, killed)
@@ -283,7 +283,7 @@ impl Fault {
             (λ fault. (fault ≡ Bump bumps.now)
             × (list_any (is_unknown_bump (length nodes.now)) bumps.now ≡ false)
             × AreBumps bumps.now)
-            (RefusesBumps (length nodes.now) bumps.now) }
+            (RefusesFault (judged_bumps (known_bump nodes.now) bumps.now) bumps.now) }
         ensures fits { IfOk result (FitsCount (length nodes.now)) }
     {
         Fault::of_bumps(alloc, nodes, bumps)

@@ -1,14 +1,14 @@
-//! Whether a fault is refused, whether its links, nodes or bumps are given by nodes, places or
-//! names. `specs/Naming.antt` has the rules, and no other file judges a fault; only memory may be
-//! refused later, while a fault is kept.
+//! Why a fault is refused, however its links, nodes or bumps are given: an unknown node, a link of
+//! a node with itself, an amount out of its range, a node that is bumped twice. `specs/Naming.antt`
+//! has the rule. Which amounts of a fault of links are in their ranges says `amounts.rt`; memory may
+//! be refused later, while a fault is kept (`keeping.rt`).
 
-ghost use Rattle.std.specs.Prelude.{◌≡◌, ◌≢◌, ◌==◌, [], Some, MatchResult, is_none};
+ghost use Rattle.std.specs.Prelude.{◌≡◌, ◌==◌, [], MatchResult, Ok, Err, is_none};
 ghost use Rattle.std.specs.List.{filter_map, list_all, list_any};
 ghost use Rattle.jh_env.specs.Amounts.{IsLinkAmount, link_fault_of};
-ghost use Rattle.jh_env.specs.Faults.{is_self_link};
+ghost use Rattle.jh_env.specs.Faults.{is_self_link, kept_links};
 ghost use Rattle.jh_env.specs.Naming as rule;
-ghost use Rattle.jh_env.specs.Naming.{AreLinksBy, RefusesLinksBy};
-ghost use Rattle.jh_env.specs.declared.faults.FaultError.TheVariants.{OutOfMemory};
+ghost use Rattle.jh_tables.specs.Plain.{fault_on_links};
 
 use crate::amounts::GivenLinkFault;
 use crate::faults::{FaultError, MAX_BUMPED_MS};
@@ -96,10 +96,10 @@ pub(crate) fn judged_links<L: NamesLink>(
     links: &[L],
 ) -> Result<LinkFault, FaultError>
     ensures { MatchResult result
-        (λ kind. (link_fault_of given ≡ Some kind) × IsLinkAmount kind
-        × AreLinksBy (L.linked nodes.now) links.now)
-        (λ e. (e ≢ OutOfMemory)
-        × RefusesLinksBy (L.linked nodes.now) (link_fault_of given) links.now e) }
+        (λ kind. IsLinkAmount kind
+        × (rule.judged_links (L.linked nodes.now) (link_fault_of given) links.now
+        ≡ Ok (fault_on_links kind (kept_links (filter_map (L.linked nodes.now) links.now)))))
+        (λ e. rule.judged_links (L.linked nodes.now) (link_fault_of given) links.now ≡ Err e) }
 {
     if is_any_end_unknown(nodes, links) {
         return Err(FaultError::UnknownNode);

@@ -1,6 +1,6 @@
 -- A step that is a value's can be written.
 use Rattle.std.proofs.Common.{◌≡◌, ℕ, ◌+◌, ◌*◌, ◌/◌, ◌%◌, ◌-◌, ◌^◌, ◌<◌, ◌≤◌, inl, inr, Bool, true, false, List, [], length, get_or, codes, filter_map, Option, Some, None, Ok, Err, refl, sym, ap, subst, ◌∙◌, arith}
-use Rattle.std.specs.Prelude.{◌≢◌, ℤ, pos, negsuc, is_none, ◌&&◌, ◌||◌, ◌==◌, nat_le, nat_lt, slice_get, option_map, option_and_then, if◌then◌else◌, IfSome, IfOk, Result}
+use Rattle.std.specs.Prelude.{◌≢◌, ℤ, pos, negsuc, is_none, ◌&&◌, ◌||◌, ◌==◌, nat_le, nat_lt, slice_get, ok_or, option_map, option_and_then, if◌then◌else◌, IfSome, IfOk, Result}
 use Rattle.std.specs.List.{All, AllPairs, list_any, range_with_len}
 use Rattle.std.specs.Str.{bytes_eq}
 use Rattle.std.proofs.lemmas.Bool.{and_parts, or_cases, eqb-true, leb-true, ltb-true, ne_eqb, cases_lt, cases_order}
@@ -12,6 +12,7 @@ use Rattle.std.proofs.lemmas.Option.{slice_get_within, get_or_from_slice_get}
 use Rattle.jh_edn.specs.Edn.{Edn, int, keyword, list, vector, Items, no_items, item, list_of}
 use Rattle.jh_env.specs.Faults.{FaultValue, AreApart, kept_links, kept_nodes, is_self_link, is_same_link, is_same_node}
 use Rattle.jh_env.specs.Faults.{Bump}
+use Rattle.jh_env.specs.declared.faults.FaultError.TheVariants as FaultError
 use Rattle.jh_env.specs.Amounts.{IsLinkAmount, amount_within, link_fault_of}
 use Rattle.jh_env.specs.declared.amounts.GivenLinkFault.{GivenLinkFault}
 use Rattle.jh_env.specs.Names.{node_places}
@@ -21,13 +22,13 @@ use Rattle.jh_tables.specs.declared.faults.NodeFault.{NodeFault}
 use Rattle.jh_env.proofs.FaultLemmas.{kept_apart, kept_all, none_apart}
 use Rattle.jh_env.specs.TextErrors.{place_of}
 use Rattle.jh_env.specs.Naming.{link_names, node_name, bump_spelled, known_pair, ends_of, named_node, bump_of, are_bumps}
-use Rattle.jh_step_texts.specs.FaultText.{FaultSpelling, Links, Nodes, Bumps, SplitOne, Grudge, IsRingOverAll, result_or_refusal, parsed_links, parsed_nodes, parsed_bumps, cut_of, parsed_split, parsed_named, parsed_fault, fault_spelling}
+use Rattle.jh_step_texts.specs.FaultText.{FaultSpelling, Links, Nodes, Bumps, SplitOne, Grudge, IsRingOverAll, fault_or_refusal, result_or_refusal, parsed_links, parsed_nodes, parsed_bumps, cut_of, parsed_split, parsed_named, parsed_fault, fault_spelling}
 use Rattle.jh_step_texts.specs.NamedFaults.{AreLinksAmong, links_that, crosses, crosses_halves, crosses_bridge, touches, leaves_majority, is_at, is_option_of, ring_links, seeded_order}
 use Rattle.jh_step_texts.specs.StepText.{id_of, begin_of_fault, parsed_begin, parsed_withdraw, parsed_keyword, step_of_elements, parsed_step, fault_of_begin}
 use Rattle.jh_nemesis.specs.declared.steps.Step.{Step}
 use Rattle.jh_nemesis.specs.declared.steps.Step.TheVariants.{Withdraw, WithdrawAll, Undo, Redo}
 use Rattle.jh_step_texts.specs.declared.steps.StepTextError.{StepTextError}
-use Rattle.jh_step_texts.specs.declared.steps.StepTextError.TheVariants.{BadStep, BadId, UnknownNode, SelfLink, BadAmount}
+use Rattle.jh_step_texts.specs.declared.steps.StepTextError.TheVariants.{BadStep, BadId, UnknownNode}
 use Rattle.jh_step_texts.specs.declared.spelling.NamedGrudge.{NamedGrudge}
 use Rattle.jh_env.proofs.BumpLemmas.{bumps_right}
 use Rattle.jh_step_texts.proofs.GrudgeLemmas.{made_crossing, places_apart, order_distinct}
@@ -116,19 +117,24 @@ if_needed : {A B : Type 0} (o : Option A) (refusal : StepTextError) (made : A �
 if_needed None refusal made P Q h each = tt
 if_needed (Some x) refusal made P Q h each = each x h
 
+if_judged : (o : Option LinkFault) (made : LinkFault → FaultValue) (P : LinkFault → Type 0) (Q : FaultValue → Type 0) → IfSome o P
+    → ((x : LinkFault) → P x → Q (made x)) → IfOk (fault_or_refusal (ok_or (option_map made o) FaultError.BadAmount)) Q
+if_judged None made P Q h each = tt
+if_judged (Some x) made P Q h each = each x h
+
 links_parsed : (names : List (List ℕ)) (kind : Option LinkFault) (values : List Edn) → IfSome kind IsLinkAmount → IfOk (parsed_links names kind values) (IsFaultOn (length names))
 links_parsed names kind values right =
     let n = length names in
     let ends = filter_map (ends_of names) values in
-    let made : LinkFault → Result FaultValue StepTextError = λ kind. Ok (fault_on_links kind (kept_links ends)) in
+    let made : LinkFault → FaultValue = λ kind. fault_on_links kind (kept_links ends) in
     let known = All-from_recursion (Joins n) ends (all_kept (ends_of names) (Joins n) (ends_below names) values) in
     elim (list_any (λ l. is_none (ends_of names l)) values)
-    as (λ t. IfOk (if t then Err UnknownNode else if list_any is_self_link ends then Err SelfLink else result_or_refusal kind BadAmount made) (IsFaultOn n)) [
+    as (λ t. IfOk (fault_or_refusal (if t then Err FaultError.UnknownNode else if list_any is_self_link ends then Err FaultError.SelfLink else ok_or (option_map made kind) FaultError.BadAmount)) (IsFaultOn n)) [
       | true ↦ tt
       | false ↦ elim (list_any is_self_link ends)
-          as (λ t. list_any is_self_link ends ≡ t → IfOk (if t then Err SelfLink else result_or_refusal kind BadAmount made) (IsFaultOn n)) [
+          as (λ t. list_any is_self_link ends ≡ t → IfOk (fault_or_refusal (if t then Err FaultError.SelfLink else ok_or (option_map made kind) FaultError.BadAmount)) (IsFaultOn n)) [
             | true ↦ λ is. tt
-            | false ↦ λ is. if_needed kind BadAmount made IsLinkAmount (IsFaultOn n) right (λ kind right. links_made n kind ends right known is)
+            | false ↦ λ is. if_judged kind made IsLinkAmount (IsFaultOn n) right (λ kind right. links_made n kind ends right known is)
           ] refl
     ]
 
@@ -145,7 +151,7 @@ nodes_parsed names kind values =
     let n = length names in
     let nodes = filter_map (named_node names) values in
     let known = All-from_recursion (λ a. a < n) nodes (all_kept (named_node names) (λ a. a < n) (node_below names) values) in
-    elim (list_any (λ v. is_none (named_node names v)) values) as (λ t. IfOk (if t then Err UnknownNode else Ok (fault_on_nodes kind (kept_nodes nodes))) (IsFaultOn n)) [
+    elim (list_any (λ v. is_none (named_node names v)) values) as (λ t. IfOk (fault_or_refusal (if t then Err FaultError.UnknownNode else Ok (fault_on_nodes kind (kept_nodes nodes)))) (IsFaultOn n)) [
       | true ↦ tt
       | false ↦ nodes_made n kind nodes known
     ]
@@ -156,9 +162,9 @@ bumps_parsed names values =
     let bumps = filter_map (bump_of names) values in
     let known = All-from_recursion (λ b. b.0 < n) bumps (all_kept (bump_of names) (λ b. b.0 < n) (bump_below names) values) in
     elim (list_any (λ b. is_none (bump_of names b)) values)
-    as (λ t. IfOk (if t then Err UnknownNode else if are_bumps bumps then Ok (Bump bumps) else Err BadAmount) (IsFaultOn n)) [
+    as (λ t. IfOk (fault_or_refusal (if t then Err FaultError.UnknownNode else if are_bumps bumps then Ok (Bump bumps) else Err FaultError.BadAmount)) (IsFaultOn n)) [
       | true ↦ tt
-      | false ↦ elim (are_bumps bumps) as (λ t. are_bumps bumps ≡ t → IfOk (if t then Ok (Bump bumps) else Err BadAmount) (IsFaultOn n)) [
+      | false ↦ elim (are_bumps bumps) as (λ t. are_bumps bumps ≡ t → IfOk (fault_or_refusal (if t then Ok (Bump bumps) else Err FaultError.BadAmount)) (IsFaultOn n)) [
         | true ↦ λ is. record { fits = known; is_fault = bumps_right bumps is; others = refl }
         | false ↦ λ is. tt
       ] refl

@@ -1,21 +1,24 @@
 -- The links between two sides of an order, and why a fault of links or nodes that are there is refused.
 use Rattle.std.proofs.Common.{◌≡◌, ℕ, ◌<◌, ◌≤◌, true, false, List, [], ◌∷◌, ◌++◌, get_or, length, take, drop, refl, sym, ap, subst, ◌∙◌, inl, inr, arith}
-use Rattle.std.specs.Prelude.{◌≢◌, if◌then◌else◌, ℤ, Bool, map, IsPermutation, IfErr, IfOk, MatchResult, Result, Ok, Err}
+use Rattle.std.specs.Prelude.{◌≢◌, if◌then◌else◌, ℤ, Bool, map, IsPermutation, IsSome, Option, IfErr, IfOk, MatchResult, Result, Ok, Err}
 use lib.Seq.{length-take-le}
 use Rattle.std.specs.List.{All, AllPairs, Contains, list_any}
-use Rattle.std.proofs.lemmas.Grind.{common_steps}
-use Rattle.std.proofs.lemmas.Bool.{both_ways as differ, eqb-true, or_from, or_parts}
+use Rattle.std.proofs.lemmas.Bool.{eqb-true, or_from, or_parts}
 use Rattle.std.proofs.lemmas.List.{get_or-map, get_or-take, length-map, take-append-drop}
 use Rattle.std.proofs.lemmas.List.Elements.{All-nil, All-cons, All-append, All-map, All-take, All-contains, Contains-append_left, Contains-append_right}
 use Rattle.std.proofs.lemmas.List.Folds.{list_any-append}
-use Rattle.jh_env.specs.Faults.{FaultValue, AreApart, kept_list, kept_links, is_self_link, is_same_link, IsBumpAmount, RefusesBumps, RefusesLinks, RefusesNodes, is_unknown_bump, is_unknown_link, is_unknown_node, is_same_bumped}
+use Rattle.jh_env.specs.Faults.{FaultValue, AreApart, kept_list, kept_links, is_self_link, is_same_link, IsBumpAmount, is_same_bumped}
+use Rattle.jh_env.specs.Naming.{RefusesFault, judged_bumps, judged_links, judged_nodes, known_bump, known_link, known_node}
+use Rattle.jh_tables.specs.declared.faults.LinkFault.{LinkFault}
+use Rattle.jh_tables.specs.declared.faults.NodeFault.{NodeFault}
 use Rattle.jh_env.specs.declared.faults.FaultError.TheVariants as FaultError
-use Rattle.jh_env.proofs.FaultLemmas.{known_bumps, known_nodes}
+use Rattle.jh_env.proofs.NamingLemmas.{bumps_known_right, memory_alone, nodes_right}
 use Rattle.jh_grudge.specs.Grudges.{JoinsTwoOf}
 use Rattle.jh_grudge.specs.Lists.{AreDistinct}
 use Rattle.jh_env.specs.Names.{node_places}
 use Rattle.jh_step_texts.specs.NamedFaults.{AreLinksAmong}
 use Rattle.jh_step_texts.proofs.LinkLemmas.{all_pairs_head, all_pairs_tail, contains_cons, contains_head, contains_none, contains_tail, some_of_any}
+use Rattle.jh_step_texts.proofs.FaultTextLemmas.{links_memory}
 use Rattle.jh_step_texts.proofs.GrudgeLemmas.{made_among, order_below, order_distinct, order_long}
 use Rattle.jh_laws.specs.StepLines.{HasNoSelfLink, links_of}
 use Rattle.jh_search.specs.FaultsInside.{AreNodesOf}
@@ -80,26 +83,13 @@ joined_among order n below links joins = made_among {E = ℕ} (Ok links) order n
 
 -- ---- refusals
 
-pub links_refused : (n : ℕ) (links : List (ℕ × ℕ)) (amount : Type 0) (e : FaultError.the_data) → AreLinksAmong n links → amount
-    → RefusesLinks n links amount e → e ≡ FaultError.OutOfMemory
-links_refused n links amount FaultError.UnknownNode among right refused =
-    let (l, has, hit) = some_of_any (is_unknown_link n) links refused in
-    let (from, to, apart) = All-contains (λ l. (l.0 < n) × (l.1 < n) × (l.0 ≢ l.1)) links l among has in
-    let known : is_unknown_link n l ≡ false = grind (arith, common_steps) in
-    absurd (differ (is_unknown_link n l) known hit)
-links_refused n links amount FaultError.SelfLink among right refused =
-    let (l, has, hit) = some_of_any is_self_link links refused.1 in
-    let (from, to, apart) = All-contains (λ l. (l.0 < n) × (l.1 < n) × (l.0 ≢ l.1)) links l among has in
-    absurd (apart (eqb-true l.0 l.1 hit))
-links_refused n links amount FaultError.BadAmount among right refused = absurd (refused.1 right)
-links_refused n links amount FaultError.OutOfMemory among right refused = refl
+pub links_refused : (names : List (List ℕ)) (links : List (ℕ × ℕ)) (kind : Option LinkFault) (e : FaultError.the_data) → AreLinksAmong (length names) links → IsSome kind
+    → RefusesFault (judged_links (known_link names) kind links) links e → e ≡ FaultError.OutOfMemory
+links_refused names links kind e among right refused = links_memory names kind links e among right refused
 
-pub nodes_refused : (n : ℕ) (nodes : List ℕ) (e : FaultError.the_data) → All (λ a. a < n) nodes → RefusesNodes n nodes e
-    → e ≡ FaultError.OutOfMemory
-nodes_refused n nodes FaultError.UnknownNode below refused = absurd (differ (list_any (is_unknown_node n) nodes) (known_nodes n nodes below) refused)
-nodes_refused n nodes FaultError.SelfLink below refused = absurd refused
-nodes_refused n nodes FaultError.BadAmount below refused = absurd refused
-nodes_refused n nodes FaultError.OutOfMemory below refused = refl
+pub nodes_refused : (names : List (List ℕ)) (kind : NodeFault) (nodes : List ℕ) (e : FaultError.the_data) → All (λ a. a < length names) nodes
+    → RefusesFault (judged_nodes (known_node names) kind nodes) nodes e → e ≡ FaultError.OutOfMemory
+nodes_refused names kind nodes e below refused = memory_alone (judged_nodes (known_node names) kind nodes) nodes e (nodes_right names kind nodes below) refused
 
 -- the first of distinct nodes are distinct
 pub taken_distinct : (k : ℕ) (nodes : List ℕ) → k ≤ length nodes → AreDistinct nodes → AreDistinct (take k nodes)
@@ -138,14 +128,12 @@ bumps_apart nodes ms distinct i d below =
       | true ↦ λ is. (let (x, has, hit) = some_of_any p (take i bumps) is in absurd (bump_alone nodes ms i has.0 d x distinct below has.1 has.2 hit))
     ] refl
 
-pub bumps_refused : (n : ℕ) (nodes : List ℕ) (ms : ℤ) (e : FaultError.the_data) → All (λ a. a < n) nodes → AreDistinct nodes
-    → All (λ b. IsBumpAmount b.1) (bumped ms nodes) → RefusesBumps n (bumped ms nodes) e → e ≡ FaultError.OutOfMemory
-bumps_refused n nodes ms FaultError.UnknownNode below distinct right refused =
+pub bumps_refused : (names : List (List ℕ)) (nodes : List ℕ) (ms : ℤ) (e : FaultError.the_data) → All (λ a. a < length names) nodes → AreDistinct nodes
+    → All (λ b. IsBumpAmount b.1) (bumped ms nodes) → RefusesFault (judged_bumps (known_bump names) (bumped ms nodes)) (bumped ms nodes) e → e ≡ FaultError.OutOfMemory
+bumps_refused names nodes ms e below distinct right refused =
     let f : ℕ → ℕ × ℤ = λ node. (node, ms) in
-    absurd (differ (list_any (is_unknown_bump n) (bumped ms nodes)) (known_bumps n (bumped ms nodes) (All-map (λ b. b.0 < n) f nodes below)) refused)
-bumps_refused n nodes ms FaultError.SelfLink below distinct right refused = absurd refused
-bumps_refused n nodes ms FaultError.BadAmount below distinct right refused = absurd (refused.1 (right, bumps_apart nodes ms distinct))
-bumps_refused n nodes ms FaultError.OutOfMemory below distinct right refused = refl
+    memory_alone (judged_bumps (known_bump names) (bumped ms nodes)) (bumped ms nodes) e
+    (bumps_known_right names (bumped ms nodes) (All-map (λ b. b.0 < length names) f nodes below) (right, bumps_apart nodes ms distinct)) refused
 
 -- what is true of a fault is true of it where it is made
 pub made_so : {X E F : Type 0} (P : X → Type 0) (answer : Result X E) (made : Result X F) → IfOk made (λ fault. answer ≡ Ok fault) → IfOk answer P

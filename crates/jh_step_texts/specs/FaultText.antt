@@ -4,20 +4,19 @@
 -- node's; or a cut that is named by a grudge over all nodes: `[:halves]`, `[:split-one "n1"]`,
 -- `[:bridge]`, `[:ring]` and `[:ring SEED]`. A new kind of fault is a new case here.
 use Rattle.std.specs.Prelude.{◌≡◌, ℕ, ◌^◌, ◌&&◌, ◌⊎◌, Bool, true, ℤ, pos, negsuc, List, [], ◌∷◌}
-use Rattle.std.specs.Prelude.{◌++◌, length, codes, not, nat_lt, nat_le, if◌then◌else◌, is_none}
+use Rattle.std.specs.Prelude.{◌++◌, length, codes, not, nat_lt, nat_le, if◌then◌else◌}
 use Rattle.std.specs.Prelude.{is_some, option_and_then, option_map, Option, Some, None}
 use Rattle.std.specs.Prelude.{Result, Ok, Err, MatchResult, IsOk}
-use Rattle.std.specs.List.{filter_map, list_all, list_any}
+use Rattle.std.specs.List.{list_all}
 use Rattle.std.specs.Str.{bytes_eq}
 use Rattle.jh_edn.specs.Edn.{Edn, int, str, keyword, mapping, elements_of, pairs_in}
 use Rattle.jh_env.specs.Amounts.{link_fault_of}
 use Rattle.jh_env.specs.declared.amounts.GivenLinkFault.{GivenLinkFault}
-use Rattle.jh_env.specs.Faults.{FaultValue, kept_links, kept_nodes, is_self_link, Cut, Bump}
-use Rattle.jh_env.specs.Naming.{are_bumps, bump_of, bump_spelled, ends_of, link_names, named_node}
-use Rattle.jh_env.specs.Naming.{node_name}
+use Rattle.jh_env.specs.Faults.{FaultValue, kept_links, Cut}
+use Rattle.jh_env.specs.Naming.{bump_of, bump_spelled, ends_of, judged_bumps, judged_links}
+use Rattle.jh_env.specs.Naming.{judged_nodes, link_names, named_node, node_name}
 use Rattle.jh_env.specs.TextErrors.{place_of}
 use Rattle.jh_env.specs.declared.faults.FaultError.TheVariants as FaultError
-use Rattle.jh_tables.specs.Plain.{fault_on_links, fault_on_nodes}
 use Rattle.jh_tables.specs.declared.faults.LinkFault.{LinkFault}
 use Rattle.jh_tables.specs.declared.faults.NodeFault.{NodeFault}
 use Rattle.jh_step_texts.specs.declared.steps.StepTextError.{StepTextError}
@@ -119,25 +118,28 @@ abbrev pub result_or_refusal : {A B : Type 0} → Option A → StepTextError
 result_or_refusal None refusal parsed = Err refusal
 result_or_refusal (Some part) refusal parsed = parsed part
 
+-- the refusal of a step whose fault is refused
+abbrev pub refusal_of : FaultError.the_data → StepTextError
+refusal_of FaultError.UnknownNode = UnknownNode
+refusal_of FaultError.SelfLink = SelfLink
+refusal_of FaultError.BadAmount = BadAmount
+refusal_of FaultError.OutOfMemory = OutOfMemory
+
+-- a fault as an environment judges it, refused as a step is
+abbrev pub fault_or_refusal : Result FaultValue FaultError.the_data
+    → Result FaultValue StepTextError
+fault_or_refusal (Ok fault) = Ok fault
+fault_or_refusal (Err refusal) = Err (refusal_of refusal)
+
 abbrev pub parsed_links : List (List ℕ) → Option LinkFault → List Edn
     → Result FaultValue StepTextError
-parsed_links names kind links =
-    if list_any (λ l. is_none (ends_of names l)) links then Err UnknownNode
-    else if list_any is_self_link (filter_map (ends_of names) links) then Err SelfLink
-    else result_or_refusal kind BadAmount
-    (λ kind. Ok (fault_on_links kind (kept_links (filter_map (ends_of names) links))))
+parsed_links names kind links = fault_or_refusal (judged_links (ends_of names) kind links)
 
 abbrev pub parsed_nodes : List (List ℕ) → NodeFault → List Edn → Result FaultValue StepTextError
-parsed_nodes names kind nodes =
-    if list_any (λ n. is_none (named_node names n)) nodes then Err UnknownNode
-    else Ok (fault_on_nodes kind (kept_nodes (filter_map (named_node names) nodes)))
+parsed_nodes names kind nodes = fault_or_refusal (judged_nodes (named_node names) kind nodes)
 
 abbrev pub parsed_bumps : List (List ℕ) → List (Edn × Edn) → Result FaultValue StepTextError
-parsed_bumps names bumps =
-    if list_any (λ b. is_none (bump_of names b)) bumps then Err UnknownNode
-    else if are_bumps (filter_map (bump_of names) bumps)
-    then Ok (Bump (filter_map (bump_of names) bumps))
-    else Err BadAmount
+parsed_bumps names bumps = fault_or_refusal (judged_bumps (bump_of names) bumps)
 
 -- a cut of these links
 abbrev pub cut_of : List (ℕ × ℕ) → FaultValue
@@ -167,10 +169,3 @@ abbrev pub IsParsedAs : {A : Type 0} → Result A StepTextError → Result A Ste
 IsParsedAs answer parsed =
     MatchResult answer (λ x. parsed ≡ Ok x)
     (λ e. (parsed ≡ Err e) ⊎ ((e ≡ OutOfMemory) × IsOk parsed))
-
--- the refusal of a step whose fault is refused
-abbrev pub refusal_of : FaultError.the_data → StepTextError
-refusal_of FaultError.UnknownNode = UnknownNode
-refusal_of FaultError.SelfLink = SelfLink
-refusal_of FaultError.BadAmount = BadAmount
-refusal_of FaultError.OutOfMemory = OutOfMemory

@@ -1,7 +1,10 @@
 use Rattle.std.proofs.Common.{length, ap, subst, sym, ◌∙◌}
 use Rattle.std.proofs.lemmas.Result.{IfOk-weaker}
-use Rattle.jh_env.specs.Faults as env
+use Rattle.std.specs.Prelude.{pos}
+use Rattle.jh_env.specs.Amounts.{link_fault_of}
 use Rattle.jh_env.specs.Faults.{FitsCount, Slow, kept_links}
+use Rattle.jh_env.specs.declared.amounts.GivenLinkFault.TheVariants as Given
+use Rattle.jh_env.proofs.AmountLemmas.{given_slow}
 use Rattle.jh_step_texts.specs.NamedFaults.{AreLinksAmong}
 use Rattle.jh_laws.specs.StepLines.{links_of}
 use Rattle.jh_laws.specs.StepLines.{HasNoSelfLink}
@@ -12,7 +15,7 @@ pub made-requires : goal.made-requires
 made-requires c =
     let n = length c.args.nodes.now in
     let among : AreLinksAmong n c.deref.result.now = subst (AreLinksAmong n) (sym c.deref.ensures.value) c.in_ok-links.ensures.among in
-    only_memory _ _ c.slow.result (λ e refused. links_refused n c.deref.result.now (env.IsSlowAmount c.args.ms) e among c.requires.amount refused) c.slow.ensures.made
+    only_memory _ _ c.slow.result (λ e refused. links_refused c.args.nodes.now c.deref.result.now (link_fault_of (Given.Slow (pos c.args.ms))) e among (given_slow c.args.ms c.requires.amount) refused) c.slow.ensures.made
 
 pub returns-clause-made : goal.returns-clause-made
 returns-clause-made c =
