@@ -1,6 +1,6 @@
--- The text that is written of a generator (the names are those of jepsen.generator; the forms are
+-- The value that is written of a generator (the names are those of jepsen.generator; the forms are
 -- this project's own): of the forms that `parsed_generator` of jh_gen reads, the vectors. A new
--- kind is a new line of `text_of_generator` and of `IsWritableGenerator`.
+-- kind is a new line of `edn_of_generator` and of `IsWritableGenerator`.
 use Rattle.std.specs.Prelude.{ℕ, ◌^◌, ◌<◌, pos, List, [], ◌∷◌, ◌++◌, codes}
 use Rattle.jh_edn.specs.Edn.{Edn, int, keyword, vector, items_of}
 use Rattle.jh_gen.specs.Generator.{Generator, nothing, once, rising, forever, seq, limit, mix}
@@ -16,46 +16,46 @@ use Rattle.jh_ops.specs.declared.call.Request.TheVariants.{Read, Write, Cas, Add
 abbrev pub named : List ℕ → List Edn → Edn
 named name parts = vector (items_of (keyword name ∷ parts))
 
--- the text of a call
-abbrev pub text_of_call : Call → Edn
-text_of_call (Client Read) = keyword (codes "read")
-text_of_call (Client (Write z)) = named (codes "write") (int z ∷ [])
-text_of_call (Client (Cas old new)) = named (codes "cas") (int old ∷ int new ∷ [])
-text_of_call (Client (Add z)) = named (codes "add") (int z ∷ [])
-text_of_call (Client Generate) = keyword (codes "generate")
-text_of_call (Client Txn) = keyword (codes "txn")
-text_of_call (Step i) = named (codes "step") (int (pos i) ∷ [])
+-- the value that spells a call
+abbrev pub edn_of_call : Call → Edn
+edn_of_call (Client Read) = keyword (codes "read")
+edn_of_call (Client (Write z)) = named (codes "write") (int z ∷ [])
+edn_of_call (Client (Cas old new)) = named (codes "cas") (int old ∷ int new ∷ [])
+edn_of_call (Client (Add z)) = named (codes "add") (int z ∷ [])
+edn_of_call (Client Generate) = keyword (codes "generate")
+edn_of_call (Client Txn) = keyword (codes "txn")
+edn_of_call (Step i) = named (codes "step") (int (pos i) ∷ [])
 
 abbrev pub rising_name : Rise → List ℕ
 rising_name Adds = codes "rising"
 rising_name Writes = codes "rising-write"
 
 abbrev mutual
-  -- the text of a generator
-  pub text_of_generator : Generator → Edn
-  text_of_generator nothing = named (codes "nil") []
-  text_of_generator (once call) = named (codes "once") (text_of_call call ∷ [])
-  text_of_generator (rising r z) = named (rising_name r) (int z ∷ [])
-  text_of_generator (forever call) = named (codes "forever") (text_of_call call ∷ [])
-  text_of_generator (seq gs) = named (codes "seq") (texts_of_generators gs)
-  text_of_generator (limit n g) = named (codes "limit") (int (pos n) ∷ text_of_generator g ∷ [])
-  text_of_generator (mix gs) = named (codes "mix") (texts_of_generators gs)
-  text_of_generator (phases gs) = named (codes "phases") (texts_of_generators gs)
-  text_of_generator (reserve ms g) =
-      named (codes "reserve") (texts_of_shares ms ++ text_of_generator g ∷ [])
-  text_of_generator (each_thread g) = named (codes "each-thread") (text_of_generator g ∷ [])
-  text_of_generator (clients g) = named (codes "clients") (text_of_generator g ∷ [])
-  text_of_generator (nemesis_only g) = named (codes "nemesis") (text_of_generator g ∷ [])
+  -- the value that spells a generator
+  pub edn_of_generator : Generator → Edn
+  edn_of_generator nothing = named (codes "nil") []
+  edn_of_generator (once call) = named (codes "once") (edn_of_call call ∷ [])
+  edn_of_generator (rising r z) = named (rising_name r) (int z ∷ [])
+  edn_of_generator (forever call) = named (codes "forever") (edn_of_call call ∷ [])
+  edn_of_generator (seq gs) = named (codes "seq") (values_of_generators gs)
+  edn_of_generator (limit n g) = named (codes "limit") (int (pos n) ∷ edn_of_generator g ∷ [])
+  edn_of_generator (mix gs) = named (codes "mix") (values_of_generators gs)
+  edn_of_generator (phases gs) = named (codes "phases") (values_of_generators gs)
+  edn_of_generator (reserve ms g) =
+      named (codes "reserve") (values_of_shares ms ++ edn_of_generator g ∷ [])
+  edn_of_generator (each_thread g) = named (codes "each-thread") (edn_of_generator g ∷ [])
+  edn_of_generator (clients g) = named (codes "clients") (edn_of_generator g ∷ [])
+  edn_of_generator (nemesis_only g) = named (codes "nemesis") (edn_of_generator g ∷ [])
 
-  -- the text of each generator, in order
-  pub texts_of_generators : Generators → List Edn
-  texts_of_generators no_generators = []
-  texts_of_generators (generator g gs) = text_of_generator g ∷ texts_of_generators gs
+  -- the value of each generator, in order
+  pub values_of_generators : Generators → List Edn
+  values_of_generators no_generators = []
+  values_of_generators (generator g gs) = edn_of_generator g ∷ values_of_generators gs
 
-  -- the number of each share and the text of its generator, in order
-  pub texts_of_shares : ShareList → List Edn
-  texts_of_shares no_shares = []
-  texts_of_shares (share n g ms) = int (pos n) ∷ text_of_generator g ∷ texts_of_shares ms
+  -- the number of each share and the value of its generator, in order
+  pub values_of_shares : ShareList → List Edn
+  values_of_shares no_shares = []
+  values_of_shares (share n g ms) = int (pos n) ∷ edn_of_generator g ∷ values_of_shares ms
 
 -- the place of a step is below 2^32
 abbrev pub IsWritableCall : Call → Type 0

@@ -10,9 +10,9 @@ ghost use Rattle.jh_gen.specs.View.{generator_of};
 ghost use Rattle.jh_gen_texts.specs.GeneratorWritten as text;
 ghost use Rattle.jh_gen_texts.specs.GeneratorWritten.{IsWritableGenerator, AreWritable};
 ghost use Rattle.jh_gen_texts.specs.GeneratorWritten.{AreWritableShares};
-ghost use Rattle.jh_gen_texts.specs.GeneratorWritten.{IsWritableCall, text_of_call};
-ghost use Rattle.jh_gen_texts.specs.GeneratorWritten.{text_of_generator, texts_of_generators};
-ghost use Rattle.jh_gen_texts.specs.GeneratorWritten.{texts_of_shares};
+ghost use Rattle.jh_gen_texts.specs.GeneratorWritten.{IsWritableCall, edn_of_call};
+ghost use Rattle.jh_gen_texts.specs.GeneratorWritten.{edn_of_generator, values_of_generators};
+ghost use Rattle.jh_gen_texts.specs.GeneratorWritten.{values_of_shares};
 
 use jh_edn::{Value, Values};
 use jh_gen::{Gen, Gens, Rise, Shares};
@@ -64,7 +64,7 @@ fn named_pair(alloc: Global, name: &str, one: Value, other: Value) -> Result<Val
 
 /// The text of a call.
 fn value_of_call(alloc: Global, call: Call) -> Result<Value, AllocError>
-    ensures text { IfOk result (λ value. view value ≡ text_of_call call) }
+    ensures text { IfOk result (λ value. view value ≡ edn_of_call call) }
     ensures writable { IfOk result (λ _. IsWritableCall call) }
 {
     match call {
@@ -93,7 +93,7 @@ fn rising_name(rise: Rise) -> &'static str
 /// The text of a generator, whose numbers of 32 bits were all looked at on the way.
 #[cycle(written)]
 fn written(alloc: Global, source: &Gen) -> Result<Value, AllocError>
-    ensures text { IfOk result (λ value. view value ≡ text_of_generator (generator_of source.now)) }
+    ensures text { IfOk result (λ value. view value ≡ edn_of_generator (generator_of source.now)) }
     ensures writable { IfOk result (λ _. IsWritableGenerator (generator_of source.now)) }
 {
     match source {
@@ -123,7 +123,7 @@ fn written(alloc: Global, source: &Gen) -> Result<Value, AllocError>
 #[cycle(written)]
 fn row_values(alloc: Global, name: &str, members: &Gens) -> Result<Vec<Value>, AllocError>
     ensures text { IfOk result (λ values. views values.items
-        ≡ keyword name.now ∷ texts_of_generators (row_of members.now)) }
+        ≡ keyword name.now ∷ values_of_generators (row_of members.now)) }
     ensures writable { IfOk result (λ _. AreWritable (row_of members.now)) }
 {
     let mut values = name_alone(alloc, name)?;
@@ -137,7 +137,7 @@ fn row_values(alloc: Global, name: &str, members: &Gens) -> Result<Vec<Value>, A
 #[cycle(written)]
 fn share_values(alloc: Global, name: &str, shares: &Shares) -> Result<Vec<Value>, AllocError>
     ensures text { IfOk result (λ values. views values.items
-        ≡ keyword name.now ∷ texts_of_shares (share_list shares.now)) }
+        ≡ keyword name.now ∷ values_of_shares (share_list shares.now)) }
     ensures writable { IfOk result (λ _. AreWritableShares (share_list shares.now)) }
 {
     let mut values = name_alone(alloc, name)?;
@@ -158,7 +158,7 @@ fn share_values(alloc: Global, name: &str, shares: &Shares) -> Result<Vec<Value>
 ///
 /// Error: memory was refused.
 pub fn value_of_gen(alloc: Global, source: &Gen) -> Result<Value, AllocError>
-    ensures text { IfOk result (λ value. view value ≡ text_of_generator (generator_of source.now)) }
+    ensures text { IfOk result (λ value. view value ≡ edn_of_generator (generator_of source.now)) }
     ensures read_back { IfOk result
         (λ value. parsed_generator (view value) ≡ Some (generator_of source.now)) }
 {

@@ -6,7 +6,7 @@ use Rattle.toml.specs.Data.{string, integer, boolean, array, Members, as_str, as
 use Rattle.jh_env.specs.TextWritten.{edn_of_env}
 use Rattle.jh_ops.specs.declared.call.Workload.{Workload}
 use Rattle.jh_ops.specs.Requests.{workload_name, workload_named, max_calls_of}
-use Rattle.jh_gen_texts.specs.GeneratorWritten.{text_of_generator}
+use Rattle.jh_gen_texts.specs.GeneratorWritten.{edn_of_generator}
 use Rattle.jh_simnode.specs.StoreNames.{store_name, store_named}
 use Rattle.jh_simnode.specs.declared.settings.Store.{Store}
 use Rattle.jh_simnode.specs.declared.schedule.Entry.{Entry}
@@ -86,7 +86,7 @@ module _ (p : PlanValue) (budget : ℕ) where
   pub start_there : data_under Key.Start (document_of p budget) ≡ Some (printed_text (edn_of_env p.env))
   start_there = start_with p.settings.initial
 
-  pub generator_there : data_under Key.Generator (document_of p budget) ≡ Some (printed_text (text_of_generator p.generator))
+  pub generator_there : data_under Key.Generator (document_of p budget) ≡ Some (printed_text (edn_of_generator p.generator))
   generator_there = refl
 
 -- ---- what the values mean

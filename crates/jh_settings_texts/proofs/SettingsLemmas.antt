@@ -22,7 +22,7 @@ use Rattle.jh_step_texts.proofs.FaultOrderLemmas.{in_order_fits}
 use Rattle.jh_nemesis.specs.Steps.{FitsNodes}
 use Rattle.jh_nemesis.specs.declared.steps.Step.{Step}
 use Rattle.jh_nemesis.specs.declared.steps.Step.TheVariants.{Begin, Withdraw, WithdrawAll, Undo, Redo}
-use Rattle.jh_gen_texts.specs.GeneratorWritten.{text_of_generator}
+use Rattle.jh_gen_texts.specs.GeneratorWritten.{edn_of_generator}
 use Rattle.jh_simnode.specs.Plans.{PlanValue, IsFit}
 use Rattle.jh_simnode.specs.declared.schedule.Entry.{Entry}
 use Rattle.jh_settings.specs.declared.choices.Mode.{Mode}
@@ -141,8 +141,8 @@ module _ (p : PlanValue) (budget : ℕ) (can : CanBeWritten p) (known : IsWholly
 
   generator_parsed : IsParsedGenerator (document_of p budget) p.generator
   generator_parsed = (
-    text_of_generator p.generator,
-    (printed_text (text_of_generator p.generator), generator_there p budget, printed_element (text_of_generator p.generator) can.generator),
+    edn_of_generator p.generator,
+    (printed_text (edn_of_generator p.generator), generator_there p budget, printed_element (edn_of_generator p.generator) can.generator),
     known.generator,
   )
 

@@ -10,7 +10,7 @@ use Rattle.jh_edn.specs.Print.{print}
 use Rattle.jh_env.specs.TextWritten.{edn_of_env}
 use Rattle.jh_step_texts.specs.StepWritten.{edn_of_step}
 use Rattle.jh_ops.specs.Requests.{workload_name}
-use Rattle.jh_gen_texts.specs.GeneratorWritten.{text_of_generator}
+use Rattle.jh_gen_texts.specs.GeneratorWritten.{edn_of_generator}
 use Rattle.jh_simnode.specs.StoreNames.{store_name}
 use Rattle.jh_simnode.specs.declared.schedule.Entry.{Entry}
 use Rattle.jh_simnode.specs.Plans.{PlanValue}
@@ -61,7 +61,7 @@ abbrev pub members_before_initial : PlanValue → ℕ → List (Key × Data)
 members_before_initial p budget =
     (Key.Budget, whole_number budget)
     ∷ (Key.Clients, whole_number p.clients)
-    ∷ (Key.Generator, printed_text (text_of_generator p.generator)) ∷ []
+    ∷ (Key.Generator, printed_text (edn_of_generator p.generator)) ∷ []
 
 -- `initial`, where something is held at first
 abbrev pub initial_member : Option ℤ → List (Key × Data)

@@ -10,7 +10,7 @@ use Rattle.jh_env.specs.Starting.{IsStartingLink, IsStartingNode}
 use Rattle.jh_nemesis.specs.declared.steps.Step.{Step}
 use Rattle.jh_nemesis.specs.declared.steps.Step.TheVariants.{Begin}
 use Rattle.jh_ops.specs.declared.call.Workload.{Workload}
-use Rattle.jh_gen_texts.specs.GeneratorWritten.{text_of_generator}
+use Rattle.jh_gen_texts.specs.GeneratorWritten.{edn_of_generator}
 use Rattle.jh_simnode.specs.declared.schedule.Entry.{Entry}
 use Rattle.jh_simnode.specs.Plans.{PlanValue}
 use Rattle.jh_laws.specs.StepLines.{HasNoSelfLink, step_in_order}
@@ -30,7 +30,7 @@ CanBeSaid entry = (entry.at ≤ 10000) × LeadsToOthers entry.step
 pub record CanBeWritten (p : PlanValue) : Type 0 where
   pub links : (a b : ℕ) (link : Link) → link_of p.env a b ≡ Some link → IsStartingLink link
   pub nodes : (a : ℕ) (cell : NodeCell) → node_of p.env a ≡ Some cell → IsStartingNode cell
-  pub generator : IsPrintable depth_limit (text_of_generator p.generator)
+  pub generator : IsPrintable depth_limit (edn_of_generator p.generator)
   pub initial : IfSome p.settings.initial (λ _. p.settings.workload ≡ Workload.Register)
   pub tick_every : p.tick_every ≤ 10000
   pub seed : p.seed < 2 ^ 63

@@ -11,7 +11,7 @@ use Rattle.jh_env.specs.TextWritten.{edn_of_env}
 use Rattle.jh_ops.specs.declared.call.Workload.{Workload}
 use Rattle.jh_ops.specs.Requests.{workload_name}
 use Rattle.jh_gen.specs.GeneratorText.{parsed_generator}
-use Rattle.jh_gen_texts.specs.GeneratorWritten.{text_of_generator}
+use Rattle.jh_gen_texts.specs.GeneratorWritten.{edn_of_generator}
 use Rattle.jh_simnode.specs.Plans.{PlanValue, IsKeptPlan}
 use Rattle.jh_simnode.specs.StoreNames.{store_name}
 use Rattle.jh_settings.specs.declared.keys.Key.{Key}
@@ -38,7 +38,7 @@ abbrev pub put_cluster : PlanValue → Members → Members
 put_cluster p others =
     put_key Key.Workload (string (workload_name p.settings.workload))
     (put_key Key.Store (string (store_name p.settings.store))
-    (put_key Key.Generator (printed_text (text_of_generator p.generator))
+    (put_key Key.Generator (printed_text (edn_of_generator p.generator))
     (put_key Key.Start (printed_text (edn_of_env p.env)) others)))
 
 -- the members with what is held at first, if anything
@@ -72,7 +72,7 @@ put_schedule p others =
 pub record IsWhollyKnown (p : PlanValue) : Type 0 where
   pub kept : IsKeptPlan p
   pub start : CanStart p.env
-  pub generator : parsed_generator (text_of_generator p.generator) ≡ Some p.generator
+  pub generator : parsed_generator (edn_of_generator p.generator) ≡ Some p.generator
   pub steps : All (λ entry. IsStepOver (length p.env.names) entry.step) p.schedule
 
 -- only a register holds something at first, and numbers are in the ranges of their keys
@@ -84,7 +84,7 @@ pub record HasWritableNumbers (p : PlanValue) : Type 0 where
 -- the start and the generator have texts that are read back
 pub record HasWritableTexts (p : PlanValue) : Type 0 where
   pub start : IsStarting p.env
-  pub generator : IsPrintable depth_limit (text_of_generator p.generator)
+  pub generator : IsPrintable depth_limit (edn_of_generator p.generator)
 
 -- and the numbers and the schedule can be written
 pub record HasWritableLoad (p : PlanValue) : Type 0 where

@@ -6,15 +6,15 @@ ghost use Rattle.jh_edn.specs.Printable.{ArePrintable, IsPrintable};
 ghost use Rattle.jh_ops.specs.declared.call.Call.TheVariants.{Client};
 ghost use Rattle.jh_gen.specs.Generator.{row_of, share_list};
 ghost use Rattle.jh_gen.specs.View.{generator_of};
-ghost use Rattle.jh_gen_texts.specs.GeneratorWritten.{text_of_call, text_of_generator};
-ghost use Rattle.jh_gen_texts.specs.GeneratorWritten.{texts_of_generators, texts_of_shares};
+ghost use Rattle.jh_gen_texts.specs.GeneratorWritten.{edn_of_call, edn_of_generator};
+ghost use Rattle.jh_gen_texts.specs.GeneratorWritten.{values_of_generators, values_of_shares};
 
 use jh_gen::{Gen, Gens, Shares};
 use jh_ops::{Call, Request};
 
 /// Whether the text of a request has at most so many levels: none, or one.
 fn is_request_within(request: Request, depth: u32) -> bool
-    ensures { IsTrue result ↔ IsPrintable depth (text_of_call (Client request)) }
+    ensures { IsTrue result ↔ IsPrintable depth (edn_of_call (Client request)) }
 {
     match request {
         Request::Read => true,
@@ -28,7 +28,7 @@ fn is_request_within(request: Request, depth: u32) -> bool
 
 /// Whether the text of a call has at most so many levels: none, or one.
 fn is_call_within(call: Call, depth: u32) -> bool
-    ensures { IsTrue result ↔ IsPrintable depth (text_of_call call) }
+    ensures { IsTrue result ↔ IsPrintable depth (edn_of_call call) }
 {
     match call {
         Call::Client(request) => is_request_within(request, depth),
@@ -39,7 +39,7 @@ fn is_call_within(call: Call, depth: u32) -> bool
 /// Whether the text of a generator has at most so many levels of vectors.
 #[cycle(within)]
 pub(crate) fn is_within(source: &Gen, depth: u32) -> bool
-    ensures { IsTrue result ↔ IsPrintable depth (text_of_generator (generator_of source.now)) }
+    ensures { IsTrue result ↔ IsPrintable depth (edn_of_generator (generator_of source.now)) }
 {
     if depth == 0 {
         return false;
@@ -74,7 +74,7 @@ pub(crate) fn is_within(source: &Gen, depth: u32) -> bool
 #[cycle(within)]
 fn are_within(members: &Gens, depth: u32) -> bool
     ensures { IsTrue result
-        ↔ ArePrintable depth (items_of (texts_of_generators (row_of members.now))) }
+        ↔ ArePrintable depth (items_of (values_of_generators (row_of members.now))) }
 {
     for member in members.as_slice() {
         if !is_within(member, depth) {
@@ -88,7 +88,7 @@ fn are_within(members: &Gens, depth: u32) -> bool
 #[cycle(within)]
 fn shares_are_within(shares: &Shares, depth: u32) -> bool
     ensures { IsTrue result
-        ↔ ArePrintable depth (items_of (texts_of_shares (share_list shares.now))) }
+        ↔ ArePrintable depth (items_of (values_of_shares (share_list shares.now))) }
 {
     for (count, part) in shares.as_slice() {
         // It fits its bits, as a text wants.

@@ -13,7 +13,7 @@ ghost use Rattle.jh_env.specs.TextWritten.{edn_of_env};
 ghost use Rattle.jh_nemesis.specs.Steps.{FitsNodes};
 ghost use Rattle.jh_gen.specs.GeneratorText.{parsed_generator};
 ghost use Rattle.jh_gen.specs.View.{generator_of};
-ghost use Rattle.jh_gen_texts.specs.GeneratorWritten.{text_of_generator};
+ghost use Rattle.jh_gen_texts.specs.GeneratorWritten.{edn_of_generator};
 ghost use Rattle.jh_laws.specs.StepLines.{IsStepOver};
 ghost use Rattle.jh_settings_texts.specs.DocumentWritten.{entry_value, spread_value};
 ghost use Rattle.jh_settings_texts.specs.SettingsWritten.{LeadsToOthers};
@@ -54,11 +54,11 @@ pub(crate) fn start_text(alloc: Global, env: &Env) -> Result<String, AllocError>
 
 /// What is printed of a generator, whose text is read back as this generator.
 pub(crate) fn generator_text(alloc: Global, source: &Gen) -> Result<String, AllocError>
-    requires { IsPrintable depth_limit (text_of_generator (generator_of source.now)) }
+    requires { IsPrintable depth_limit (edn_of_generator (generator_of source.now)) }
     ensures text { IfOk result
-        (λ text. string_bytes text ≡ print (text_of_generator (generator_of source.now))) }
+        (λ text. string_bytes text ≡ print (edn_of_generator (generator_of source.now))) }
     ensures read_back { IfOk result
-        (λ _. parsed_generator (text_of_generator (generator_of source.now))
+        (λ _. parsed_generator (edn_of_generator (generator_of source.now))
         ≡ Some (generator_of source.now)) }
 {
     let value = value_of_gen(alloc, source)?;

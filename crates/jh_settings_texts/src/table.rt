@@ -10,7 +10,7 @@ ghost use Rattle.jh_env.specs.Names.{AreNodeNames};
 ghost use Rattle.jh_env.specs.TextLaws.{CanStart};
 ghost use Rattle.jh_nemesis.specs.Steps.{FitsNodes};
 ghost use Rattle.jh_gen.specs.GeneratorText.{parsed_generator};
-ghost use Rattle.jh_gen_texts.specs.GeneratorWritten.{text_of_generator};
+ghost use Rattle.jh_gen_texts.specs.GeneratorWritten.{edn_of_generator};
 ghost use Rattle.jh_simnode.specs.Plans.{IsKeptPlan};
 ghost use Rattle.jh_laws.specs.StepLines.{IsStepOver};
 ghost use Rattle.jh_settings_texts.specs.DocumentWritten.{document_of, schedule_document};
@@ -60,11 +60,11 @@ fn put_number(alloc: Global, table: &mut Table, key: Key, number: u64) -> Result
 /// Puts what stands under `start`, `generator`, `store` and `workload`.
 fn put_cluster(alloc: Global, table: &mut Table, plan: &Plan) -> Result<(), AllocError>
     requires start { CanStart plan.now.env }
-    requires generator { IsPrintable depth_limit (text_of_generator plan.now.generator) }
+    requires generator { IsPrintable depth_limit (edn_of_generator plan.now.generator) }
     ensures table { OnOk result
         (table_view table.new ≡ inside.put_cluster plan.now (table_view table.old)) }
     ensures generator { IfOk result
-        (λ _. parsed_generator (text_of_generator plan.now.generator)
+        (λ _. parsed_generator (edn_of_generator plan.now.generator)
         ≡ Some plan.now.generator) }
 {
     let start = start_text(alloc, plan.environment())?;

@@ -7,7 +7,7 @@ use Rattle.jh_edn.specs.Edn.{items_of}
 use Rattle.jh_edn.specs.Printable.{ArePrintable, IsPrintable}
 use Rattle.jh_gen.specs.Generator.{generator_size, generator_list_size, size_shares, row_of, share_list}
 use Rattle.jh_gen.specs.View.{generator_of}
-use Rattle.jh_gen_texts.specs.GeneratorWritten.{text_of_generator, texts_of_generators, texts_of_shares}
+use Rattle.jh_gen_texts.specs.GeneratorWritten.{edn_of_generator, values_of_generators, values_of_shares}
 use Rattle.jh_gen_texts.proofs.GeneratorTextLemmas.{member_falls, share_falls}
 use Rattle.jh_settings_texts.proofs.NestingLemmas.{row_texts, shares_texts, row_first, row_member, share_first, share_member, not_both, nil_within, once_within, rising_within, forever_within, seq_within, limit_within, mix_within, phases_within, reserve_within, reserve_not_within, each_thread_within, clients_within, nemesis_within}
 use Rattle.jh_settings_texts.proofs.depth.+within.Goals as goal
@@ -42,7 +42,7 @@ pub is_within-returns-in-Limit : goal.is_within-returns-in-Limit
 is_within-returns-in-Limit t c =
     let some : 0 < c.args.depth = search rules in
     let below : c.in-Limit.most < 2 ^ 32 = search rules in
-    let inner = subst (λ g. IsTrue c.is_within.result ↔ IsPrintable (c.args.depth - 1) (text_of_generator g)) c.as_gen.ensures c.is_within.ensures in
+    let inner = subst (λ g. IsTrue c.is_within.result ↔ IsPrintable (c.args.depth - 1) (edn_of_generator g)) c.as_gen.ensures c.is_within.ensures in
     rw (c.in-Limit.is) (limit_within c.args.depth some c.is_within.result c.in-Limit.most c.in-Limit.inner below inner)
 
 pub is_within-returns-in-Mix : goal.is_within-returns-in-Mix
@@ -60,34 +60,34 @@ is_within-returns-then-shares_are_within t c =
     let some : 0 < c.args.depth = search rules in
     let shares = c.shares_are_within.ensures.0 c.if-shares_are_within.true in
     let answer = c.is_within-then-shares_are_within.result in
-    let inner = subst (λ g. IsTrue answer ↔ IsPrintable (c.args.depth - 1) (text_of_generator g)) c.as_gen-then-shares_are_within.ensures c.is_within-then-shares_are_within.ensures in
+    let inner = subst (λ g. IsTrue answer ↔ IsPrintable (c.args.depth - 1) (edn_of_generator g)) c.as_gen-then-shares_are_within.ensures c.is_within-then-shares_are_within.ensures in
     rw (c.in-Reserve.is) (reserve_within c.args.depth (share_list c.in-Reserve.shares) c.in-Reserve.inner answer some shares inner)
 
 pub is_within-returns-else-shares_are_within : goal.is_within-returns-else-shares_are_within
 is_within-returns-else-shares_are_within t c =
     let answer = c.shares_are_within.result in
-    let none : ArePrintable (c.args.depth - 1) (items_of (texts_of_shares (share_list c.in-Reserve.shares))) → ⊥ = λ printable. not_both answer (c.shares_are_within.ensures.1 printable) c.if-shares_are_within.false in
+    let none : ArePrintable (c.args.depth - 1) (items_of (values_of_shares (share_list c.in-Reserve.shares))) → ⊥ = λ printable. not_both answer (c.shares_are_within.ensures.1 printable) c.if-shares_are_within.false in
     rw (c.in-Reserve.is) (reserve_not_within c.args.depth (share_list c.in-Reserve.shares) c.in-Reserve.inner answer c.if-shares_are_within.false none)
 
 pub is_within-returns-in-EachThread : goal.is_within-returns-in-EachThread
 is_within-returns-in-EachThread t c =
     let some : 0 < c.args.depth = search rules in
     let answer = c.is_within-in-EachThread.result in
-    let inner = subst (λ g. IsTrue answer ↔ IsPrintable (c.args.depth - 1) (text_of_generator g)) c.as_gen-in-EachThread.ensures c.is_within-in-EachThread.ensures in
+    let inner = subst (λ g. IsTrue answer ↔ IsPrintable (c.args.depth - 1) (edn_of_generator g)) c.as_gen-in-EachThread.ensures c.is_within-in-EachThread.ensures in
     rw (c.in-EachThread.is) (each_thread_within c.args.depth some answer c.in-EachThread.inner inner)
 
 pub is_within-returns-in-Clients : goal.is_within-returns-in-Clients
 is_within-returns-in-Clients t c =
     let some : 0 < c.args.depth = search rules in
     let answer = c.is_within-in-Clients.result in
-    let inner = subst (λ g. IsTrue answer ↔ IsPrintable (c.args.depth - 1) (text_of_generator g)) c.as_gen-in-Clients.ensures c.is_within-in-Clients.ensures in
+    let inner = subst (λ g. IsTrue answer ↔ IsPrintable (c.args.depth - 1) (edn_of_generator g)) c.as_gen-in-Clients.ensures c.is_within-in-Clients.ensures in
     rw (c.in-Clients.is) (clients_within c.args.depth some answer c.in-Clients.inner inner)
 
 pub is_within-returns-in-NemesisOnly : goal.is_within-returns-in-NemesisOnly
 is_within-returns-in-NemesisOnly t c =
     let some : 0 < c.args.depth = search rules in
     let answer = c.is_within-in-NemesisOnly.result in
-    let inner = subst (λ g. IsTrue answer ↔ IsPrintable (c.args.depth - 1) (text_of_generator g)) c.as_gen-in-NemesisOnly.ensures c.is_within-in-NemesisOnly.ensures in
+    let inner = subst (λ g. IsTrue answer ↔ IsPrintable (c.args.depth - 1) (edn_of_generator g)) c.as_gen-in-NemesisOnly.ensures c.is_within-in-NemesisOnly.ensures in
     rw (c.in-NemesisOnly.is) (nemesis_within c.args.depth some answer c.in-NemesisOnly.inner inner)
 
 pub are_within-is_within-requires : goal.are_within-is_within-requires
@@ -102,7 +102,7 @@ are_within-returns-then-not-is_within t c =
     let xs = c.as_slice-member-items.result.now in (
       λ is. absurd (false≢true is),
       λ all.
-          let every = subst (λ gs. ArePrintable c.args.depth (items_of (texts_of_generators (row_of gs)))) (sym c.as_slice-member-items.ensures) all in
+          let every = subst (λ gs. ArePrintable c.args.depth (items_of (values_of_generators (row_of gs)))) (sym c.as_slice-member-items.ensures) all in
           let here = row_member c.args.depth xs c.loop-member.member-index c.member-item.result c.loop-member-test.true c.member-item.is every in
           absurd (not_both c.is_within.result (c.is_within.ensures.1 here) c.if-not-is_within.true),
     )
@@ -120,7 +120,7 @@ pub are_within-returns : goal.are_within-returns
 are_within-returns t c =
     let xs = c.as_slice-member-items.result.now in
     let whole = subst (λ ys. ArePrintable c.args.depth (items_of (row_texts ys))) (take_all c.loop-member.member-index xs c.loop-member-test.false) c.loop-member.invariant in
-    (λ is. subst (λ gs. ArePrintable c.args.depth (items_of (texts_of_generators (row_of gs)))) c.as_slice-member-items.ensures whole, λ all. refl)
+    (λ is. subst (λ gs. ArePrintable c.args.depth (items_of (values_of_generators (row_of gs)))) c.as_slice-member-items.ensures whole, λ all. refl)
 
 pub shares_are_within-is_within-requires : goal.shares_are_within-is_within-requires
 shares_are_within-is_within-requires t c =
@@ -134,7 +134,7 @@ shares_are_within-returns-then-not-is_within t c =
     let xs = c.as_slice-count-items.result.now in (
       λ is. absurd (false≢true is),
       λ all.
-          let every = subst (λ ms. ArePrintable c.args.depth (items_of (texts_of_shares (share_list ms)))) (sym c.as_slice-count-items.ensures) all in
+          let every = subst (λ ms. ArePrintable c.args.depth (items_of (values_of_shares (share_list ms)))) (sym c.as_slice-count-items.ensures) all in
           let here = share_member c.args.depth xs c.loop-count.count-index c.loop-count-item.result c.loop-count-test.true c.loop-count-item.is every in
           absurd (not_both c.is_within.result (c.is_within.ensures.1 here) c.if-not-is_within.true),
     )
@@ -154,4 +154,4 @@ pub shares_are_within-returns : goal.shares_are_within-returns
 shares_are_within-returns t c =
     let xs = c.as_slice-count-items.result.now in
     let whole = subst (λ ys. ArePrintable c.args.depth (items_of (shares_texts ys))) (take_all c.loop-count.count-index xs c.loop-count-test.false) c.loop-count.invariant in
-    (λ is. subst (λ ms. ArePrintable c.args.depth (items_of (texts_of_shares (share_list ms)))) c.as_slice-count-items.ensures whole, λ all. refl)
+    (λ is. subst (λ ms. ArePrintable c.args.depth (items_of (values_of_shares (share_list ms)))) c.as_slice-count-items.ensures whole, λ all. refl)
