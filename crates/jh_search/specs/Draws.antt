@@ -1,5 +1,5 @@
--- The random numbers of a candidate (this project's own): as a run has them, on a stream that is not
--- the one of its run.
+-- The random numbers of a candidate (this project's own): as a run has them, on a stream that is
+-- not the one of its run.
 use Rattle.std.specs.Prelude.{ℕ, ◌+◌, ◌*◌}
 use Rattle.rand_pcg.specs.Lcg.{Lcg}
 use Rattle.jh_simnode.specs.Runs.{random_number_at, random_numbers_after}

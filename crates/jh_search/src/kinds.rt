@@ -1,5 +1,5 @@
-//! The kinds of faults that random schedules are made of. `specs/Kinds.antt` says which are drawn;
-//! a new kind is first a fault of `jh_env` and a kind of `jh_step_texts`, then a case here and there.
+//! The kinds of faults that random schedules are made of. `specs/Kinds.antt` says which are drawn; a
+//! new kind is first a fault of `jh_env` and a kind of `jh_step_texts`, then a case here and there.
 
 ghost use Rattle.std.specs.Prelude.{◌≡◌, IfOk};
 ghost use Rattle.jh_search.specs.Kinds as rule;

@@ -173,11 +173,12 @@ impl RunState {
     }
 
     /// What a client thread is asked to do next. It waits while an entry of the schedule is due, so
-    /// that no call begins before the entry is taken; and it waits where it was the last to ask while
-    /// others sleep, so that they ask first. Each question to the driver takes a random number.
+    /// that no call begins before the entry is taken; and it waits where it was the last to ask
+    /// while others sleep, so that they ask first. Each question to the driver takes a random number.
     fn ask(&mut self, thread: u32, numbers: &mut Lcg128Xsl64) -> Assignment
         ensures stopped { IsSome self.old.error → result ≡ assignment.Ends }
-        ensures in_time { (process : ℕ) (request : Request) → result ≡ assignment.Calls process request
+        ensures in_time { (process : ℕ) (request : Request)
+            → result ≡ assignment.Calls process request
             → IfSome self.old.due (λ at. self.old.answered < at) }
         ensures error { self.new.error ≡ self.old.error }
         ensures answered { self.new.answered ≡ self.old.answered }
