@@ -1,5 +1,9 @@
--- The limits of the transactions of a test (this project's own).
+-- The limits of a test's schedule and of its transactions (this project's own).
 use Rattle.std.specs.Prelude.{ℕ}
+
+-- how many entries the schedule of a test has, at most
+abbrev pub max_test_entries : ℕ
+max_test_entries = 1024
 
 -- over how many keys at a time transactions are, at most
 abbrev pub max_transaction_keys : ℕ

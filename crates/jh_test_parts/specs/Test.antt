@@ -7,7 +7,6 @@ use Rattle.jh_env.specs.Overlay.{EnvValue}
 use Rattle.jh_gen.specs.DriverState.{max_calls, max_clients}
 use Rattle.jh_gen.specs.Generator.{Generator}
 use Rattle.jh_gen.specs.Suits.{suits, suits_transactions}
-use Rattle.jh_gen.specs.DriverState.{max_calls}
 use Rattle.jh_gen.specs.View.{generator_of}
 use Rattle.jh_nemesis.specs.Steps.{FitsNodes}
 use Rattle.jh_ops.specs.declared.call.Workload.TheVariants as workload
@@ -17,7 +16,8 @@ use Rattle.jh_checkers.specs.declared.checker.Checker.{Checker}
 use Rattle.jh_checkers.specs.declared.checker.Checker.TheVariants.{Register, Counter, Set, Ids}
 use Rattle.jh_checkers.specs.declared.checker.Checker.TheVariants.{ListAppend}
 use Rattle.jh_test_parts.specs.declared.parts.TransactionShape.{TransactionShape}
-use Rattle.jh_test_parts.specs.Limits.{max_key_appends, max_transaction_keys, max_transaction_ops}
+use Rattle.jh_test_parts.specs.Limits.{max_key_appends, max_test_entries, max_transaction_keys}
+use Rattle.jh_test_parts.specs.Limits.{max_transaction_ops}
 use Rattle.jh_test_parts.specs.declared.test.TestData.{TestData}
 use Rattle.jh_test_parts.specs.declared.test.TestError.{TestError}
 use Rattle.jh_test_parts.specs.declared.test.TestError.TheVariants.{BadClients, BadOps, BadKeys}
@@ -65,10 +65,6 @@ test_of_data fields = record {
 }
 
 -- Which tests can be made.
-
--- how many entries the schedule of a test has, at most
-abbrev pub max_test_entries : ℕ
-max_test_entries = 1024
 
 abbrev pub HasTestClients : TestValue → Type 0
 HasTestClients t = (1 ≤ t.clients) × (t.clients ≤ max_clients)
