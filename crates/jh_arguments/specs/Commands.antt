@@ -142,17 +142,19 @@ pub record AsksSearch (options : List Row) (question : SearchQuestion) : Type 0 
   pub threads : IsGivenWithin 1 max_threads (one_of (codes "threads") options) question.threads
   pub show : IsShow options question.show
 
+-- A subcommand of this name has this file of settings among its options.
+abbrev pub SubcommandHasSettings : Text → Option (Text × List Row) → Text → Type 0
+SubcommandHasSettings name None path = ⊥
+SubcommandHasSettings name (Some found) path =
+    (found.0 ≡ name) × (first_of (codes "settings") found.1 ≡ Some path)
+
 -- A subcommand with its options asks for the test that this file of settings sets.
 abbrev pub SubcommandIsDrive : Option (Text × List Row) → Text → Type 0
-SubcommandIsDrive None path = ⊥
-SubcommandIsDrive (Some found) path =
-    (found.0 ≡ codes "drive") × (first_of (codes "settings") found.1 ≡ Some path)
+SubcommandIsDrive found path = SubcommandHasSettings (codes "drive") found path
 
 -- A subcommand with its options asks for a page that names steps by the settings in this file.
 abbrev pub SubcommandHasSchedule : Option (Text × List Row) → Text → Type 0
-SubcommandHasSchedule None path = ⊥
-SubcommandHasSchedule (Some found) path =
-    (found.0 ≡ codes "timeline") × (first_of (codes "settings") found.1 ≡ Some path)
+SubcommandHasSchedule found path = SubcommandHasSettings (codes "timeline") found path
 
 -- A subcommand with its options asks for a command.
 abbrev pub SubcommandIs : Option (Text × List Row) → Command → Type 0
