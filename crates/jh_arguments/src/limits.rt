@@ -1,5 +1,6 @@
 //! How great the numbers of options may be, as ranges of `clap` take them. `specs/Limits.antt` has the
-//! same numbers: `line.rt` has `clap` refuse what is beyond them, and `commands.rt` takes what is within.
+//! same numbers, and `specs/Threads.antt` of `jh_tasks` that of threads: `line.rt` has `clap` refuse what
+//! is beyond them, and `commands.rt` takes what is within.
 
 /// The greatest number of a candidate, and the most candidates: two of them still fit 64 bits.
 pub(crate) const MAX_CANDIDATES: i64 = i64::MAX;

@@ -84,7 +84,7 @@ pub judging_refused : (question : CheckQuestion) (input : List ℕ) (history : L
 judging_refused question input history below (Input error) parts refused = absurd (by_judging question.independent question history (Input error) refused)
 judging_refused question input history below EnvironmentMissing parts refused = absurd (by_judging question.independent question history EnvironmentMissing refused)
 judging_refused question input history below (Environment error) parts refused = absurd (by_judging question.independent question history (Environment error) refused)
-judging_refused question input history below (Element place error) parts refused = absurd (by_judging question.independent question history (Element place error) refused)
+judging_refused question input history below (Element number error) parts refused = absurd (by_judging question.independent question history (Element number error) refused)
 judging_refused question input history below (History error) parts refused = absurd (by_judging question.independent question history (History error) refused)
 judging_refused question input history below (Check error) parts refused = (history, below, parts, refused)
 judging_refused question input history below (Settings error) parts refused = absurd (by_judging question.independent question history (Settings error) refused)

@@ -48,7 +48,7 @@ first_refused (v ∷ vs) first error e some is refused named = rw (named, ← is
 -- values of which the first is an environment, and one of the others no step
 pub others_refused : (values others : List Edn) (first : Edn) (names : List (List ℕ)) (start : Table) (e : CliError) → values ≡ first ∷ others
     → IsTextOf first names start → RefusesSteps names others e → RefusesEnvValues values e
-others_refused values others first names start (Element place error) parts text refused = (first, others, names, start, parts, text, refused)
+others_refused values others first names start (Element number error) parts text refused = (first, others, names, start, parts, text, refused)
 others_refused values others first names start OutOfMemory parts text refused = tt
 others_refused values others first names start (Input error) parts text refused = absurd refused
 others_refused values others first names start EnvironmentMissing parts text refused = absurd refused

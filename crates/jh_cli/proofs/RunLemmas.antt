@@ -35,7 +35,7 @@ pub run_refused : (input : List ℕ) (p : PlanValue) (mode : Mode) (budget : ℕ
 run_refused input p mode budget (Input error) parsed h = (p, mode, budget, parsed, h)
 run_refused input p mode budget EnvironmentMissing parsed h = (p, mode, budget, parsed, h)
 run_refused input p mode budget (Environment error) parsed h = (p, mode, budget, parsed, h)
-run_refused input p mode budget (Element place error) parsed h = (p, mode, budget, parsed, h)
+run_refused input p mode budget (Element number error) parsed h = (p, mode, budget, parsed, h)
 run_refused input p mode budget (History error) parsed h = (p, mode, budget, parsed, h)
 run_refused input p mode budget (Check error) parsed h = (p, mode, budget, parsed, h)
 run_refused input p Mode.Serial budget (Settings error) parsed h = absurd h
@@ -68,7 +68,7 @@ pub bytes_refused : (input : List ℕ) (e : CliError) → RefusesRunBytes input 
 bytes_refused input (Input error) h = absurd (no_input h.0 h.1 error h.4)
 bytes_refused input EnvironmentMissing h = h
 bytes_refused input (Environment error) h = h
-bytes_refused input (Element place error) h = h
+bytes_refused input (Element number error) h = h
 bytes_refused input (History error) h = h
 bytes_refused input (Check error) h = h
 bytes_refused input (Settings error) h = h
@@ -113,7 +113,7 @@ threads_refused checker history (Check error) h = absurd h
 threads_refused checker history (Input error) h = absurd h
 threads_refused checker history EnvironmentMissing h = absurd h
 threads_refused checker history (Environment error) h = absurd h
-threads_refused checker history (Element place error) h = absurd h
+threads_refused checker history (Element number error) h = absurd h
 threads_refused checker history (History error) h = absurd h
 threads_refused checker history (Settings error) h = absurd h
 threads_refused checker history (Run error) h = absurd h

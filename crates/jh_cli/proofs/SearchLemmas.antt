@@ -67,7 +67,7 @@ pub refused_by_bytes : (question : SearchQuestion) (input : List ℕ) (e : CliEr
 refused_by_bytes question input (Input error) h = absurd h
 refused_by_bytes question input EnvironmentMissing h = h
 refused_by_bytes question input (Environment error) h = h
-refused_by_bytes question input (Element place error) h = h
+refused_by_bytes question input (Element number error) h = h
 refused_by_bytes question input (History error) h = h
 refused_by_bytes question input (Check error) h = h
 refused_by_bytes question input (Settings error) h = h

@@ -28,7 +28,7 @@ has_step_error names values i v steps error below is parsed in_error =
       steps = steps;
       parsed = parsed;
       in_error = in_error;
-      place_is = omega (arith, size);
+      number_is = omega (arith, size);
     }
 
 -- what is answered where a value means no step

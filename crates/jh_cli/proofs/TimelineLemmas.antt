@@ -52,7 +52,7 @@ pub page_refused : (question : TimelineQuestion) (steps : List Edn) (input : Lis
 page_refused question steps input history below (Input error) parts refused = absurd (by_finding question.independent question.judging history (Input error) refused)
 page_refused question steps input history below EnvironmentMissing parts refused = (history, below, parts, refused)
 page_refused question steps input history below (Environment error) parts refused = (history, below, parts, refused)
-page_refused question steps input history below (Element place error) parts refused = (history, below, parts, refused)
+page_refused question steps input history below (Element number error) parts refused = (history, below, parts, refused)
 page_refused question steps input history below (History error) parts refused = absurd (by_finding question.independent question.judging history (History error) refused)
 page_refused question steps input history below (Check error) parts refused = (history, below, parts, refused)
 page_refused question steps input history below (Settings error) parts refused = (history, below, parts, refused)

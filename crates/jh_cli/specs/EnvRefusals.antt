@@ -21,8 +21,9 @@ use Rattle.jh_cli.specs.declared.error.CliError.TheVariants.{Element, Read, Writ
 abbrev pub first_step : ℕ
 first_step = 2
 
--- The value at this place among steps is the first that means none, and this is its error.
-pub record HasStepError (names : List (List ℕ)) (values : List Edn) (place : ℕ)
+-- The element of this number, which stands among steps, is the first that means none, and this is its
+-- error.
+pub record HasStepError (names : List (List ℕ)) (values : List Edn) (number : ℕ)
     (error : StepTextError) : Type 0 where
   pub before : List Edn
   pub value : Edn
@@ -31,11 +32,11 @@ pub record HasStepError (names : List (List ℕ)) (values : List Edn) (place : �
   pub steps : List Step
   pub parsed : map (parsed_step names) before ≡ map Ok steps
   pub in_error : parsed_step names value ≡ Err error
-  pub place_is : place ≡ length before + first_step
+  pub number_is : number ≡ length before + first_step
 
 -- why the values after the environment are refused
 abbrev pub RefusesSteps : List (List ℕ) → List Edn → CliError → Type 0
-RefusesSteps names values (Element place error) = HasStepError names values place error
+RefusesSteps names values (Element number error) = HasStepError names values number error
 RefusesSteps names values OutOfMemory = Unit {0}
 RefusesSteps names values _ = ⊥
 
@@ -46,10 +47,10 @@ RefusesEnvValues values (Environment error) =
     IsEnvironmentError error
     × ((first : Edn) × (others : List Edn) × (values ≡ first ∷ others)
     × env.RefusesEnvText first error)
-RefusesEnvValues values (Element place error) =
+RefusesEnvValues values (Element number error) =
     (first : Edn) × (others : List Edn) × (names : List (List ℕ)) × (start : Table)
     × (values ≡ first ∷ others)
-    × IsTextOf first names start × HasStepError names others place error
+    × IsTextOf first names start × HasStepError names others number error
 RefusesEnvValues values OutOfMemory = Unit {0}
 RefusesEnvValues values _ = ⊥
 

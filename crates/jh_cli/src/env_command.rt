@@ -75,10 +75,10 @@ fn steps_of(alloc: Global, nodes: &Nodes, values: &[Value]) -> Result<Vec<Step>,
     ensures fit { IfOk result (λ steps. All (FitsNodes (length nodes.now)) steps.items) }
 {
     let mut steps = Vec::new(alloc);
-    for (place, value) in values.iter().enumerate() {
+    for (index, value) in values.iter().enumerate() {
         match step_of_value(alloc, nodes, value) {
             Ok(step) => steps.push(step)?,
-            Err(error) => return Err(element_error(place as u64 + FIRST_STEP, error)),
+            Err(error) => return Err(element_error(index as u64 + FIRST_STEP, error)),
         }
     }
     Ok(steps)

@@ -25,6 +25,7 @@ use jh_search::{
 use jh_settings::settings_of;
 use jh_settings_texts::{Spread, can_be_written, schedule_to_text, settings_behind};
 use jh_simnode::Plan;
+use jh_tasks::MAX_THREADS;
 use std::alloc::{AllocError, Global};
 use std::io::{Read, Write};
 use std::sync::Wait;
@@ -125,7 +126,7 @@ fn processors<T: Threads>(rt: &T) -> u32
     ensures { IsThreadCount result }
 {
     match thread::available_parallelism(rt) {
-        Ok(count) => count.get().min(16) as u32,
+        Ok(count) => count.get().min(MAX_THREADS) as u32,
         Err(_) => 1,
     }
 }

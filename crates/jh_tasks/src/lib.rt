@@ -2,6 +2,8 @@
 #![tactic(auto)]
 
 mod board;
+mod laws;
 mod tasks;
 
-pub use tasks::{Task, TaskAnswers, answer_tasks};
+pub use laws::limits;
+pub use tasks::{MAX_THREADS, Task, TaskAnswers, answer_tasks};

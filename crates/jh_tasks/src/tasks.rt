@@ -12,6 +12,9 @@ use std::sync::{Mutex, Wait};
 use std::thread;
 use std::thread::Threads;
 
+/// How many threads may work on the tasks of one call, the calling one among them.
+pub const MAX_THREADS: usize = 16;
+
 /// So many tasks, numbered from 0, each with an answer.
 pub trait Task<A> {
     /// How many there are.
