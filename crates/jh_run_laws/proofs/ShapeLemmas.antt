@@ -18,7 +18,7 @@ use Rattle.jh_simnode.specs.declared.replicas.Got.{Got}
 use Rattle.jh_simnode.specs.declared.replicas.Replica.{Replica}
 use Rattle.jh_simnode.specs.declared.replicas.Recency.TheVariants.{Version, Stamp}
 use Rattle.jh_simnode.specs.declared.replicas.Reply.TheVariants as reply_of
-use Rattle.jh_simnode.specs.declared.settings.Settings.{Settings}
+use Rattle.jh_simnode.specs.declared.settings.Database.{Database}
 use Rattle.jh_simnode.specs.declared.settings.Store.{Store}
 use Rattle.jh_simnode.specs.declared.settings.Store.TheVariants.{Quorum, Lww, Local}
 use Rattle.jh_simnode.specs.Replicas.{blank_replica, contents_of, replica_at, first_replica, got_of, version}
@@ -225,18 +225,18 @@ running_served Lww w c env all number clock node request draw r n t =
     (λ _. lww_shaped w c all _ node (reached_nodes env (length all) draw node) request (replica_at all node).contents (effect_fits w request (replica_at all node).contents r (t.each node (rw t.sized n))) t)
 running_served Local w c env all number clock node request draw r n t = local_served_fits w c all node request r n t
 
-in_served : (life : Life) (s : Settings) (c : ℕ) (env : Cells) (all : List Replica) (number : ℕ) (clock : ℤ) (node : ℕ) (request : Request) (draw : ℕ) → is_request_of request s.workload ≡ true → node < c → AreShaped s.workload c all
+in_served : (life : Life) (s : Database) (c : ℕ) (env : Cells) (all : List Replica) (number : ℕ) (clock : ℤ) (node : ℕ) (request : Request) (draw : ℕ) → is_request_of request s.workload ≡ true → node < c → AreShaped s.workload c all
     → IsServed s.workload c request (reply_in life s env all clock (record { number = number; node = node; request = request; draw = draw }))
 in_served Running s c env all number clock node request draw r n t = running_served s.store s.workload c env all number clock node request draw r n t
 in_served Paused s c env all number clock node request draw r n t = (t, either (ReplyFits s.workload request) (only_asks request) reply_of.Fail reply_of.Info (λ _. tt) (λ _. tt))
 in_served Killed s c env all number clock node request draw r n t = (t, tt)
 
-at_served : (s : Settings) (c : ℕ) (env : Cells) (all : List Replica) (number node : ℕ) (request : Request) (draw : ℕ) (cell : Option NodeCell) → is_request_of request s.workload ≡ true → node < c → AreShaped s.workload c all
+at_served : (s : Database) (c : ℕ) (env : Cells) (all : List Replica) (number node : ℕ) (request : Request) (draw : ℕ) (cell : Option NodeCell) → is_request_of request s.workload ≡ true → node < c → AreShaped s.workload c all
     → IsServed s.workload c request (reply_at s env all (record { number = number; node = node; request = request; draw = draw }) cell)
 at_served s c env all number node request draw None r n t = (t, tt)
 at_served s c env all number node request draw (Some cell) r n t = in_served cell.process s c env all number cell.clock node request draw r n t
 
-pub serve_fits : (s : Settings) (c : ℕ) (env : Cells) (all : List Replica) (number node : ℕ) (request : Request) (draw : ℕ) → node < c → AreShaped s.workload c all
+pub serve_fits : (s : Database) (c : ℕ) (env : Cells) (all : List Replica) (number node : ℕ) (request : Request) (draw : ℕ) → node < c → AreShaped s.workload c all
     → IsServed s.workload c request (reply_to s env all number node request draw)
 unfolding reply_to
 serve_fits s c env all number node request draw n t =
@@ -263,7 +263,7 @@ first_shaped Counter initial = tt
 first_shaped Set initial = tt
 first_shaped Ids initial = tt
 
-forgotten_shaped : (s : Settings) (c : ℕ) (before : List Bool) (after : Cells) (all : List Replica) → AreShaped s.workload c all → AreShaped s.workload c (replicas_after_kills s before after all)
+forgotten_shaped : (s : Database) (c : ℕ) (before : List Bool) (after : Cells) (all : List Replica) → AreShaped s.workload c all → AreShaped s.workload c (replicas_after_kills s before after all)
 unfolding replicas_after_kills
 forgotten_shaped s c before after all t =
     either (AreShaped s.workload c) s.volatile _ all

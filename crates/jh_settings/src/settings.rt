@@ -28,7 +28,7 @@ use crate::parts::{Cluster, Limits, Load};
 use crate::schedule::schedule_under;
 use crate::table::truth_or;
 use jh_ops::Workload;
-use jh_simnode::{Plan, PlanData, PlanError, Schedule, Settings};
+use jh_simnode::{Database, Plan, PlanData, PlanError, Schedule};
 use std::alloc::Global;
 use toml::Table;
 
@@ -137,7 +137,7 @@ fn data_of(cluster: Cluster, load: Load, limits: Limits, schedule: Schedule) -> 
     } = cluster;
     PlanData {
         environment,
-        settings: Settings {
+        settings: Database {
             store,
             volatile: load.volatile,
             workload,

@@ -13,7 +13,7 @@ use Rattle.jh_nemesis.specs.declared.steps.StepAnswer.{StepAnswer}
 use Rattle.jh_nemesis.proofs.StepLemmas.{state_after_names, state_after_start}
 use Rattle.jh_simnode.specs.declared.replicas.Reply.{Reply}
 use Rattle.jh_ops.specs.declared.call.Request.{Request}
-use Rattle.jh_simnode.specs.declared.settings.Settings.{Settings}
+use Rattle.jh_simnode.specs.declared.settings.Database.{Database}
 use Rattle.jh_simnode.specs.Inside.{world_setup}
 use Rattle.jh_simnode.specs.Stores.{reply_to, replicas_after_tick, killed_flags, replicas_after_kills}
 use Rattle.jh_simnode.proofs.VersionLemmas.{serve_tidy, ticked_tidy, forgotten_tidy}
@@ -69,7 +69,7 @@ goes_on u s t all new es e w few due tidy =
     }
 
 -- a world goes on by a call, by what the environment shows
-pub call_goes_on : (s : State) (settings : Settings) (all new : List Replica) (es : List Event) (env : EnvValue) (number process node : ℕ) (request : Request) (draw : ℕ) (reply : Reply)
+pub call_goes_on : (s : State) (settings : Database) (all new : List Replica) (es : List Event) (env : EnvValue) (number process node : ℕ) (request : Request) (draw : ℕ) (reply : Reply)
     → IsWorldOf (world_setup s settings) s all es → length es < 65536 → StandsFor env (faults_in s.active) → env.start ≡ s.start → number ≡ length es → node < length s.names
     → (let due = reply_to settings (env_cells env) all number node request draw in (reply ≡ due.reply) × (new ≡ due.replicas))
     → IsWorldOf (world_setup s settings) s new (es ++ Event.Call process node request draw reply ∷ [])
@@ -82,7 +82,7 @@ call_goes_on s settings all new es env number process node request draw reply w 
     goes_on (world_setup s settings) s s all new es (Event.Call process node request draw reply) w few ((known, got), refl, left)
     (rw left (serve_tidy settings (env_of s) (length s.names) (length es) all node request draw w.tidy))
 
-pub tick_goes_on : (s : State) (settings : Settings) (all new : List Replica) (es : List Event) (env : EnvValue)
+pub tick_goes_on : (s : State) (settings : Database) (all new : List Replica) (es : List Event) (env : EnvValue)
     → IsWorldOf (world_setup s settings) s all es → length es < 65536 → StandsFor env (faults_in s.active) → env.start ≡ s.start
     → new ≡ replicas_after_tick settings.store (env_cells env) all
     → IsWorldOf (world_setup s settings) s new (es ++ Event.Tick ∷ [])
@@ -93,10 +93,10 @@ tick_goes_on s settings all new es env w few stands start given =
     (rw left (ticked_tidy settings.store (env_of s) (length s.names) (length es) all w.tidy))
 
 -- a step keeps the nodes, their starting cells and the settings
-pub same_setup : (s t : State) (settings : Settings) (step : Step) → t ≡ state_after s step → world_setup t settings ≡ world_setup s settings
+pub same_setup : (s t : State) (settings : Database) (step : Step) → t ≡ state_after s step → world_setup t settings ≡ world_setup s settings
 same_setup s t settings step e = rw (e, state_after_names s step, state_after_start s step) refl
 
-pub step_goes_on : (s t : State) (settings : Settings) (all new : List Replica) (es : List Event) (before after : EnvValue) (step : Step) (answer : StepAnswer)
+pub step_goes_on : (s t : State) (settings : Database) (all new : List Replica) (es : List Event) (before after : EnvValue) (step : Step) (answer : StepAnswer)
     → IsWorldOf (world_setup s settings) s all es → length es < 65536 → StandsFor before (faults_in s.active) → before.start ≡ s.start → FitsNodes (length s.names) step
     → answer ≡ answer_of s step → t ≡ state_after s step → StandsFor after (faults_in t.active) → after.start ≡ t.start
     → new ≡ replicas_after_kills settings (killed_flags (env_cells before) (length s.names)) (env_cells after) all

@@ -9,7 +9,7 @@ use Rattle.jh_env.specs.Cells.{Running, Paused, Killed}
 use Rattle.jh_env.specs.Cells.{NodeCell}
 use Rattle.jh_simnode.specs.declared.replicas.Replica.{Replica}
 use Rattle.jh_simnode.specs.declared.replicas.Recency.TheVariants.{Version, Stamp}
-use Rattle.jh_simnode.specs.declared.settings.Settings.{Settings}
+use Rattle.jh_simnode.specs.declared.settings.Database.{Database}
 use Rattle.jh_simnode.specs.declared.settings.Store.{Store}
 use Rattle.jh_simnode.specs.declared.settings.Store.TheVariants.{Quorum, Lww, Local}
 use Rattle.jh_ops.specs.declared.call.Request.{Request}
@@ -77,18 +77,18 @@ running_tidy Lww env c n all clock node r draw t =
     either (λ (s : ReplyAndReplicas). AreTidy c (n + 1) s.replicas) (is_read_request r) _ _ (later_tidy c n all t) (lww_tidy c n all _ node (reached_nodes env (length all) draw node) (effect r (replica_at all node).contents) t)
 running_tidy Local env c n all clock node r draw t = local_tidy c n all node (effect r (replica_at all node).contents) t
 
-in_tidy : (life : Life) (s : Settings) (env : Cells) (c n : ℕ) (all : List Replica) (clock : ℤ) (node : ℕ) (r : Request) (draw : ℕ) → AreTidy c n all
+in_tidy : (life : Life) (s : Database) (env : Cells) (c n : ℕ) (all : List Replica) (clock : ℤ) (node : ℕ) (r : Request) (draw : ℕ) → AreTidy c n all
     → AreTidy c (n + 1) (reply_in life s env all clock (record { number = n; node = node; request = r; draw = draw })).replicas
 in_tidy Running s env c n all clock node r draw t = running_tidy s.store env c n all clock node r draw t
 in_tidy Paused s env c n all clock node r draw t = later_tidy c n all t
 in_tidy Killed s env c n all clock node r draw t = later_tidy c n all t
 
-at_tidy : (s : Settings) (env : Cells) (c n : ℕ) (all : List Replica) (node : ℕ) (r : Request) (draw : ℕ) (cell : Option NodeCell) → AreTidy c n all
+at_tidy : (s : Database) (env : Cells) (c n : ℕ) (all : List Replica) (node : ℕ) (r : Request) (draw : ℕ) (cell : Option NodeCell) → AreTidy c n all
     → AreTidy c (n + 1) (reply_at s env all (record { number = n; node = node; request = r; draw = draw }) cell).replicas
 at_tidy s env c n all node r draw None t = later_tidy c n all t
 at_tidy s env c n all node r draw (Some cell) t = in_tidy cell.process s env c n all cell.clock node r draw t
 
-pub serve_tidy : (s : Settings) (env : Cells) (c n : ℕ) (all : List Replica) (node : ℕ) (r : Request) (draw : ℕ) → AreTidy c n all → AreTidy c (n + 1) (reply_to s env all n node r draw).replicas
+pub serve_tidy : (s : Database) (env : Cells) (c n : ℕ) (all : List Replica) (node : ℕ) (r : Request) (draw : ℕ) → AreTidy c n all → AreTidy c (n + 1) (reply_to s env all n node r draw).replicas
 unfolding reply_to
 serve_tidy s env c n all node r draw t =
     either (λ (s : ReplyAndReplicas). AreTidy c (n + 1) s.replicas) (is_request_of r s.workload) _ _ (at_tidy s env c n all node r draw (env.node node) t) (later_tidy c n all t)
@@ -103,7 +103,7 @@ ticked_tidy Lww env c n all t =
     later_tidy c n _ (fold_keeps (AreTidy c n) (replicas_after_sending_all env (length all)) (λ a from k. fold_keeps (AreTidy c n) (replicas_after_sending env from) (λ b to h. send_tidy c n env from b to h) a (node_places (length all)) k) all (node_places (length all)) t)
 ticked_tidy Local env c n all t = later_tidy c n all t
 
-pub forgotten_tidy : (s : Settings) (before : List Bool) (after : Cells) (c n : ℕ) (all : List Replica) → AreTidy c n all → AreTidy c (n + 1) (replicas_after_kills s before after all)
+pub forgotten_tidy : (s : Database) (before : List Bool) (after : Cells) (c n : ℕ) (all : List Replica) → AreTidy c n all → AreTidy c (n + 1) (replicas_after_kills s before after all)
 unfolding replicas_after_kills
 forgotten_tidy s before after c n all t =
     later_tidy c n _ (either (AreTidy c n) s.volatile _ _

@@ -5,7 +5,7 @@ use Rattle.jh_env.specs.Cells.{Table}
 use Rattle.jh_env.specs.Overlay.{EnvValue, work_of}
 use Rattle.jh_nemesis.specs.State.{State, faults_in}
 use Rattle.jh_nemesis.specs.Steps.{answer_of, state_after, FitsNodes}
-use Rattle.jh_simnode.specs.declared.settings.Settings.{Settings}
+use Rattle.jh_simnode.specs.declared.settings.Database.{Database}
 use Rattle.jh_simnode.specs.declared.replicas.Replica.{Replica}
 use Rattle.jh_simnode.specs.declared.events.Event.{Event}
 use Rattle.jh_simnode.specs.declared.events.WorldError.{WorldError}
@@ -21,7 +21,7 @@ use Rattle.jh_simnode.specs.Stores.{replicas_after_kills, version_at}
 pub record Setup : Type 0 where
   pub names : List (List ℕ)
   pub start : Table
-  pub settings : Settings
+  pub settings : Database
 
 -- where a world stands: the number of events so far, the faults with their past and future, and the
 -- replicas
@@ -107,8 +107,8 @@ pub record WorldValue : Type 0 where
   pub journal : List Event
   pub work : ℕ
 
--- nothing has happened in the world, over this environment, with these settings
-pub record IsNewWorld (env : EnvValue) (chosen : Settings) (new : WorldValue) : Type 0 where
+-- nothing has happened in the world, over this environment, with this database
+pub record IsNewWorld (env : EnvValue) (chosen : Database) (new : WorldValue) : Type 0 where
   pub journal : new.journal ≡ []
   pub names : new.setup.names ≡ env.names
   pub start : new.setup.start ≡ env.start

@@ -1,14 +1,14 @@
 -- What a contract sees of the fields of a world and of a plan, and what holds of them.
 -- This project's own.
 use Rattle.jh_nemesis.specs.State.{State}
-use Rattle.jh_simnode.specs.declared.settings.Settings.{Settings}
+use Rattle.jh_simnode.specs.declared.settings.Database.{Database}
 use Rattle.jh_simnode.specs.Events.{Setup, WorldValue, IsWorldOf}
 use Rattle.jh_simnode.specs.Plans.{PlanValue, IsKeptPlan}
 use Rattle.jh_simnode.specs.declared.plan.Plan.TheInside as plan
 use Rattle.jh_simnode.specs.declared.world.World.TheInside.{Inside}
 
 -- what a world keeps for good
-abbrev pub world_setup : State → Settings → Setup
+abbrev pub world_setup : State → Database → Setup
 world_setup s settings = record { names = s.names; start = s.start; settings = settings }
 
 -- what callers see of what a world is made of

@@ -7,7 +7,7 @@ use Rattle.jh_gen.specs.Generator.{Generator}
 use Rattle.jh_gen.specs.Suits.{suits}
 use Rattle.jh_gen.specs.View.{generator_of}
 use Rattle.jh_ops.specs.Requests.{max_calls_of}
-use Rattle.jh_simnode.specs.declared.settings.Settings.{Settings}
+use Rattle.jh_simnode.specs.declared.settings.Database.{Database}
 use Rattle.jh_simnode.specs.declared.schedule.Entry.{Entry}
 use Rattle.jh_simnode.specs.Limits.{max_entries, max_rows}
 use Rattle.jh_simnode.specs.declared.plan.PlanData.{PlanData}
@@ -20,7 +20,7 @@ use Rattle.jh_simnode.specs.declared.plan.PlanError.TheVariants.{BadGenerator, B
 -- the rows of the log of a run on threads, and the seed of the random numbers
 pub record PlanValue : Type 0 where
   pub env : EnvValue
-  pub settings : Settings
+  pub settings : Database
   pub clients : ℕ
   pub ops : ℕ
   pub generator : Generator

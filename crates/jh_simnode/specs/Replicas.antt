@@ -5,7 +5,7 @@ use Rattle.std.specs.Prelude.{None, nat_lt, int_lt, slice_index_or}
 use Rattle.std.specs.Ordering.{int_eq}
 use Rattle.jh_ops.specs.declared.call.Workload.{Workload}
 use Rattle.jh_ops.specs.declared.call.Workload.TheVariants.{Register, Counter, Set, Ids}
-use Rattle.jh_simnode.specs.declared.settings.Settings.{Settings}
+use Rattle.jh_simnode.specs.declared.settings.Database.{Database}
 use Rattle.jh_simnode.specs.declared.replicas.Contents.{Contents}
 use Rattle.jh_simnode.specs.declared.replicas.Contents.TheVariants.{One, Many}
 use Rattle.jh_simnode.specs.declared.replicas.Got.{Got}
@@ -21,11 +21,11 @@ contents_of Set initial = Many []
 contents_of Ids initial = One (Some (pos 0))
 
 -- the contents of each replica at first, by the settings
-abbrev pub first_contents : Settings → Contents
+abbrev pub first_contents : Database → Contents
 first_contents s = contents_of s.workload s.initial
 
 -- each replica at first
-abbrev pub first_replica : Settings → Replica
+abbrev pub first_replica : Database → Replica
 first_replica s = record { recency = First; contents = first_contents s }
 
 -- what a read of the contents gets

@@ -10,7 +10,7 @@ use Rattle.jh_env.specs.Cells.{NodeCell}
 use Rattle.jh_env.specs.Names.{node_places}
 use Rattle.jh_grudge.specs.Grudges.{majority}
 use Rattle.jh_ops.specs.declared.call.Request.{Request}
-use Rattle.jh_simnode.specs.declared.settings.Settings.{Settings}
+use Rattle.jh_simnode.specs.declared.settings.Database.{Database}
 use Rattle.jh_simnode.specs.declared.settings.Store.{Store}
 use Rattle.jh_simnode.specs.declared.settings.Store.TheVariants.{Quorum, Lww, Local}
 use Rattle.jh_simnode.specs.declared.replicas.Recency.{Recency}
@@ -146,20 +146,20 @@ running_reply Lww env replicas clock asked =
 running_reply Local env replicas clock asked = local_reply replicas asked.node asked.request
 
 -- the same, by what the node's process does
-abbrev pub reply_in : Life → Settings → Cells → List Replica → ℤ → NodeRequest → ReplyAndReplicas
+abbrev pub reply_in : Life → Database → Cells → List Replica → ℤ → NodeRequest → ReplyAndReplicas
 reply_in Running s env replicas clock asked = running_reply s.store env replicas clock asked
 reply_in Paused s env replicas clock asked =
     reply_alone replicas (if only_asks asked.request then Fail else Info)
 reply_in Killed s env replicas clock asked = reply_alone replicas Fail
 
 -- the same, where there is such a node
-abbrev pub reply_at : Settings → Cells → List Replica → NodeRequest → Option NodeCell
+abbrev pub reply_at : Database → Cells → List Replica → NodeRequest → Option NodeCell
     → ReplyAndReplicas
 reply_at s env replicas asked None = reply_alone replicas Fail
 reply_at s env replicas asked (Some n) = reply_in n.process s env replicas n.clock asked
 
 -- the reply of a node to a request, at this event number with this draw, and the replicas after it
-unfoldable pub reply_to : Settings → Cells → List Replica → ℕ → ℕ → Request → ℕ → ReplyAndReplicas
+unfoldable pub reply_to : Database → Cells → List Replica → ℕ → ℕ → Request → ℕ → ReplyAndReplicas
 reply_to s env replicas number node request draw =
     if is_request_of request s.workload
     then reply_at s env replicas
@@ -201,13 +201,13 @@ abbrev pub killed_flags : Cells → ℕ → List Bool
 killed_flags env count = map (λ p. is_node_killed (env.node p)) (node_places count)
 
 -- the replica of a node that is killed now and wasn't before is as at first
-abbrev pub replicas_after_kill : Settings → List Bool → Cells → List Replica → ℕ → List Replica
+abbrev pub replicas_after_kill : Database → List Bool → Cells → List Replica → ℕ → List Replica
 replicas_after_kill s before after replicas place =
     if is_node_killed (after.node place) && not (slice_index_or before place false)
     then slice_set replicas place (first_replica s) else replicas
 
 -- the replicas after nodes were killed
-unfoldable pub replicas_after_kills : Settings → List Bool → Cells → List Replica → List Replica
+unfoldable pub replicas_after_kills : Database → List Bool → Cells → List Replica → List Replica
 replicas_after_kills s before after replicas =
     if s.volatile
     then fold (replicas_after_kill s before after) replicas (node_places (length replicas))

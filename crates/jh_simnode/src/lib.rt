@@ -30,6 +30,6 @@ pub use replay::nemesis_after;
 pub use replicas::{Contents, Got, Numbers, Recency, Replica, Reply};
 pub use schedule::{Entry, MAX_ENTRIES, Schedule, TooLong};
 pub use serial::{RunError, one_run, run_serial, world_of};
-pub use settings::{Settings, Store};
+pub use settings::{Database, Store};
 pub use turns::{driver_of, node_of, reply_ending, ticks_at};
 pub use world::World;

@@ -11,7 +11,7 @@ ghost use Rattle.jh_simnode.specs.declared.plan.PlanError.TheVariants.{OutOfMemo
 
 use crate::events::fits;
 use crate::schedule::{Entry, Schedule};
-use crate::settings::{Settings, Store};
+use crate::settings::{Database, Store};
 use jh_env::Env;
 use jh_gen::{Gen, Inner, MAX_CLIENTS};
 use jh_ops::Workload;
@@ -27,7 +27,7 @@ pub const MAX_ROWS: u32 = 65_536;
 #[derive(Debug, Drop)]
 pub struct Plan {
     environment: Env,
-    settings: Settings,
+    settings: Database,
     clients: u32,
     ops: u32,
     generator: Inner,
@@ -105,7 +105,7 @@ fn all_fit(schedule: &[Entry], environment: &Env) -> bool
 pub struct PlanData {
     /// The environment, on which no fault is laid.
     pub environment: Env,
-    pub settings: Settings,
+    pub settings: Database,
     /// How many client threads make calls: 1 to 16.
     pub clients: u32,
     /// How many calls are made: 1 to `Workload::max_calls`.

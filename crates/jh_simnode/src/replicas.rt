@@ -5,7 +5,7 @@ ghost use Rattle.std.specs.Prelude.{◌≡◌, List, [], IfOk, replicate};
 ghost use Rattle.jh_simnode.specs.Replicas.{first_contents, first_replica, is_lower, version};
 ghost use Rattle.jh_simnode.specs.Replicas.{got_of};
 
-use crate::settings::Settings;
+use crate::settings::Database;
 use jh_ops::Workload;
 use std::alloc::{AllocError, Global};
 use std::marker::Model;
@@ -113,7 +113,7 @@ impl Numbers {
 
 impl Contents {
     /// What a replica holds at first.
-    pub(crate) fn first(alloc: Global, settings: &Settings) -> Contents
+    pub(crate) fn first(alloc: Global, settings: &Database) -> Contents
         ensures { result ≡ first_contents settings.now }
     {
         match settings.workload {
@@ -198,7 +198,7 @@ impl Recency {
 
 impl Replica {
     /// A node's replica at first.
-    pub(crate) fn first(alloc: Global, settings: &Settings) -> Replica
+    pub(crate) fn first(alloc: Global, settings: &Database) -> Replica
         ensures { result ≡ first_replica settings.now }
     {
         Replica {
@@ -221,7 +221,7 @@ impl Replica {
 /// So many replicas as they are at first.
 pub(crate) fn first_replicas(
     alloc: Global,
-    settings: &Settings,
+    settings: &Database,
     count: usize,
 ) -> Result<Vec<Replica>, AllocError>
     ensures { IfOk result (λ all. all.items ≡ replicate count (first_replica settings.now)) }

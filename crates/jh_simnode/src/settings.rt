@@ -48,9 +48,9 @@ impl Store {
     }
 }
 
-/// What a world keeps for good, beside its starting environment.
+/// The database of a world, which it keeps for good beside its starting environment.
 #[derive(Clone, Copy, Debug, PartialEq, Eq)]
-pub struct Settings {
+pub struct Database {
     pub store: Store,
     /// Whether a node that is killed loses its replica.
     pub volatile: bool,

@@ -22,7 +22,7 @@ use crate::reach::{
 };
 use crate::replicas::{Recency, Replica, Reply};
 use crate::requests::{is_read_request, only_asks};
-use crate::settings::{Settings, Store};
+use crate::settings::{Database, Store};
 use arrayvec::ArrayVec;
 use jh_env::{Env, Life, Node};
 use jh_ops::Request;
@@ -64,7 +64,7 @@ pub(crate) fn killed_nodes(env: &Env) -> Flags
 #[tactic(auto, unfolding(crate::specs::Stores::replicas_after_kills))]
 pub(crate) fn forget(
     alloc: Global,
-    settings: &Settings,
+    settings: &Database,
     before: &[bool],
     env: &Env,
     replicas: &mut [Replica],
@@ -449,7 +449,7 @@ fn serve_quorum(
 #[tactic(auto, unfolding(crate::specs::Stores::reply_to))]
 pub(crate) fn serve(
     alloc: Global,
-    settings: &Settings,
+    settings: &Database,
     env: &Env,
     replicas: &[Replica],
     number: u64,

@@ -12,7 +12,7 @@ ghost use Rattle.jh_simnode.specs.declared.events.Event.TheVariants as Event;
 
 use crate::events::{Event, MAX_EVENTS, WorldError, fits};
 use crate::replicas::{Replica, Reply, first_replicas};
-use crate::settings::{Settings, Store};
+use crate::settings::{Database, Store};
 use crate::stores::{forget, killed_nodes, serve, take_over, tick_replicas};
 use jh_env::{Env, Node};
 use jh_nemesis::{Nemesis, Step, StepAnswer};
@@ -26,7 +26,7 @@ use std::marker::Model;
 #[derive(Debug, Drop)]
 pub struct World {
     alloc: Global,
-    settings: Settings,
+    settings: Database,
     nemesis: Nemesis,
     replicas: Vec<Replica>,
     journal: Vec<Event>,
@@ -64,7 +64,7 @@ impl World {
               initial = initial;
             })) }
     {
-        let settings = Settings {
+        let settings = Database {
             store,
             volatile,
             workload,

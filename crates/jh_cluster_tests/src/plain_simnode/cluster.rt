@@ -6,7 +6,7 @@ use crate::plain_simnode::held::{first_held, held_after};
 use crate::plain_simnode::reach::{link, node_at, process, reached, responding};
 use jh_env::{Env, Life};
 use jh_ops::Request;
-use jh_simnode::{Got, Reply, Settings, Store};
+use jh_simnode::{Database, Got, Reply, Store};
 use std::alloc::Global;
 
 /// How new a replica is, by a version or a time and then by a node, and what it holds.
@@ -32,7 +32,7 @@ pub enum PlainReply {
 #[derive(Drop)]
 pub struct PlainCluster {
     alloc: Global,
-    settings: Settings,
+    settings: Database,
     replicas: Vec<PlainReplica>,
 }
 
@@ -69,7 +69,7 @@ fn is_got(got: &Got, held: &[i64]) -> bool {
 }
 
 /// A node's replica at first.
-fn first_replica(alloc: Global, settings: &Settings) -> Option<PlainReplica> {
+fn first_replica(alloc: Global, settings: &Database) -> Option<PlainReplica> {
     Some(PlainReplica {
         time: i128::MIN,
         by: 0,
@@ -100,7 +100,7 @@ fn got(alloc: Global, request: Request, held: &[i64]) -> Option<PlainReply> {
 
 impl PlainCluster {
     /// So many nodes with their first replicas.
-    pub fn new(alloc: Global, settings: Settings, count: usize) -> Option<PlainCluster> {
+    pub fn new(alloc: Global, settings: Database, count: usize) -> Option<PlainCluster> {
         let mut replicas = Vec::new(alloc);
         for _place in 0..count {
             replicas.push(first_replica(alloc, &settings)?).ok()?;

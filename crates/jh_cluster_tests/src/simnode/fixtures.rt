@@ -12,7 +12,7 @@ use jh_edn::{Value, read_all};
 use jh_env::{Env, Nodes, env_of_value};
 use jh_gen::{Gen, gen_of_value};
 use jh_ops::Workload;
-use jh_simnode::{Entry, Plan, PlanData, PlanError, Schedule, Settings, Store, World};
+use jh_simnode::{Database, Entry, Plan, PlanData, PlanError, Schedule, Store, World};
 use jh_step_texts::step_of_value;
 use std::alloc::Global;
 
@@ -90,9 +90,9 @@ fn workload_of(map: &Value) -> Workload {
     }
 }
 
-/// What a world keeps for good, as a map has it.
-fn settings_of(map: &Value) -> Settings {
-    Settings {
+/// The database of a world, as a map has it.
+fn database_of(map: &Value) -> Database {
+    Database {
         store: store_of(map),
         volatile: matches!(under(map, "volatile"), Some(Value::Bool(true))),
         workload: workload_of(map),
@@ -159,7 +159,7 @@ fn data_over(map: &Value, environment: Env, generator: Gen, schedule: Schedule) 
 {
     PlanData {
         environment,
-        settings: settings_of(map),
+        settings: database_of(map),
         clients: number(map, "clients", 1),
         ops: number(map, "ops", 1),
         generator,
@@ -192,12 +192,12 @@ pub(crate) fn plan_of(alloc: Global, settings: &str) -> Result<Plan, PlanError> 
 
 /// The world of settings, in which nothing has happened.
 pub(crate) fn world_of(alloc: Global, map: &Value) -> Option<World> {
-    let Settings {
+    let Database {
         store,
         volatile,
         workload,
         initial,
-    } = settings_of(map);
+    } = database_of(map);
     World::new(
         alloc,
         env_of(alloc, map)?,

@@ -9,7 +9,7 @@ use crate::simnode::fixtures::{env_of, value};
 use jh_edn::Value;
 use jh_env::Env;
 use jh_ops::{Request, Workload};
-use jh_simnode::{Settings, Store, World};
+use jh_simnode::{Database, Store, World};
 use jh_test_kit::Random;
 use std::alloc::Global;
 
@@ -96,9 +96,9 @@ fn workload_of(seed: u64) -> Workload {
     }
 }
 
-/// The settings of a world that a seed gives.
-fn settings_of(seed: u64) -> Settings {
-    Settings {
+/// The database of a world that a seed gives.
+fn database_of(seed: u64) -> Database {
+    Database {
         store: store_of(seed),
         volatile: seed / 12 % 2 == 0,
         workload: workload_of(seed),
@@ -110,12 +110,12 @@ fn settings_of(seed: u64) -> Settings {
 fn world_of(alloc: Global, env: Env, seed: u64) -> Option<World>
     requires { StandsFor env [] }
 {
-    let Settings {
+    let Database {
         store,
         volatile,
         workload,
         initial,
-    } = settings_of(seed);
+    } = database_of(seed);
     World::new(alloc, env, store, volatile, workload, initial).ok()
 }
 
@@ -124,7 +124,7 @@ fn started(alloc: Global, settings: &Value, seed: u64) -> Option<Both> {
     let world = world_of(alloc, env_of(alloc, settings)?, seed)?;
     let count = world.nemesis().env().nodes().len();
     Some(Both {
-        plain: PlainCluster::new(alloc, settings_of(seed), count)?,
+        plain: PlainCluster::new(alloc, database_of(seed), count)?,
         world,
         random: Random::new(seed),
     })

@@ -13,7 +13,7 @@ use jh_gen::{Gen, Inner};
 use jh_nemesis::Step;
 use jh_ops::{Call, Request, Workload};
 use jh_settings_texts::can_be_written;
-use jh_simnode::{Entry, Plan, PlanData, Schedule, Settings, Store};
+use jh_simnode::{Database, Entry, Plan, PlanData, Schedule, Store};
 use std::alloc::Global;
 
 /// An environment of two nodes.
@@ -47,9 +47,9 @@ fn undone_at(alloc: Global, at: u64) -> Option<Schedule> {
     Schedule::of(entries).ok()
 }
 
-/// What a run of a workload keeps for good.
-fn settings_of(workload: &str, initial: &str) -> Option<Settings> {
-    Some(Settings {
+/// The database of a run of a workload.
+fn database_of(workload: &str, initial: &str) -> Option<Database> {
+    Some(Database {
         store: Store::Local,
         volatile: false,
         workload: Workload::named(workload)?,
@@ -58,7 +58,7 @@ fn settings_of(workload: &str, initial: &str) -> Option<Settings> {
 }
 
 /// The plan of these parts.
-fn plan_of(alloc: Global, settings: Settings, numbers: [u64; 4]) -> Option<Plan> {
+fn plan_of(alloc: Global, settings: Database, numbers: [u64; 4]) -> Option<Plan> {
     let [tick_every, seed, at, levels] = numbers;
     let generator = nested(alloc, levels)?;
     let schedule = undone_at(alloc, at)?;
@@ -91,7 +91,7 @@ fn numbers_of(words: &str) -> Option<[u64; 4]> {
 fn answer_once(alloc: Global, row: &str) -> Option<&'static str> {
     let (workload, rest) = row.split_once(' ')?;
     let (initial, numbers) = rest.split_once(' ')?;
-    let plan = plan_of(alloc, settings_of(workload, initial)?, numbers_of(numbers)?)?;
+    let plan = plan_of(alloc, database_of(workload, initial)?, numbers_of(numbers)?)?;
     Some(if can_be_written(&plan) { "yes" } else { "no" })
 }
 
