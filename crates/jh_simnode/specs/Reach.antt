@@ -1,6 +1,7 @@
 -- Whom a call of a node reaches, and whom it hears in time (this project's own).
 use Rattle.std.specs.Prelude.{ℕ, ◌+◌, ◌%◌, ◌==◌, ◌&&◌, ◌||◌, Bool, true, false, not}
 use Rattle.std.specs.Prelude.{List, Option, Some, None, nat_le, filter, option_map}
+use Rattle.jh_tables.specs.Limits.{max_loss}
 use Rattle.jh_env.specs.Cells.{Life}
 use Rattle.jh_env.specs.Cells.{Running, Paused, Killed}
 use Rattle.jh_env.specs.Cells.{Link}
@@ -46,7 +47,7 @@ is_node_killed (Some n) = is_killed n.process
 -- the link is there, uncut, and doesn't lose a call of this draw
 abbrev pub carries : ℕ → Option Link → Bool
 carries draw None = false
-carries draw (Some l) = not l.cut && nat_le l.loss (draw % 20)
+carries draw (Some l) = not l.cut && nat_le l.loss (draw % max_loss)
 
 -- the delay of a link in milliseconds
 abbrev pub delay_of : Option Link → ℕ
