@@ -5,7 +5,7 @@ use Rattle.std.specs.Prelude.{ℕ}
 abbrev pub max_events : ℕ
 max_events = 65536
 
--- how many entries a schedule has, at most
+-- how many entries a schedule has, at most; that of a test: `max_test_entries` (jh_test_parts)
 abbrev pub max_entries : ℕ
 max_entries = 1024
 

@@ -1,7 +1,7 @@
 -- The limits of a test's schedule and of its transactions (this project's own).
 use Rattle.std.specs.Prelude.{ℕ}
 
--- how many entries the schedule of a test has, at most
+-- how many entries the schedule of a test has, at most; that of a run: `max_entries` (jh_simnode)
 abbrev pub max_test_entries : ℕ
 max_test_entries = 1024
 
