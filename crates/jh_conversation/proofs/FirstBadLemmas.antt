@@ -142,4 +142,4 @@ finds_all t d (line ∷ lines) m n h =
 
 pub first_bad_kept : (t : TestValue) (d : Drivers t) (lines : List (List ℕ)) → (run t d lines).bad ≡ first_bad t (start t d) 0 lines
 first_bad_kept t d lines =
-    finds_all t d lines (start t d) 0 (kept_turn t (FindsBad None 0) (finds_in_turn t None 0) (at_first t d.first d.last (first_state t.start)) (refl, refl))
+    finds_all t d lines (start t d) 0 (kept_turn t (FindsBad None 0) (finds_in_turn t None 0) (at_first t d.first d.final_calls (first_state t.start)) (refl, refl))

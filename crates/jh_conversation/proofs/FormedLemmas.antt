@@ -228,7 +228,7 @@ holds_by_line s = record {
     ended Kind.Fail life e = refl
     ended Kind.Info life e = absurd (omega arith)
 
-pub holds_at_first : (s : TestValue) (d : Drivers s) → Holds s (at_first s d.first d.last (first_state s.start))
+pub holds_at_first : (s : TestValue) (d : Drivers s) → Holds s (at_first s d.first d.final_calls (first_state s.start))
 holds_at_first s d = (
   record {
     wide = long_new s.clients 0;

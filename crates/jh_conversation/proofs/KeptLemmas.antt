@@ -71,7 +71,7 @@ pub record IsKeptInTurn (t : TestValue) (P : Machine → Type 0) : Type 0 where
   pub heals : (m : Machine) → m.phase ≡ Main → calls_ended t m ≡ true → P m → P (heal m)
   pub rests : (m : Machine) → m.phase ≡ Heal → m.step ≡ None → is_empty m.nemesis.active ≡ true → P m → P (rest m)
   pub ends_rest : (m : Machine) → m.phase ≡ Rest → P m → P (end m)
-  pub finals : (m : Machine) (driver : DriverState) → m.phase ≡ Rest → m.last ≡ Some driver → P m → P (final t driver m)
+  pub finals : (m : Machine) (driver : DriverState) → m.phase ≡ Rest → m.final_calls ≡ Some driver → P m → P (final t driver m)
   pub ends_final : (m : Machine) → m.phase ≡ Final → calls_ended t m ≡ true → P m → P (end m)
 
 -- and those of a line
@@ -137,14 +137,14 @@ module _ (t : TestValue) (P : Machine → Type 0) (k : IsKeptInTurn t P) where
       healed None e quiet is = k.rests m is e quiet h
       healed (Some w) e quiet is = absurd (false≢true quiet)
 
-      rested : (d : Option DriverState) → m.last ≡ d → m.phase ≡ Rest → IfMoved P (after_rest t d m)
+      rested : (d : Option DriverState) → m.final_calls ≡ d → m.phase ≡ Rest → IfMoved P (after_rest t d m)
       rested None e is = k.ends_rest m is h
       rested (Some d) e is = cond_both (nat_le 2 m.stops) (Some (end m)) (when (has_recovered t m) (final t d m)) (IfMoved P) (λ _. k.ends_rest m is h) (λ _. kept_when _ _ (λ _. k.finals m d is e h))
 
       go : (phase : Phase) → m.phase ≡ phase → IfMoved P (move_from phase t m)
       go Main is = kept_when _ _ (λ e. k.heals m is e h)
       go Heal is = kept_when _ _ (λ e. healed m.step refl e is)
-      go Rest is = rested m.last refl is
+      go Rest is = rested m.final_calls refl is
       go Final is = kept_when _ _ (λ e. k.ends_final m is e h)
       go Over is = tt
 
@@ -227,6 +227,6 @@ module _ (t : TestValue) (P : Machine → Type 0) (k : IsKeptInTurn t P) (l : Is
 
 -- what holds at first holds after all lines
 pub kept_run : (t : TestValue) (d : Drivers t) (P : Machine → Type 0) → IsKeptInTurn t P → IsKeptByLine t P
-    → (lines : List (List ℕ)) → P (at_first t d.first d.last (first_state t.start)) → P (run t d lines)
+    → (lines : List (List ℕ)) → P (at_first t d.first d.final_calls (first_state t.start)) → P (run t d lines)
 kept_run t d P k l lines h =
-    kept_lines t P k l lines (start t d) (kept_turn t P k (at_first t d.first d.last (first_state t.start)) h)
+    kept_lines t P k l lines (start t d) (kept_turn t P k (at_first t d.first d.final_calls (first_state t.start)) h)

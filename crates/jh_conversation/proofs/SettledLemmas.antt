@@ -121,7 +121,7 @@ lower_rest s m next (Some g) e =
 lower_from : (s : TestValue) (m next : Machine) (phase : Phase) → move_from phase s m ≡ Some next → rank next.phase < rank phase
 lower_from s m next Main e = let k : 3 ≡ rank next.phase = ap (λ x. rank x.phase) (when_is _ _ next e) in omega arith
 lower_from s m next Heal e = let k : 2 ≡ rank next.phase = ap (λ x. rank x.phase) (when_is _ _ next e) in omega arith
-lower_from s m next Rest e = lower_rest s m next m.last e
+lower_from s m next Rest e = lower_rest s m next m.final_calls e
 lower_from s m next Final e = let k : 0 ≡ rank next.phase = ap (λ x. rank x.phase) (when_is _ _ next e) in omega arith
 lower_from s m next Over e = absurd (cc e)
 
@@ -250,7 +250,7 @@ waits_settled t m h = go m.phase refl
     go : (phase : Phase) → m.phase ≡ phase → Waits t m
     go Main is = in_main is (ended Main is (when_not _ _ (stays Main is)))
     go Heal is = in_heal is m.step refl (when_not _ _ (stays Heal is))
-    go Rest is = waits_rest t m m.last is (stays Rest is)
+    go Rest is = waits_rest t m m.final_calls is (stays Rest is)
     go Final is = in_final is (ended Final is (when_not _ _ (stays Final is)))
     go Over is = IsOver is
 
@@ -268,5 +268,5 @@ waits_lines t (line ∷ lines) m h w =
 
 pub always_waits : (t : TestValue) (d : Drivers t) (lines : List (List ℕ)) → Waits t (run t d lines)
 always_waits t d lines =
-    waits_lines t lines (start t d) (kept_turn t (Holds t) (holds_in_turn t) (at_first t d.first d.last (first_state t.start)) (holds_at_first t d))
-    (waits_settled t (start t d) (turn_settles t (at_first t d.first d.last (first_state t.start)) (holds_at_first t d)))
+    waits_lines t lines (start t d) (kept_turn t (Holds t) (holds_in_turn t) (at_first t d.first d.final_calls (first_state t.start)) (holds_at_first t d))
+    (waits_settled t (start t d) (turn_settles t (at_first t d.first d.final_calls (first_state t.start)) (holds_at_first t d)))

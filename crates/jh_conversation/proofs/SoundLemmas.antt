@@ -31,7 +31,7 @@ use Rattle.jh_nemesis.specs.declared.steps.StepAnswer.TheVariants as answer
 use Rattle.jh_ops.specs.declared.call.Call.TheVariants as call
 use Rattle.jh_ops.specs.declared.call.Request.{Request}
 use Rattle.jh_ops.specs.declared.operation.Kind.{Kind}
-use Rattle.jh_conversation.specs.Laws.{Drivers, IsLastDriver}
+use Rattle.jh_conversation.specs.Laws.{Drivers, IsFinalDriver}
 use Rattle.jh_conversation.specs.Lines.{at_first, ended_as, more_crashes}
 use Rattle.jh_conversation.specs.Machine.{Machine, are_free, caller_process, has_no_call}
 use Rattle.jh_conversation.specs.Machine.{new_callers, no_caller}
@@ -483,13 +483,13 @@ sound_by_line t fit = record {
 
 -- At first.
 
-fresh_if_there : (t : TestValue) (g : Option Generator) (last : Option DriverState) → IsLastDriver t g last → IsFreshIfThere t.clients last
+fresh_if_there : (t : TestValue) (g : Option Generator) (final_calls : Option DriverState) → IsFinalDriver t g final_calls → IsFreshIfThere t.clients final_calls
 fresh_if_there t None None h = tt
 fresh_if_there t (Some g) None h = absurd h
 fresh_if_there t None (Some d) h = absurd h
 fresh_if_there t (Some g) (Some d) h = (h.1, h.0.count)
 
-pub sound_at_first : (t : TestValue) (d : Drivers t) → IsSoundMachine t (at_first t d.first d.last (first_state t.start))
+pub sound_at_first : (t : TestValue) (d : Drivers t) → IsSoundMachine t (at_first t d.first d.final_calls (first_state t.start))
 sound_at_first t d =
     let given : d.first.given ≡ 0 = d.is_first.0.count in (
       tied_fresh t.clients d.first 0 d.is_first.1,
@@ -501,7 +501,7 @@ sound_at_first t d =
       },
       record { long = length-replicate t.clients 0; each = λ k. none_given t.clients k },
       (λ b. absurd b),
-      fresh_if_there t t.final d.last d.is_last,
+      fresh_if_there t t.final_calls d.final_calls d.is_final,
       (refl, refl),
       record { time = omega arith; entries = omega arith; open_step = tt; records = tt },
     )

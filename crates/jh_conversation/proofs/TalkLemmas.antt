@@ -120,7 +120,7 @@ talked_all t d (line ∷ lines) m =
 pub history_is_talk : (t : TestValue) (d : Drivers t) (lines : List (List ℕ)) → (run t d lines).history ≡ talk t d lines
 history_is_talk t d lines =
     talked_all t d lines (start t d)
-    ∙ ap (λ l. talk_from t (start t d) lines ++ l) (kept_turn t (HasSaid []) (said_in_turn t []) (at_first t d.first d.last (first_state t.start)) refl ∙ nothing (start t d).said)
+    ∙ ap (λ l. talk_from t (start t d) lines ++ l) (kept_turn t (HasSaid []) (said_in_turn t []) (at_first t d.first d.final_calls (first_state t.start)) refl ∙ nothing (start t d).said)
   where
     nothing : (l : List Recorded) → l ++ [] ≡ l
     nothing [] = refl

@@ -42,21 +42,21 @@ abbrev pub IsDriverAtFirst : TestValue → Generator → DriverState → Type 0
 IsDriverAtFirst t generator driver =
     IsDriverOf driver (clients (limit t.ops generator)) [] × IsFresh driver t.clients
 
-abbrev pub IsLastDriver : TestValue → Option Generator → Option DriverState → Type 0
-IsLastDriver t None None = Unit {0}
-IsLastDriver t (Some generator) (Some driver) = IsDriverAtFirst t generator driver
-IsLastDriver t _ _ = ⊥
+abbrev pub IsFinalDriver : TestValue → Option Generator → Option DriverState → Type 0
+IsFinalDriver t None None = Unit {0}
+IsFinalDriver t (Some generator) (Some driver) = IsDriverAtFirst t generator driver
+IsFinalDriver t _ _ = ⊥
 
 -- The drivers that a test begins with: of its generator, and of its final one where there is one.
 pub record Drivers (t : TestValue) : Type 0 where
   pub first : DriverState
   pub is_first : IsDriverAtFirst t t.generator first
-  pub last : Option DriverState
-  pub is_last : IsLastDriver t t.final last
+  pub final_calls : Option DriverState
+  pub is_final : IsFinalDriver t t.final_calls final_calls
 
 -- the machine after these lines
 abbrev pub start : (t : TestValue) → Drivers t → Machine
-start t d = turn t (at_first t d.first d.last (first_state t.start))
+start t d = turn t (at_first t d.first d.final_calls (first_state t.start))
 
 abbrev pub run : (t : TestValue) → Drivers t → List (List ℕ) → Machine
 run t d lines = after_lines (take_line t) (start t d) lines

@@ -160,10 +160,10 @@ take_line t m line =
 
 -- the machine before its first turn
 abbrev pub at_first : TestValue → DriverState → Option DriverState → State → Machine
-at_first t driver last nemesis = record {
+at_first t driver final_calls nemesis = record {
   phase = Main;
   driver = driver;
-  last = last;
+  final_calls = final_calls;
   has_spent = false;
   random_numbers = started 128 multiplier_128 t.seed (increment_of 128 0);
   transactions = first_source t.transactions t.seed;

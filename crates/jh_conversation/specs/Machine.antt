@@ -20,7 +20,7 @@ pub record Machine : Type 0 where
   -- what gives the calls of this phase, and what will give those of *final*, where it is to come; whether
   -- the former has no more, and the random numbers for it
   pub driver : DriverState
-  pub last : Option DriverState
+  pub final_calls : Option DriverState
   pub has_spent : Bool
   pub random_numbers : Lcg
   -- the transactions to come, and how many calls each group of threads was given

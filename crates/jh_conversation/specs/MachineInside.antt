@@ -7,7 +7,7 @@ abbrev pub machine_of : Inside → Machine
 machine_of a = record {
   phase = a.phase;
   driver = a.driver;
-  last = a.last;
+  final_calls = a.final_calls;
   has_spent = a.has_spent;
   random_numbers = a.random_numbers;
   transactions = a.transactions;

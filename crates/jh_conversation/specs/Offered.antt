@@ -40,11 +40,11 @@ AreFinalCalls t (Some g) calls = AreCallsOf t g calls
 
 -- Calls are those of *main*, and behind them those of *final*.
 pub record AreAllOffers (t : TestValue) (calls : List (ℕ × Request)) : Type 0 where
-  pub last : List (ℕ × Request)
+  pub final : List (ℕ × Request)
   pub main : List (ℕ × Request)
-  pub split : calls ≡ last ++ main
+  pub split : calls ≡ final ++ main
   pub of_main : AreCallsOf t t.generator main
-  pub of_final : AreFinalCalls t t.final last
+  pub of_final : AreFinalCalls t t.final_calls final
 
 abbrev pub CallsAreOffers : Type 0
 CallsAreOffers =

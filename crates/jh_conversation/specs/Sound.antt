@@ -91,7 +91,7 @@ IsSoundMachine t m =
     × AreCounted t.clients m.given m.answered m.crashed m.callers
     × AreGroups t.clients m.given m.calls_by_group
     × (IsBetween m.phase → are_free m.callers ≡ true)
-    × IsFreshIfThere t.clients m.last
+    × IsFreshIfThere t.clients m.final_calls
     × IsOverStart t m.nemesis
     × HasSmallNumbers (length t.start.names) m.clock m.taken m.step m.history
 

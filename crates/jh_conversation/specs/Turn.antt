@@ -231,7 +231,7 @@ abbrev pub final : TestValue → DriverState → Machine → Machine
 final t driver m = record m {
   phase = Final;
   driver = driver;
-  last = None;
+  final_calls = None;
   has_spent = false;
   callers = new_callers t.clients m.crashed;
 }
@@ -255,7 +255,7 @@ after_rest t (Some driver) m =
 abbrev pub move_from : Phase → TestValue → Machine → Option Machine
 move_from Main t m = when (calls_ended t m) (heal m)
 move_from Heal t m = when (has_healed m m.step) (rest m)
-move_from Rest t m = after_rest t m.last m
+move_from Rest t m = after_rest t m.final_calls m
 move_from Final t m = when (calls_ended t m) (end m)
 move_from Over t m = None
 

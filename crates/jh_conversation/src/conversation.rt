@@ -4,7 +4,7 @@
 ghost use Rattle.std.specs.Prelude.{◌≡◌, ◌++◌, IfOk, OnOk, true};
 ghost use Rattle.jh_gen.specs.View.{generator_of};
 ghost use Rattle.jh_conversation.specs.Conversations.{IsTestBegun};
-ghost use Rattle.jh_conversation.specs.Laws.{IsDriverAtFirst, IsLastDriver};
+ghost use Rattle.jh_conversation.specs.Laws.{IsDriverAtFirst, IsFinalDriver};
 ghost use Rattle.jh_conversation.specs.Text.{recorded_lines, recorded_history};
 ghost use Rattle.jh_ops.specs.Operation.{operations};
 ghost use Rattle.jh_test_parts.specs.Test.{suits_checker};
@@ -70,12 +70,12 @@ fn first_driver(alloc: Global, test: &Test) -> Result<Driver, AllocError>
 }
 
 /// The driver of the calls of *final*, where there are some.
-fn last_driver(alloc: Global, test: &Test) -> Result<Option<Driver>, AllocError>
-    ensures { IfOk result (IsLastDriver test.now test.now.final) }
+fn final_driver(alloc: Global, test: &Test) -> Result<Option<Driver>, AllocError>
+    ensures { IfOk result (IsFinalDriver test.now test.now.final_calls) }
 {
     // The answer is not used: this call's contract says that the test can be made.
     let _clients = test.clients();
-    match test.last() {
+    match test.final_calls() {
         None => Ok(None),
         Some(generator) => Ok(Some(driver_of(alloc, test, generator)?)),
     }
@@ -91,8 +91,8 @@ impl Conversation {
         // The answer is not used: this call's contract says that the test can be made.
         let _clients = test.clients();
         let driver = first_driver(alloc, &test)?;
-        let last = last_driver(alloc, &test)?;
-        let mut machine = Machine::at_first(alloc, &test, driver, last)?;
+        let final_calls = final_driver(alloc, &test)?;
+        let mut machine = Machine::at_first(alloc, &test, driver, final_calls)?;
         machine.turn(alloc, &test)?;
         Ok(Conversation {
             alloc,

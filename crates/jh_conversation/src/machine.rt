@@ -23,7 +23,7 @@ pub struct Machine {
     /// What gives the calls of this phase.
     pub(crate) driver: Driver,
     /// What will give those of *final*, where it is to come.
-    pub(crate) last: Option<Driver>,
+    pub(crate) final_calls: Option<Driver>,
     /// Whether the driver of this phase has no more.
     pub(crate) has_spent: bool,
     /// The random numbers for the driver.
@@ -109,16 +109,16 @@ impl Machine {
         alloc: Global,
         test: &Test,
         driver: Driver,
-        last: Option<Driver>,
+        final_calls: Option<Driver>,
     ) -> Result<Machine, AllocError>
         ensures { IfOk result
-            (λ machine. machine ≡ at_first test.now driver last (first_state test.now.start)) }
+            (λ machine. machine ≡ at_first test.now driver final_calls (first_state test.now.start)) }
     {
         let clients = test.clients();
         Ok(Machine {
             phase: Phase::Main,
             driver,
-            last,
+            final_calls,
             has_spent: false,
             random_numbers: Lcg128Xsl64::new(u128::from(test.seed()), 0),
             transactions: TransactionSource::first(alloc, test.transactions(), test.seed())?,

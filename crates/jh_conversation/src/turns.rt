@@ -420,7 +420,7 @@ impl Machine {
         self.callers = new_callers(alloc, test.clients(), self.crashed)?;
         self.phase = Phase::Final;
         self.driver = driver;
-        self.last = None;
+        self.final_calls = None;
         self.has_spent = false;
         Ok(())
     }
@@ -428,18 +428,18 @@ impl Machine {
     /// Ends *rest*, if its time has come, and says whether it had.
     fn end_rest(&mut self, alloc: Global, test: &Test) -> Result<bool, AllocError>
         ensures machine { OnOk result
-            (self.new ≡ inside.moved self.old (rule.after_rest test.now self.old.last self.old)) }
+            (self.new ≡ inside.moved self.old (rule.after_rest test.now self.old.final_calls self.old)) }
         ensures moved { IfOk result
-            (λ moved. moved ≡ is_some (rule.after_rest test.now self.old.last self.old)) }
+            (λ moved. moved ≡ is_some (rule.after_rest test.now self.old.final_calls self.old)) }
     {
-        if self.last.is_none() || 2 <= self.stops {
+        if self.final_calls.is_none() || 2 <= self.stops {
             self.phase = Phase::Over;
             return Ok(true);
         }
         if !self.has_recovered(test) {
             return Ok(false);
         }
-        match self.last.take() {
+        match self.final_calls.take() {
             None => Ok(false),
             Some(driver) => {
                 self.begin_final(alloc, test, driver)?;

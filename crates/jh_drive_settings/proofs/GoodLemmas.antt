@@ -27,11 +27,11 @@ module _ (document : Members) where
   Refuses some e = RefusesKeyValues (IsGoodForTest document) some e
 
   -- the keys behind those of each group
-  abbrev pub behind_last : List Key
-  behind_last = detail_keys ++ Key.Schedule ∷ []
+  abbrev pub behind_final_calls : List Key
+  behind_final_calls = detail_keys ++ Key.Schedule ∷ []
 
   abbrev pub behind_pace : List Key
-  behind_pace = (Key.Final ∷ []) ++ behind_last
+  behind_pace = (Key.Final ∷ []) ++ behind_final_calls
 
   abbrev pub behind_asked : List Key
   behind_asked = pace_keys ++ behind_pace
@@ -43,8 +43,8 @@ module _ (document : Members) where
   pace_good pace h =
       (is_parsed h.by_clients, (is_parsed h.so_many, (is_parsed h.until, (is_parsed h.at_rate, (is_parsed h.by_threads, (is_parsed h.by_calls, (is_parsed h.recovers, tt)))))))
 
-  last_good : (g : Option Generator) → IsParsedFinal document g → AreGood (IsGoodForTest document) (Key.Final ∷ [])
-  last_good g h = ((g, h), tt)
+  final_calls_good : (g : Option Generator) → IsParsedFinal document g → AreGood (IsGoodForTest document) (Key.Final ∷ [])
+  final_calls_good g h = ((g, h), tt)
 
   details_good : (details : Details) → AreParsedDetails document details → AreGood (IsGoodForTest document) detail_keys
   details_good details h =
@@ -63,12 +63,12 @@ module _ (document : Members) where
   final_bad OutOfMemory there h = tt
 
   -- a bad value is the first of a key alone
-  last_bad : (e : SettingsError) → RefusesValue ((g : Option Generator) × IsParsedFinal document g) Key.Final e → Refuses (Key.Final ∷ []) e
-  last_bad NotToml h = absurd h
-  last_bad (Unknown name) h = absurd h
-  last_bad (Missing key) h = absurd h
-  last_bad (BadValue key) h = inl (h.0, λ good. h.1 (subst (IsGoodForTest document) (sym h.0) good))
-  last_bad OutOfMemory h = tt
+  final_calls_bad : (e : SettingsError) → RefusesValue ((g : Option Generator) × IsParsedFinal document g) Key.Final e → Refuses (Key.Final ∷ []) e
+  final_calls_bad NotToml h = absurd h
+  final_calls_bad (Unknown name) h = absurd h
+  final_calls_bad (Missing key) h = absurd h
+  final_calls_bad (BadValue key) h = inl (h.0, λ good. h.1 (subst (IsGoodForTest document) (sym h.0) good))
+  final_calls_bad OutOfMemory h = tt
 
   no_schedule : (env : EnvValue) → IsParsedStart document env → (((entries : List TestEntry) × IsParsedTestSchedule env.names document entries) → ⊥) → IsGoodForTest document Key.Schedule → ⊥
   no_schedule env start none good =
@@ -95,20 +95,20 @@ module _ (document : Members) where
   after_pace : (e : SettingsError) (asked : Asked) → IsParsedAsked document asked → (pace : Pace) → IsParsedPace document pace → Refuses behind_pace e → Refuses drive_keys e
   after_pace e asked a pace p h = after_asked e asked a (refused_behind (IsGoodForTest document) pace_keys behind_pace e (pace_good pace p) h)
 
-  pub last_refused : (e : SettingsError) (asked : Asked) → IsParsedAsked document asked → (pace : Pace) → IsParsedPace document pace
+  pub final_calls_refused : (e : SettingsError) (asked : Asked) → IsParsedAsked document asked → (pace : Pace) → IsParsedPace document pace
       → RefusesValue ((g : Option Generator) × IsParsedFinal document g) Key.Final e → Refuses drive_keys e
-  last_refused e asked a pace p h = after_pace e asked a pace p (refused_front (IsGoodForTest document) (Key.Final ∷ []) behind_last e (last_bad e h))
+  final_calls_refused e asked a pace p h = after_pace e asked a pace p (refused_front (IsGoodForTest document) (Key.Final ∷ []) behind_final_calls e (final_calls_bad e h))
 
-  after_last : (e : SettingsError) (asked : Asked) → IsParsedAsked document asked → (pace : Pace) → IsParsedPace document pace → (g : Option Generator) → IsParsedFinal document g → Refuses behind_last e → Refuses drive_keys e
-  after_last e asked a pace p g f h = after_pace e asked a pace p (refused_behind (IsGoodForTest document) (Key.Final ∷ []) behind_last e (last_good g f) h)
+  after_final_calls : (e : SettingsError) (asked : Asked) → IsParsedAsked document asked → (pace : Pace) → IsParsedPace document pace → (g : Option Generator) → IsParsedFinal document g → Refuses behind_final_calls e → Refuses drive_keys e
+  after_final_calls e asked a pace p g f h = after_pace e asked a pace p (refused_behind (IsGoodForTest document) (Key.Final ∷ []) behind_final_calls e (final_calls_good g f) h)
 
   pub details_refused : (e : SettingsError) (asked : Asked) → IsParsedAsked document asked → (pace : Pace) → IsParsedPace document pace → (g : Option Generator) → IsParsedFinal document g → Refuses detail_keys e → Refuses drive_keys e
-  details_refused e asked a pace p g f h = after_last e asked a pace p g f (refused_front (IsGoodForTest document) detail_keys (Key.Schedule ∷ []) e h)
+  details_refused e asked a pace p g f h = after_final_calls e asked a pace p g f (refused_front (IsGoodForTest document) detail_keys (Key.Schedule ∷ []) e h)
 
   pub schedule_refused : (e : SettingsError) (asked : Asked) → IsParsedAsked document asked → (pace : Pace) → IsParsedPace document pace → (g : Option Generator) → IsParsedFinal document g → (details : Details) → AreParsedDetails document details
       → RefusesValue ((entries : List TestEntry) × IsParsedTestSchedule asked.environment.names document entries) Key.Schedule e → Refuses drive_keys e
   schedule_refused e asked a pace p g f details d h =
-      after_last e asked a pace p g f (refused_behind (IsGoodForTest document) detail_keys (Key.Schedule ∷ []) e (details_good details d) (entries_bad asked.environment e a.start h))
+      after_final_calls e asked a pace p g f (refused_behind (IsGoodForTest document) detail_keys (Key.Schedule ∷ []) e (details_good details d) (entries_bad asked.environment e a.start h))
 
   -- where one is bad, the document is refused for it
   pub values_refused : (e : SettingsError) → Refuses drive_keys e → RefusesDriveValues document e
@@ -124,6 +124,6 @@ module _ (document : Members) where
       let Good : Key → Type 0 = IsGoodForTest document in
       let last : AreGood Good (Key.Schedule ∷ []) = ((parts.asked.environment, parts.schedule.items, h.asked.start, h.entries), tt) in
       let details = good_append Good detail_keys (Key.Schedule ∷ []) (details_good parts.details h.details) last in
-      let final = good_append Good (Key.Final ∷ []) behind_last (last_good g f) details in
+      let final = good_append Good (Key.Final ∷ []) behind_final_calls (final_calls_good g f) details in
       let pace = good_append Good pace_keys behind_pace (pace_good parts.pace h.pace) final in
       good_append Good asked_keys behind_asked (asked_good parts.asked h.asked) pace

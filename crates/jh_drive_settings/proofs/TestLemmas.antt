@@ -46,7 +46,7 @@ module _ (document : Members) (parts : Parts) (parsed : AreParsedParts document 
   shares_refused NotToml h = absurd h
   shares_refused (Unknown name) h = absurd h
   shares_refused (Missing key) h =
-      (all_good document parts (option_map generator_of parts.last) parsed.at_last parsed, one_share_missing document parts.asked.checker parsed.asked.workload parts.pace.threads parts.pace.calls parsed.pace.by_threads parsed.pace.by_calls key h)
+      (all_good document parts (option_map generator_of parts.final_calls) parsed.final_calls parsed, one_share_missing document parts.asked.checker parsed.asked.workload parts.pace.threads parts.pace.calls parsed.pace.by_threads parsed.pace.by_calls key h)
   shares_refused (BadValue key) h = absurd h
   shares_refused OutOfMemory h = absurd h
 
@@ -63,7 +63,7 @@ module _ (document : Members) (parts : Parts) (parsed : AreParsedParts document 
       threads_per_key = parsed.pace.by_threads ∙ ap Some threads;
       ops_per_key = parsed.pace.by_calls ∙ ap Some calls;
       recovery = parsed.pace.recovers;
-      final = parsed.at_last;
+      final = parsed.final_calls;
       keys = parsed.details.shape.over_keys;
       max_txn = parsed.details.shape.at_most;
       appends_per_key = parsed.details.shape.of_appends;
@@ -95,9 +95,9 @@ module _ (document : Members) (parts : Parts) (parsed : AreParsedParts document 
     refused : (error : TestError) → RefusesTest (test_of_parts parts shares) error → RefusesDriveValues document (test_refusal error)
     refused TestError.BadClients h = absurd (h (has_clients document parts.pace.clients parsed.pace.by_clients))
     refused TestError.BadOps h = absurd (h.1 (has_ops document parts.pace.ops parsed.pace.so_many))
-    refused TestError.BadKeys h = inr (test_of_parts parts shares, all_good document parts (option_map generator_of parts.last) parsed.at_last parsed, test_parsed, h.2)
-    refused TestError.BadGenerator h = inr (test_of_parts parts shares, all_good document parts (option_map generator_of parts.last) parsed.at_last parsed, test_parsed, (h.2, h.3))
-    refused TestError.BadFinal h = inr (test_of_parts parts shares, all_good document parts (option_map generator_of parts.last) parsed.at_last parsed, test_parsed, (h.2, h.3, λ k. h.4 k.0))
+    refused TestError.BadKeys h = inr (test_of_parts parts shares, all_good document parts (option_map generator_of parts.final_calls) parsed.final_calls parsed, test_parsed, h.2)
+    refused TestError.BadGenerator h = inr (test_of_parts parts shares, all_good document parts (option_map generator_of parts.final_calls) parsed.final_calls parsed, test_parsed, (h.2, h.3))
+    refused TestError.BadFinal h = inr (test_of_parts parts shares, all_good document parts (option_map generator_of parts.final_calls) parsed.final_calls parsed, test_parsed, (h.2, h.3, λ k. h.4 k.0))
     refused TestError.BadSchedule h = absurd (h.5 has_schedule)
     refused TestError.BadTransactions h = absurd (h.6 has_transactions)
     refused TestError.OutOfMemory h = tt
@@ -107,7 +107,7 @@ module _ (document : Members) (parts : Parts) (parsed : AreParsedParts document 
     test_refused e (inl h) = subst (RefusesDriveValues document) (sym h.2) (refused h.0 h.1)
     test_refused e (inr h) =
         subst (RefusesDriveValues document) (sym h.0) (
-        inr (test_of_parts parts shares, all_good document parts (option_map generator_of parts.last) parsed.at_last parsed, test_parsed, (h.1.keys, h.1.generator, λ k. h.2 k.1))
+        inr (test_of_parts parts shares, all_good document parts (option_map generator_of parts.final_calls) parsed.final_calls parsed, test_parsed, (h.1.keys, h.1.generator, λ k. h.2 k.1))
         )
 
     -- and a test of these parts is what the document means

@@ -73,7 +73,7 @@ pub record AreParsedDetails (document : Members) (details : Details) : Type 0 wh
 pub record AreParsedParts (document : Members) (parts : Parts) : Type 0 where
   pub asked : IsParsedAsked document parts.asked
   pub pace : IsParsedPace document parts.pace
-  pub at_last : IsParsedFinal document (option_map generator_of parts.last)
+  pub final_calls : IsParsedFinal document (option_map generator_of parts.final_calls)
   pub details : AreParsedDetails document parts.details
   pub entries : IsParsedTestSchedule parts.asked.environment.names document parts.schedule.items
   pub steps : All (λ entry. FitsNodes (length parts.asked.environment.names) entry.step) parts.schedule.items
@@ -85,7 +85,7 @@ test_of_parts parts shares = record {
   start = parts.asked.environment;
   checker = parts.asked.checker;
   generator = generator_of parts.asked.generator;
-  final = option_map generator_of parts.last;
+  final_calls = option_map generator_of parts.final_calls;
   clients = parts.pace.clients;
   ops = parts.pace.ops;
   time_limit = parts.pace.time_limit;

@@ -33,7 +33,7 @@ pub record IsParsedTest (document : Members) (test : TestValue) : Type 0 where
   pub threads_per_key : parsed_threads_per_key document ≡ Some (option_map (λ s. s.threads) test.keys)
   pub ops_per_key : parsed_ops_per_key document ≡ Some (option_map (λ s. s.calls) test.keys)
   pub recovery : parsed_recovery document ≡ Some test.recovery
-  pub final : IsParsedFinal document test.final
+  pub final : IsParsedFinal document test.final_calls
   pub keys : parsed_keys document ≡ Some test.transactions.keys
   pub max_txn : parsed_max_txn document ≡ Some test.transactions.most
   pub appends_per_key : parsed_appends_per_key document ≡ Some test.transactions.appends
@@ -43,7 +43,7 @@ pub record IsParsedTest (document : Members) (test : TestValue) : Type 0 where
 -- final calls would ask nothing of the keys before the last ones, so there are none where keys are
 -- independent
 abbrev pub IsFinalAllowed : TestValue → Type 0
-IsFinalAllowed test = (is_some test.keys && is_some test.final) ≡ false
+IsFinalAllowed test = (is_some test.keys && is_some test.final_calls) ≡ false
 
 -- a document means this test, and how its history is judged: from what a register holds at first, by
 -- this model, reaching at most so many configurations

@@ -64,7 +64,7 @@ pub(crate) fn judge_standing(table: &Table, key: Key, may: bool) -> Result<(), S
 /// The generator of the final calls, under `final`, and none where nothing stands there.
 pub(crate) fn final_under(alloc: Global, table: &Table) -> Result<Option<Gen>, SettingsError>
     ensures { MatchResult result
-        (λ last. IsParsedFinal (table_view table.now) (option_map generator_of last))
+        (λ final_calls. IsParsedFinal (table_view table.now) (option_map generator_of final_calls))
         (RefusesValue ((g : Option Generator) × IsParsedFinal (table_view table.now) g) Key.Final) }
 {
     if is_missing(table, Key::Final) {

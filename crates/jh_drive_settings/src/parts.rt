@@ -41,7 +41,7 @@ pub(crate) struct Details {
 pub(crate) struct Parts {
     pub asked: Asked,
     pub pace: Pace,
-    pub last: Option<Gen>,
+    pub final_calls: Option<Gen>,
     pub details: Details,
     pub schedule: Vec<TestEntry>,
 }

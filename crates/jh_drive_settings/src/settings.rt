@@ -138,13 +138,13 @@ fn parts_of(alloc: Global, table: &Table) -> Result<Parts, SettingsError>
 {
     let asked = asked_of(alloc, table)?;
     let pace = pace_of(table, asked.checker)?;
-    let last = final_under(alloc, table)?;
+    let final_calls = final_under(alloc, table)?;
     let details = details_of(table, asked.checker)?;
     let schedule = entries_under::<TestFormat>(alloc, table, asked.environment.nodes())?;
     Ok(Parts {
         asked,
         pace,
-        last,
+        final_calls,
         details,
         schedule,
     })
@@ -173,7 +173,7 @@ fn data_of(parts: Parts, keys: Option<KeyShares>) -> TestData
     let Parts {
         asked,
         pace,
-        last,
+        final_calls,
         details,
         schedule,
     } = parts;
@@ -181,7 +181,7 @@ fn data_of(parts: Parts, keys: Option<KeyShares>) -> TestData
         environment: asked.environment,
         checker: asked.checker,
         generator: asked.generator,
-        last,
+        final_calls,
         clients: pace.clients,
         ops: pace.ops,
         time_limit: pace.time_limit,
@@ -224,10 +224,10 @@ fn made_test(alloc: Global, parts: TestData) -> Result<Test, SettingsError>
 }
 
 /// Whether there may be such final calls where keys are shared so.
-fn is_final_allowed(keys: Option<KeyShares>, last: &Option<Gen>) -> bool
-    ensures { result ≡ not (is_some keys && is_some (option_map generator_of last.now)) }
+fn is_final_allowed(keys: Option<KeyShares>, final_calls: &Option<Gen>) -> bool
+    ensures { result ≡ not (is_some keys && is_some (option_map generator_of final_calls.now)) }
 {
-    match (keys, last) {
+    match (keys, final_calls) {
         (Some(_), Some(_)) => false,
         _ => true,
     }
@@ -240,7 +240,7 @@ fn allowed_test(alloc: Global, parts: TestData) -> Result<Test, SettingsError>
         (λ test. (test ≡ test_of_data parts) × IsFitTest test × IsFinalAllowed test)
         (RefusesAllowed (test_of_data parts)) }
 {
-    let is_allowed = is_final_allowed(parts.keys, &parts.last);
+    let is_allowed = is_final_allowed(parts.keys, &parts.final_calls);
     let test = made_test(alloc, parts)?;
     if is_allowed {
         Ok(test)

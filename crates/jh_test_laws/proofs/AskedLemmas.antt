@@ -138,7 +138,7 @@ none_counted t (Some shares) = λ group. none t.clients group
     none (suc n) zero = refl
     none (suc n) (suc group) = none n group
 
-stands_at_first : (t : TestValue) (d : Drivers t) → Stands t (at_first t d.first d.last (first_state t.start))
+stands_at_first : (t : TestValue) (d : Drivers t) → Stands t (at_first t d.first d.final_calls (first_state t.start))
 stands_at_first t d = record { wide = length-replicate t.clients 0; counts = none_counted t t.keys; source = refl; given = refl; asked = tt }
 
 pub all_stand : (t : TestValue) (d : Drivers t) (lines : List (List ℕ)) → Stands t (run t d lines)

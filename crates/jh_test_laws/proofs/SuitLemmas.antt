@@ -21,7 +21,7 @@ use Rattle.jh_run_laws.specs.OwnHistory.{Passes}
 use Rattle.jh_run_laws.proofs.OfferLemmas.{offer_passes, offers_suit}
 use Rattle.jh_conversation.specs.Laws.{Drivers, run}
 use Rattle.jh_conversation.specs.Offered.{AreFinalCalls, AreOffers, CallsAreOffers, given_calls}
-use Rattle.jh_test_parts.specs.Test.{TestValue, IsFitTest, last_suits, suits_checker}
+use Rattle.jh_test_parts.specs.Test.{TestValue, IsFitTest, final_calls_suit, suits_checker}
 use Rattle.jh_test_laws.specs.HistoryInside.{suits_call}
 
 -- each of these calls is one of the workload
@@ -56,7 +56,7 @@ joined : (checker : Checker) (xs ys : List (ℕ × Request)) → AllSuit checker
 joined checker [] ys a b = b
 joined checker (x ∷ xs) ys a b = (a.0, joined checker xs ys a.1 b)
 
-final_suits : (t : TestValue) (final : Option Generator) (calls : List (ℕ × Request)) → last_suits t.checker t.clients final ≡ true → AreFinalCalls t final calls → AllSuit t.checker calls
+final_suits : (t : TestValue) (final : Option Generator) (calls : List (ℕ × Request)) → final_calls_suit t.checker t.clients final ≡ true → AreFinalCalls t final calls → AllSuit t.checker calls
 final_suits t None calls h is = subst (AllSuit t.checker) (sym is) tt
 final_suits t (Some g) calls h is = offers_suit_checker t.checker t.clients t.ops g h t.clients is.0 calls is.1
 
@@ -64,5 +64,5 @@ pub all_suit : CallsAreOffers → (t : TestValue) (d : Drivers t) (lines : List 
 all_suit offers t d lines fit =
     let all = offers t d lines in
     let main = offers_suit_checker t.checker t.clients t.ops t.generator fit.generator t.clients all.of_main.0 all.main all.of_main.1 in
-    let last = final_suits t t.final all.last fit.final all.of_final in
-    subst (AllSuit t.checker) (sym all.split) (joined t.checker all.last all.main last main)
+    let final = final_suits t t.final_calls all.final fit.final all.of_final in
+    subst (AllSuit t.checker) (sym all.split) (joined t.checker all.final all.main final main)

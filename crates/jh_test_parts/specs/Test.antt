@@ -31,7 +31,7 @@ pub record TestValue : Type 0 where
   pub checker : Checker
   -- the calls of *main*, and of *final* where there is one
   pub generator : Generator
-  pub final : Option Generator
+  pub final_calls : Option Generator
   -- how many threads make calls, and how many calls they make at most
   pub clients : ℕ
   pub ops : ℕ
@@ -52,7 +52,7 @@ test_of_data fields = record {
   start = fields.environment;
   checker = fields.checker;
   generator = generator_of fields.generator;
-  final = option_map generator_of fields.last;
+  final_calls = option_map generator_of fields.final_calls;
   clients = fields.clients;
   ops = fields.ops;
   time_limit = fields.time_limit;
@@ -89,15 +89,15 @@ suits_checker Set clients generator = suits workload.Set clients generator
 suits_checker Ids clients generator = suits workload.Ids clients generator
 suits_checker ListAppend clients generator = suits_transactions clients generator
 
-abbrev pub last_suits : Checker → ℕ → Option Generator → Bool
-last_suits checker clients None = true
-last_suits checker clients (Some generator) = suits_checker checker clients generator
+abbrev pub final_calls_suit : Checker → ℕ → Option Generator → Bool
+final_calls_suit checker clients None = true
+final_calls_suit checker clients (Some generator) = suits_checker checker clients generator
 
 abbrev pub HasTestGenerator : TestValue → Type 0
 HasTestGenerator t = suits_checker t.checker t.clients t.generator ≡ true
 
 abbrev pub FitsFinal : TestValue → Type 0
-FitsFinal t = last_suits t.checker t.clients t.final ≡ true
+FitsFinal t = final_calls_suit t.checker t.clients t.final_calls ≡ true
 
 -- there are not too many entries, and each node that a fault names is in the environment
 abbrev pub HasSchedule : TestValue → Type 0

@@ -34,7 +34,7 @@ pub struct TestData {
     /// Where the calls of *main* come from.
     pub generator: Gen,
     /// Where the calls of *final* come from, where there are some.
-    pub last: Option<Gen>,
+    pub final_calls: Option<Gen>,
     /// How many threads make calls: 1 to 16.
     pub clients: u32,
     /// How many calls they make at most: 1 to 1,000,000.
@@ -100,7 +100,7 @@ pub struct Test {
     environment: Env,
     checker: Checker,
     generator: Inner,
-    last: Option<Inner>,
+    final_calls: Option<Inner>,
     clients: u32,
     ops: u32,
     time_limit: Option<u32>,
@@ -179,10 +179,10 @@ fn suits(checker: Checker, clients: u32, generator: &Gen) -> bool
 }
 
 /// Whether the generator of the final calls, where there is one, suits too.
-fn last_suits(checker: Checker, clients: u32, last: &Option<Gen>) -> bool
-    ensures { result ≡ rule.last_suits checker clients (option_map generator_of last.now) }
+fn final_calls_suit(checker: Checker, clients: u32, final_calls: &Option<Gen>) -> bool
+    ensures { result ≡ rule.final_calls_suit checker clients (option_map generator_of final_calls.now) }
 {
-    match last {
+    match final_calls {
         None => true,
         Some(generator) => suits(checker, clients, generator),
     }
@@ -217,7 +217,7 @@ fn judge(fields: &TestData) -> Result<(), TestError>
     if !suits(fields.checker, fields.clients, &fields.generator) {
         return Err(TestError::BadGenerator);
     }
-    if !last_suits(fields.checker, fields.clients, &fields.last) {
+    if !final_calls_suit(fields.checker, fields.clients, &fields.final_calls) {
         return Err(TestError::BadFinal);
     }
     if fields.schedule.len() > MAX_TEST_ENTRIES || !all_fit(&fields.schedule, &fields.environment) {
@@ -249,7 +249,7 @@ impl Test {
             environment,
             checker,
             generator,
-            last,
+            final_calls,
             clients,
             ops,
             time_limit,
@@ -260,7 +260,7 @@ impl Test {
             seed,
             schedule,
         } = fields;
-        let last = match last {
+        let final_calls = match final_calls {
             None => None,
             Some(generator) => Some(Inner::of(alloc, generator)?),
         };
@@ -268,7 +268,7 @@ impl Test {
             environment,
             checker,
             generator: Inner::of(alloc, generator)?,
-            last,
+            final_calls,
             clients,
             ops,
             time_limit,
@@ -311,10 +311,10 @@ impl Test {
     }
 
     /// Where the calls of *final* come from, where there are some.
-    pub fn last(&self) -> Option<&Gen>
-        ensures { option_map (λ g. generator_of g.now) result ≡ self.now.final }
+    pub fn final_calls(&self) -> Option<&Gen>
+        ensures { option_map (λ g. generator_of g.now) result ≡ self.now.final_calls }
     {
-        match &self.last {
+        match &self.final_calls {
             None => None,
             Some(generator) => Some(generator.as_gen()),
         }
