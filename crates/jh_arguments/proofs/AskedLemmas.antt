@@ -28,6 +28,7 @@ use Rattle.jh_arguments.specs.Palettes.{palette_named}
 use Rattle.jh_arguments.specs.Line.{IsCommandLine, check, drive, jeprun, plot, search, shrink, timeline, without_options}
 use Rattle.jh_arguments.specs.Commands.{SubcommandIsAny, AsksCheck, SubcommandIsDrive, SubcommandIs, AsksSearch, AsksTimeline, IsFlag, IsGivenWithin, IsIndex, IsInitial, IsJudging, IsJudgingBy, IsNumberWithin, IsShow}
 use Rattle.jh_arguments.specs.Limits.{max_candidates, max_spread_ms}
+use Rattle.jh_settings.specs.Limits.{max_budget}
 use Rattle.jh_checkers.specs.declared.checker.Checker.{Checker}
 use Rattle.jh_checkers.specs.declared.checker.Checker.TheVariants.{Register, Set, Counter, Ids, ListAppend}
 use Rattle.jh_checkers.specs.declared.finding.Judging.{Judging}
@@ -142,7 +143,7 @@ module _ (names models : Bor (List (Bor Text))) (all : map (λ s. s.now) names.n
   shrink_asks name rest named other fault =
       let holds = level_holds (leaf shrink) [] rest shrink_rules fault in
       let rows = rows_after (leaf shrink).rules [] rest in
-      let budget = number_in rows (codes "budget") 0 10000000 (needed_gives _ rows holds (codes "budget") false (vp.Unsigned 0 10000000) refl) in
+      let budget = number_in rows (codes "budget") 0 max_budget (needed_gives _ rows holds (codes "budget") false (vp.Unsigned 0 max_budget) refl) in
       inl (Shrink budget.0, (refl, budget.1.0))
 
   drive_rules : Each (IsOwn (leaf drive).rules) (leaf drive).rules
@@ -205,12 +206,12 @@ module _ (names models : Bor (List (Bor Text))) (all : map (λ s. s.now) names.n
   -- by what a history is judged, of a checker that is named
   judging_in : (c : List Rule) (rows : List Row) → HoldsOf c rows
       → option_map read_of (arg_by_id c (codes "initial")) ≡ Some (false, vp.Signed (negsuc 9223372036854775807) (pos 9223372036854775807), false)
-      → option_map read_of (arg_by_id c (codes "budget")) ≡ Some (false, vp.Unsigned 0 10000000, true)
+      → option_map read_of (arg_by_id c (codes "budget")) ≡ Some (false, vp.Unsigned 0 max_budget, true)
       → (explain : Bool) (checker : Checker) → first_of (codes "workload") rows ≡ Some (checker_name checker)
       → (judging : Judging) × IsJudgingBy rows judging × (judging.explain ≡ explain)
   judging_in c rows holds initial budget explain checker named =
       let first = initial_in rows (option_gives c rows holds (codes "initial") false (vp.Signed (negsuc 9223372036854775807) (pos 9223372036854775807)) false initial) in
-      let most = number_in rows (codes "budget") 0 10000000 (needed_gives c rows holds (codes "budget") false (vp.Unsigned 0 10000000) budget) in (
+      let most = number_in rows (codes "budget") 0 max_budget (needed_gives c rows holds (codes "budget") false (vp.Unsigned 0 max_budget) budget) in (
         record {
           checker = checker;
           initial = first.0;

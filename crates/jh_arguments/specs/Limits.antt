@@ -12,7 +12,3 @@ max_faults = 256
 -- the longest time over which calls are spread, in milliseconds: a day
 abbrev pub max_spread_ms : ℕ
 max_spread_ms = 86400000
-
--- how much a judge or `shrink` may do: configurations, or runs
-abbrev pub max_budget : ℕ
-max_budget = 10000000

@@ -15,7 +15,8 @@ use Rattle.clap.specs.declared.error.ErrorKind.TheVariants.{OutOfMemory}
 use Rattle.clap.specs.declared.parser.matches.ArgMatches.{ArgMatches}
 use Rattle.jh_checkers.specs.Checkers.{checker_names}
 use Rattle.jh_checkers.specs.Models.{model_names}
-use Rattle.jh_arguments.specs.Limits.{max_budget, max_candidates, max_faults, max_spread_ms}
+use Rattle.jh_arguments.specs.Limits.{max_candidates, max_faults, max_spread_ms}
+use Rattle.jh_settings.specs.Limits.{max_budget}
 use Rattle.jh_tasks.specs.Threads.{max_threads}
 
 -- an option that takes one value
@@ -48,7 +49,7 @@ abbrev pub number_rule : Text → ValueParser → Text → Rule
 number_rule name parser default =
     record (option name) { parser = Some parser; defaults = default ∷ [] }
 
--- how much may be done
+-- how much a judge or `shrink` may do: configurations, or runs
 abbrev pub budget : Text → Rule
 budget default = number_rule (codes "budget") (Unsigned 0 max_budget) default
 

@@ -1,6 +1,7 @@
 //! How great the numbers of options may be, as ranges of `clap` take them. `specs/Limits.antt` has the
-//! same numbers, and `specs/Threads.antt` of `jh_tasks` that of threads: `line.rt` has `clap` refuse what
-//! is beyond them, and `commands.rt` takes what is within.
+//! same numbers, but for that of threads, which `jh_tasks` has, and that of a budget, which
+//! `jh_settings` has: `line.rt` has `clap` refuse what is beyond them, and `commands.rt` takes what is
+//! within.
 
 /// The greatest number of a candidate, and the most candidates: two of them still fit 64 bits.
 pub(crate) const MAX_CANDIDATES: i64 = i64::MAX;

@@ -9,6 +9,7 @@ use Rattle.jh_search.specs.declared.options.Options.{Options}
 use Rattle.jh_search.specs.declared.threads.SearchError.{SearchError}
 use Rattle.jh_search.specs.declared.threads.SearchError.TheVariants as search
 use Rattle.jh_settings.specs.Keys.{data_under}
+use Rattle.jh_settings.specs.Limits.{max_budget}
 use Rattle.jh_settings.specs.Settings.{AreSettingsOf}
 use Rattle.jh_settings.specs.declared.choices.Mode.{Mode}
 use Rattle.jh_settings.specs.declared.keys.Key.{Key}
@@ -48,7 +49,7 @@ found_is p options number made comment output bytes candidate in_order is behind
 )
 
 -- settings have no budget that a judgement may not have
-pub budget_few : (input : List ℕ) (p : PlanValue) (mode : Mode) (budget : ℕ) → AreSettingsOf input p mode budget → budget ≤ 10000000
+pub budget_few : (input : List ℕ) (p : PlanValue) (mode : Mode) (budget : ℕ) → AreSettingsOf input p mode budget → budget ≤ max_budget
 budget_few input p mode budget are =
     (default_is 0 10000000 100000 (data_under Key.Budget are.0) budget (omega arith) (omega arith) are.2.budget).1
 

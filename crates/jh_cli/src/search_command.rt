@@ -5,6 +5,7 @@
 
 ghost use Rattle.std.specs.Prelude.{◌≡◌, ◌≢◌, ◌↔◌, ◌≤◌, ◌<◌, ◌+◌, ◌^◌, IfOk, IfErr, IfSome};
 ghost use Rattle.std.specs.Prelude.{IsErrOf, MatchResult, None, Some, string_bytes};
+ghost use Rattle.jh_settings.specs.Limits.{max_budget};
 ghost use Rattle.jh_settings_texts.specs.Comments.{IsComment};
 ghost use Rattle.jh_settings_texts.specs.SettingsWritten.{CanBeWritten};
 ghost use Rattle.jh_tasks.specs.Threads.{IsThreadCount};
@@ -184,7 +185,7 @@ fn search_or_show<T: Threads + Wait + Sync, O: SearchObserver>(
     observer: &mut O,
 ) -> Result<Output, SearchError>
     requires writable { CanBeWritten plan.now }
-    requires budget { options.now.budget ≤ 10000000 }
+    requires budget { options.now.budget ≤ max_budget }
     requires few { options.now.from + options.now.runs < 2 ^ 64 }
     requires threads { IsThreadCount threads }
     ensures written { IfOk result
@@ -239,7 +240,7 @@ fn search_plan<T: Threads + Wait + Sync, O: SearchObserver>(
     observer: &mut O,
 ) -> Result<Output, SearchError>
     requires writable { CanBeWritten plan.now }
-    requires budget { options.now.budget ≤ 10000000 }
+    requires budget { options.now.budget ≤ max_budget }
     requires few { options.now.from + options.now.runs < 2 ^ 64 }
     requires threads { IsThreadCount threads }
     ensures written { IfOk result
@@ -275,7 +276,7 @@ fn text_of(
     searched: Searched,
 ) -> Result<Vec<u8>, AllocError>
     requires writable { CanBeWritten plan.now }
-    requires budget { options.now.budget ≤ 10000000 }
+    requires budget { options.now.budget ≤ max_budget }
     ensures { IfOk result (λ output.
         IsFoundText plan.now options.now searched.failing searched.unknown output.items) }
 {
@@ -309,7 +310,7 @@ fn found_text(
     number: u64,
 ) -> Result<Vec<u8>, AllocError>
     requires writable { CanBeWritten plan.now }
-    requires budget { options.now.budget ≤ 10000000 }
+    requires budget { options.now.budget ≤ max_budget }
     ensures { IfOk result (λ output.
         IsFoundText plan.now options.now (Some number) 0 output.items) }
 {

@@ -1,3 +1,4 @@
+pub mod Limits
 pub mod Keys
 pub mod Shown
 pub mod Kinds

@@ -22,6 +22,7 @@ use Rattle.jh_simnode.specs.declared.schedule.Entry.{Entry}
 use Rattle.jh_settings.specs.declared.keys.Key.{Key}
 use Rattle.jh_settings.specs.declared.choices.Mode.{Mode}
 use Rattle.jh_settings.specs.Keys.{data_under}
+use Rattle.jh_settings.specs.Limits.{max_budget}
 use Rattle.jh_settings.specs.Kinds.{needed_value, value_or_default, choice_in, choice_under}
 use Rattle.jh_settings.specs.Kinds.{whole_number_in, IsElement, HoldsElement}
 
@@ -94,7 +95,7 @@ abbrev pub parsed_seed : Members → Option ℕ
 parsed_seed document = value_or_default 0 (whole_number_in 0 9223372036854775807) Key.Seed document
 
 abbrev pub parsed_budget : Members → Option ℕ
-parsed_budget document = value_or_default 100000 (whole_number_in 0 10000000) Key.Budget document
+parsed_budget document = value_or_default 100000 (whole_number_in 0 max_budget) Key.Budget document
 
 -- after how many calls a step is due: from 0 to 10,000
 abbrev pub due_of : ℤ → Option ℕ

@@ -15,6 +15,7 @@ use Rattle.jh_settings.specs.declared.keys.Key.{Key}
 use Rattle.jh_settings.specs.declared.choices.Mode.{Mode}
 use Rattle.jh_settings.specs.Keys.{HasKnownKeys, data_under, is_key_name, run_keys}
 use Rattle.jh_settings.specs.Kinds.{choice_in, needed_value, whole_number_in}
+use Rattle.jh_settings.specs.Limits.{max_budget}
 use Rattle.jh_settings.specs.Parsed.{mode_of, is_register, initial_of, parsed_store, parsed_workload, parsed_clients, parsed_ops, parsed_mode, parsed_volatile, parsed_initial, parsed_tick_every, parsed_rows, parsed_seed, parsed_budget}
 use Rattle.jh_settings_texts.specs.DocumentWritten.{document_of, keyed_members, members_before_initial, initial_member, members_behind_initial, printed_text, whole_number, schedule_texts, spread_texts, schedule_document}
 use Rattle.jh_settings_texts.specs.declared.schedule.Spread.{Spread}
@@ -157,8 +158,8 @@ module _ (p : PlanValue) (budget : ℕ) where
       ap (λ d. option_map_or (whole_number_in 0 9223372036854775807) d (Some 0)) (seed_with p budget p.settings.initial)
       ∙ whole_back 0 9223372036854775807 p.seed (omega arith) (omega (arith, h))
 
-  pub budget_parsed : budget ≤ 10000000 → parsed_budget (document_of p budget) ≡ Some budget
-  budget_parsed h = whole_back 0 10000000 budget (omega arith) h
+  pub budget_parsed : budget ≤ max_budget → parsed_budget (document_of p budget) ≡ Some budget
+  budget_parsed h = whole_back 0 max_budget budget (omega arith) h
 
 -- ---- what the printer and the reader of TOML ask
 

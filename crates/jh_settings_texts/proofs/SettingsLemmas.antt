@@ -27,6 +27,7 @@ use Rattle.jh_simnode.specs.Plans.{PlanValue, IsFit}
 use Rattle.jh_simnode.specs.declared.schedule.Entry.{Entry}
 use Rattle.jh_settings.specs.declared.choices.Mode.{Mode}
 use Rattle.jh_settings.specs.Kinds.{IsElement}
+use Rattle.jh_settings.specs.Limits.{max_budget}
 use Rattle.jh_settings.specs.Parsed.{IsParsedStart, IsParsedGenerator, IsParsedEntry, AreParsedEntries, IsParsedSchedule, IsScheduleValue}
 use Rattle.jh_settings.specs.Settings.{AreSettings}
 use Rattle.jh_laws.specs.StepLines.{IsStepOver, step_in_order}
@@ -146,7 +147,7 @@ module _ (p : PlanValue) (budget : ℕ) (can : CanBeWritten p) (known : IsWholly
     known.generator,
   )
 
-  pub settings_back : budget ≤ 10000000 → AreSettings (document_of p budget) (plan_in_order p) Mode.Serial budget
+  pub settings_back : budget ≤ max_budget → AreSettings (document_of p budget) (plan_in_order p) Mode.Serial budget
   settings_back few = record {
     known = known_keys p budget;
     start = start_parsed;

@@ -1,6 +1,7 @@
 //! Settings behind a comment. `specs/Comments.antt` says what may stand in one.
 
 ghost use Rattle.std.specs.Prelude.{◌≡◌, ◌≤◌, IfOk, List, ℕ, string_bytes};
+ghost use Rattle.jh_settings.specs.Limits.{max_budget};
 ghost use Rattle.jh_settings.specs.Settings.{AreSettingsOf};
 ghost use Rattle.jh_settings.specs.declared.choices.Mode.{Mode};
 ghost use Rattle.jh_settings_texts.specs.Comments.{IsComment, behind_comment};
@@ -23,7 +24,7 @@ pub fn settings_behind(
     budget: u64,
 ) -> Result<String, AllocError>
     requires can { CanBeWritten plan.now }
-    requires few { budget ≤ 10000000 }
+    requires few { budget ≤ max_budget }
     requires comment { IsComment comment.now }
     ensures behind { IfOk result (λ text. (document : List ℕ)
         × (string_bytes text ≡ behind_comment comment.now document)) }

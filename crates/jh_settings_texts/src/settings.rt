@@ -5,6 +5,7 @@ ghost use Rattle.std.specs.Prelude.{◌≤◌, ◌≢◌, ◌↔◌, IfOk, IfSom
 ghost use Rattle.toml_parser.specs.Lexical.{first};
 ghost use Rattle.jh_simnode.specs.declared.schedule.Entry.{Entry};
 ghost use Rattle.jh_settings.specs.Keys.{IsDocument};
+ghost use Rattle.jh_settings.specs.Limits.{max_budget};
 ghost use Rattle.jh_settings.specs.Settings.{AreSettingsOf};
 ghost use Rattle.jh_settings.specs.declared.choices.Mode.{Mode};
 ghost use Rattle.jh_settings_texts.specs.DocumentWritten.{document_of};
@@ -93,7 +94,7 @@ pub fn can_be_written(plan: &Plan) -> bool
 /// Error: memory was refused.
 pub fn settings_to_text(alloc: Global, plan: &Plan, budget: u64) -> Result<String, AllocError>
     requires can { CanBeWritten plan.now }
-    requires few { budget ≤ 10000000 }
+    requires few { budget ≤ max_budget }
     ensures document { IfOk result
         (λ text. IsDocument (string_bytes text) (document_of plan.now budget)) }
     ensures read_back { IfOk result

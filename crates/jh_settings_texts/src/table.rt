@@ -12,6 +12,7 @@ ghost use Rattle.jh_nemesis.specs.Steps.{FitsNodes};
 ghost use Rattle.jh_gen.specs.GeneratorText.{parsed_generator};
 ghost use Rattle.jh_gen_texts.specs.GeneratorWritten.{edn_of_generator};
 ghost use Rattle.jh_simnode.specs.Plans.{IsKeptPlan};
+ghost use Rattle.jh_settings.specs.Limits.{max_budget};
 ghost use Rattle.jh_laws.specs.StepLines.{IsStepOver};
 ghost use Rattle.jh_settings_texts.specs.DocumentWritten.{document_of, schedule_document};
 ghost use Rattle.jh_settings_texts.specs.DocumentWritten.{spread_texts, whole_number};
@@ -102,7 +103,7 @@ fn put_load(alloc: Global, table: &mut Table, plan: &Plan) -> Result<(), AllocEr
 /// Puts what stands under `tick_every`, `rows`, `seed` and `budget`.
 fn put_limits(alloc: Global, table: &mut Table, plan: &Plan, budget: u64) -> Result<(), AllocError>
     requires seed { plan.now.seed < 2 ^ 63 }
-    requires few { budget ≤ 10000000 }
+    requires few { budget ≤ max_budget }
     ensures { OnOk result
         (table_view table.new ≡ inside.put_limits plan.now budget (table_view table.old)) }
 {
@@ -180,7 +181,7 @@ pub(crate) fn schedule_table(
 /// The table of the settings of a plan that can be written, and of a budget.
 pub(crate) fn table_of(alloc: Global, plan: &Plan, budget: u64) -> Result<Table, AllocError>
     requires can { CanBeWritten plan.now }
-    requires few { budget ≤ 10000000 }
+    requires few { budget ≤ max_budget }
     ensures table { IfOk result (λ table. table_view table ≡ document_of plan.now budget) }
     ensures known { IfOk result (λ _. IsWhollyKnown plan.now) }
 {

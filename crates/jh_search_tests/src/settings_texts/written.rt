@@ -3,6 +3,7 @@
 //! A row is settings, `→`, and what is written of their plan. `§` stands between two rows.
 
 ghost use Rattle.std.specs.Prelude.{◌≤◌};
+ghost use Rattle.jh_settings.specs.Limits.{max_budget};
 
 use jh_settings::{RunSettings, settings_of};
 use jh_settings_texts::{can_be_written, settings_behind, settings_to_text};
@@ -14,7 +15,7 @@ const MAX_BUDGET: u64 = 10_000_000;
 
 /// What is written of a plan. None: it can't be written, or memory was refused.
 fn written(alloc: Global, plan: &Plan, budget: u64) -> Option<String>
-    requires { budget ≤ 10000000 }
+    requires { budget ≤ max_budget }
 {
     if can_be_written(plan) {
         settings_to_text(alloc, plan, budget).ok()

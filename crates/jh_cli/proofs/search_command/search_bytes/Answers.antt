@@ -1,5 +1,6 @@
 use Rattle.std.proofs.Common.{◌≤◌, subst, sym, rules}
 use Rattle.jh_search.specs.declared.options.Options.{Options}
+use Rattle.jh_settings.specs.Limits.{max_budget}
 use Rattle.jh_cli.specs.SearchRefusals.{RefusesSearchBytes}
 use Rattle.jh_cli.specs.SearchText.{IsAnswerText}
 use Rattle.jh_cli.proofs.SearchLemmas.{budget_few, not_one, search_refused}
@@ -8,7 +9,7 @@ use Rattle.jh_cli.proofs.search_command.search_bytes.Goals as goal
 pub search_or_show-requires-clause-budget : goal.search_or_show-requires-clause-budget
 search_or_show-requires-clause-budget g c κs within =
     let settings = c.in_ok-settings.settings in
-    subst (λ (options : Options). options.budget ≤ 10000000) (sym c.options_of-options.ensures)
+    subst (λ (options : Options). options.budget ≤ max_budget) (sym c.options_of-options.ensures)
     (budget_few c.args.input.now settings.plan settings.mode settings.budget c.in_ok-settings.ensures)
 
 pub returns-in-Ok : goal.returns-in-Ok
