@@ -3,6 +3,7 @@
 
 ghost use Rattle.std.specs.Prelude.{◌≡◌, ◌<◌, ◌≤◌, ◌+◌, ◌%◌, ◌^◌, ℕ, IfErr, IfOk, Ok, OnOk, length};
 ghost use Rattle.jh_simnode.specs.declared.plan.PlanError.TheVariants.{OutOfMemory};
+ghost use Rattle.jh_settings.specs.Limits.{max_due_at};
 ghost use Rattle.jh_settings_texts.specs.SettingsWritten.{CanBeWritten, plan_in_order};
 ghost use Rattle.jh_search.specs.Candidates as rule;
 ghost use Rattle.jh_search.specs.CandidatesInside.{AreEntriesFor};
@@ -32,7 +33,7 @@ fn fault_id(last_id: u32, fault: u32) -> u32
 fn calls_before_heal(plan: &Plan) -> u32
     ensures at { result ≡ rule.calls_before_heal plan.now }
     ensures within { (1 ≤ result) × (result ≤ plan.now.ops) }
-    ensures few { result ≤ 10000 }
+    ensures few { result ≤ max_due_at }
 {
     plan.ops() - plan.ops() / 4
 }
@@ -41,7 +42,7 @@ fn calls_before_heal(plan: &Plan) -> u32
 fn calls_before_begin(plan: &Plan, draw: Draw) -> u32
     ensures at { result ≡ rule.calls_before_begin plan.now draw }
     ensures within { result < plan.now.ops }
-    ensures few { result ≤ 10000 }
+    ensures few { result ≤ max_due_at }
 {
     (draw.begin % u64::from(calls_before_heal(plan))) as u32
 }
@@ -49,7 +50,7 @@ fn calls_before_begin(plan: &Plan, draw: Draw) -> u32
 /// After how many calls it is withdrawn.
 fn calls_before_end(plan: &Plan, draw: Draw) -> u32
     ensures at { result ≡ rule.calls_before_end plan.now draw }
-    ensures few { result ≤ 10000 }
+    ensures few { result ≤ max_due_at }
 {
     let begin = calls_before_begin(plan, draw);
     let left = plan.ops() - begin;

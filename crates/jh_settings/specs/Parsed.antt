@@ -22,7 +22,7 @@ use Rattle.jh_simnode.specs.declared.schedule.Entry.{Entry}
 use Rattle.jh_settings.specs.declared.keys.Key.{Key}
 use Rattle.jh_settings.specs.declared.choices.Mode.{Mode}
 use Rattle.jh_settings.specs.Keys.{data_under}
-use Rattle.jh_settings.specs.Limits.{max_budget}
+use Rattle.jh_settings.specs.Limits.{max_budget, max_due_at, max_tick_every}
 use Rattle.jh_settings.specs.Kinds.{needed_value, value_or_default, choice_in, choice_under}
 use Rattle.jh_settings.specs.Kinds.{whole_number_in, IsElement, HoldsElement}
 
@@ -86,7 +86,7 @@ parsed_initial document =
     (parsed_workload document)
 
 abbrev pub parsed_tick_every : Members → Option ℕ
-parsed_tick_every document = value_or_default 0 (whole_number_in 0 10000) Key.TickEvery document
+parsed_tick_every document = value_or_default 0 (whole_number_in 0 max_tick_every) Key.TickEvery document
 
 abbrev pub parsed_rows : Members → Option ℕ
 parsed_rows document = value_or_default 4096 (whole_number_in 1 max_rows) Key.Rows document
@@ -97,9 +97,9 @@ parsed_seed document = value_or_default 0 (whole_number_in 0 9223372036854775807
 abbrev pub parsed_budget : Members → Option ℕ
 parsed_budget document = value_or_default 100000 (whole_number_in 0 max_budget) Key.Budget document
 
--- after how many calls a step is due: from 0 to 10,000
+-- after how many calls a step is due
 abbrev pub due_of : ℤ → Option ℕ
-due_of (pos n) = if nat_le n 10000 then Some n else None
+due_of (pos n) = if nat_le n max_due_at then Some n else None
 due_of _ = None
 
 -- an entry, where its step is parsed

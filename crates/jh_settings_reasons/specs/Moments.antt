@@ -3,6 +3,7 @@ use Rattle.std.specs.Prelude.{ℕ, ℤ, pos, Bool, false, List, [], ◌∷◌, c
 use Rattle.std.specs.Prelude.{Option, Some}
 use Rattle.std.specs.Str.{bytes_eq}
 use Rattle.jh_edn.specs.Edn.{Edn, int, keyword, elements_of}
+use Rattle.jh_settings.specs.Limits.{max_due_at}
 use Rattle.jh_settings_reasons.specs.declared.key_texts.SettingsKind.{SettingsKind}
 
 abbrev pub is_up_to : ℤ → ℕ → Bool
@@ -21,7 +22,7 @@ is_test_moment (int z) = is_up_to z 1000000
 is_test_moment x = is_time_in (elements_of x)
 
 abbrev pub is_run_moment : Edn → Bool
-is_run_moment (int z) = is_up_to z 10000
+is_run_moment (int z) = is_up_to z max_due_at
 is_run_moment _ = false
 
 -- an element says when an entry is due

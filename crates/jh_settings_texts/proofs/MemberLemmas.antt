@@ -15,7 +15,7 @@ use Rattle.jh_settings.specs.declared.keys.Key.{Key}
 use Rattle.jh_settings.specs.declared.choices.Mode.{Mode}
 use Rattle.jh_settings.specs.Keys.{HasKnownKeys, data_under, is_key_name, run_keys}
 use Rattle.jh_settings.specs.Kinds.{choice_in, needed_value, whole_number_in}
-use Rattle.jh_settings.specs.Limits.{max_budget}
+use Rattle.jh_settings.specs.Limits.{max_budget, max_tick_every}
 use Rattle.jh_settings.specs.Parsed.{mode_of, is_register, initial_of, parsed_store, parsed_workload, parsed_clients, parsed_ops, parsed_mode, parsed_volatile, parsed_initial, parsed_tick_every, parsed_rows, parsed_seed, parsed_budget}
 use Rattle.jh_settings_texts.specs.DocumentWritten.{document_of, keyed_members, members_before_initial, initial_member, members_behind_initial, printed_text, whole_number, schedule_texts, spread_texts, schedule_document}
 use Rattle.jh_settings_texts.specs.declared.schedule.Spread.{Spread}
@@ -143,10 +143,10 @@ module _ (p : PlanValue) (budget : ℕ) where
       ap (option_and_then (λ w. initial_of (is_register w) (data_under Key.Initial (document_of p budget)))) workload_parsed
       ∙ initial_back p.settings.workload p.settings.initial h
 
-  pub tick_every_parsed : p.tick_every ≤ 10000 → parsed_tick_every (document_of p budget) ≡ Some p.tick_every
+  pub tick_every_parsed : p.tick_every ≤ max_tick_every → parsed_tick_every (document_of p budget) ≡ Some p.tick_every
   tick_every_parsed h =
-      ap (λ d. option_map_or (whole_number_in 0 10000) d (Some 0)) (tick_every_with p budget p.settings.initial)
-      ∙ whole_back 0 10000 p.tick_every (omega arith) h
+      ap (λ d. option_map_or (whole_number_in 0 max_tick_every) d (Some 0)) (tick_every_with p budget p.settings.initial)
+      ∙ whole_back 0 max_tick_every p.tick_every (omega arith) h
 
   pub rows_parsed : 1 ≤ p.rows → p.rows ≤ 65536 → parsed_rows (document_of p budget) ≡ Some p.rows
   rows_parsed low high =

@@ -27,7 +27,7 @@ use Rattle.jh_simnode.specs.Plans.{PlanValue, IsFit}
 use Rattle.jh_simnode.specs.declared.schedule.Entry.{Entry}
 use Rattle.jh_settings.specs.declared.choices.Mode.{Mode}
 use Rattle.jh_settings.specs.Kinds.{IsElement}
-use Rattle.jh_settings.specs.Limits.{max_budget}
+use Rattle.jh_settings.specs.Limits.{max_budget, max_due_at}
 use Rattle.jh_settings.specs.Parsed.{IsParsedStart, IsParsedGenerator, IsParsedEntry, AreParsedEntries, IsParsedSchedule, IsScheduleValue}
 use Rattle.jh_settings.specs.Settings.{AreSettings}
 use Rattle.jh_laws.specs.StepLines.{IsStepOver, step_in_order}
@@ -65,7 +65,7 @@ time_fits at calls ms due some few =
     record { sfits = omega (arith, quotient, product) }
 
 spread_printable : (names : List (List ℕ)) → AreNodeNames names → (spread : Option Spread) → IfSome spread (λ s. 0 < s.calls) → IfSome spread (λ s. s.milliseconds < 2 ^ 32)
-    → (entry : Entry) → entry.at ≤ 10000 → IsStepOver (length names) entry.step → IsPrintable depth_limit (spread_value names spread entry)
+    → (entry : Entry) → entry.at ≤ max_due_at → IsStepOver (length names) entry.step → IsPrintable depth_limit (spread_value names spread entry)
 spread_printable names named None some few entry due over =
     (omega arith, (few_fits entry.at due, (step_within names entry.step (step_prints names named entry.step over), tt)))
 spread_printable names named (Some spread) some few entry due over =
@@ -76,15 +76,15 @@ spread_ascii names named None entry = (tt, (step_ascii names (names_ascii names 
 spread_ascii names named (Some spread) entry = ((tested (codes "ms") refl, (tt, tt)), (step_ascii names (names_ascii names named) entry.step, tt))
 
 pub spread_utf8 : (names : List (List ℕ)) → AreNodeNames names → (spread : Option Spread) → IfSome spread (λ s. 0 < s.calls) → IfSome spread (λ s. s.milliseconds < 2 ^ 32)
-    → (entry : Entry) → entry.at ≤ 10000 → IsStepOver (length names) entry.step → IsUtf8 (print (spread_value names spread entry))
+    → (entry : Entry) → entry.at ≤ max_due_at → IsStepOver (length names) entry.step → IsUtf8 (print (spread_value names spread entry))
 spread_utf8 names named spread some few entry due over = printed_utf8 (spread_value names spread entry) depth_limit (spread_printable names named spread some few entry due over) (spread_ascii names named spread entry)
 
-pub entry_printable : (names : List (List ℕ)) → AreNodeNames names → (entry : Entry) → entry.at ≤ 10000 → IsStepOver (length names) entry.step
+pub entry_printable : (names : List (List ℕ)) → AreNodeNames names → (entry : Entry) → entry.at ≤ max_due_at → IsStepOver (length names) entry.step
     → IsPrintable depth_limit (entry_value names entry)
 entry_printable names named entry due over =
     (omega arith, (few_fits entry.at due, (step_within names entry.step (step_prints names named entry.step over), tt)))
 
-entry_back : (names : List (List ℕ)) → AreNodeNames names → (entry : Entry) → entry.at ≤ 10000 → IsStepOver (length names) entry.step
+entry_back : (names : List (List ℕ)) → AreNodeNames names → (entry : Entry) → entry.at ≤ max_due_at → IsStepOver (length names) entry.step
     → IsParsedEntry names (printed_text (entry_value names entry)) (entry_in_order entry)
 entry_back names named entry due over = (
   entry_value names entry,
@@ -92,7 +92,7 @@ entry_back names named entry due over = (
   rw (le-leb entry.at 10000 due, step_again links_kept nodes_kept names named entry.step over) refl,
 )
 
-entries_back : (names : List (List ℕ)) → AreNodeNames names → (entries : List Entry) → AllByRecursion (λ entry. entry.at ≤ 10000) entries
+entries_back : (names : List (List ℕ)) → AreNodeNames names → (entries : List Entry) → AllByRecursion (λ entry. entry.at ≤ max_due_at) entries
     → AllByRecursion (λ entry. IsStepOver (length names) entry.step) entries → AreParsedEntries names (schedule_texts names entries) (map entry_in_order entries)
 entries_back names named [] due over = tt
 entries_back names named (entry ∷ entries) due over = (entry_back names named entry due.0 over.0, entries_back names named entries due.1 over.1)
@@ -115,7 +115,7 @@ module _ (p : PlanValue) (budget : ℕ) (can : CanBeWritten p) (known : IsWholly
   schedule_back : IsParsedSchedule p.env.names (document_of p budget) (map entry_in_order p.schedule)
   schedule_back =
       subst (λ d. IsScheduleValue p.env.names d (map entry_in_order p.schedule)) (sym (schedule_there p budget)) (
-        entries_back p.env.names known.start.named p.schedule (recursion_from_All (λ entry. entry.at ≤ 10000) p.schedule can.due)
+        entries_back p.env.names known.start.named p.schedule (recursion_from_All (λ entry. entry.at ≤ max_due_at) p.schedule can.due)
             (recursion_from_All (λ entry. IsStepOver (length p.env.names) entry.step) p.schedule known.steps),
         subst (λ n. n ≤ 1024) (sym (length-map p.schedule entry_in_order)) known.kept.few,
       )

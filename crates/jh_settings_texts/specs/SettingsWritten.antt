@@ -13,6 +13,7 @@ use Rattle.jh_ops.specs.declared.call.Workload.{Workload}
 use Rattle.jh_gen_texts.specs.GeneratorWritten.{edn_of_generator}
 use Rattle.jh_simnode.specs.declared.schedule.Entry.{Entry}
 use Rattle.jh_simnode.specs.Plans.{PlanValue}
+use Rattle.jh_settings.specs.Limits.{max_due_at, max_tick_every}
 use Rattle.jh_laws.specs.StepLines.{HasNoSelfLink, step_in_order}
 
 -- no link of the step's fault leads from a node to itself
@@ -22,7 +23,7 @@ LeadsToOthers _ = Unit {0}
 
 -- settings can say the entry
 abbrev pub CanBeSaid : Entry → Type 0
-CanBeSaid entry = (entry.at ≤ 10000) × LeadsToOthers entry.step
+CanBeSaid entry = (entry.at ≤ max_due_at) × LeadsToOthers entry.step
 
 -- Settings can say the plan: its links and nodes are as they may be at a start, its generator is
 -- nested no deeper than a text may be, only a register holds something at first, its numbers are in
@@ -32,9 +33,9 @@ pub record CanBeWritten (p : PlanValue) : Type 0 where
   pub nodes : (a : ℕ) (cell : NodeCell) → node_of p.env a ≡ Some cell → IsStartingNode cell
   pub generator : IsPrintable depth_limit (edn_of_generator p.generator)
   pub initial : IfSome p.settings.initial (λ _. p.settings.workload ≡ Workload.Register)
-  pub tick_every : p.tick_every ≤ 10000
+  pub tick_every : p.tick_every ≤ max_tick_every
   pub seed : p.seed < 2 ^ 63
-  pub due : All (λ entry. entry.at ≤ 10000) p.schedule
+  pub due : All (λ entry. entry.at ≤ max_due_at) p.schedule
   pub others : All (λ entry. LeadsToOthers entry.step) p.schedule
 
 -- the same entry, with the links, nodes or bumps of its fault in order

@@ -16,6 +16,7 @@ use Rattle.jh_simnode.specs.Plans.{PlanValue, IsKeptPlan}
 use Rattle.jh_simnode.specs.StoreNames.{store_name}
 use Rattle.jh_settings.specs.declared.keys.Key.{Key}
 use Rattle.jh_settings.specs.Keys.{key_name}
+use Rattle.jh_settings.specs.Limits.{max_tick_every}
 use Rattle.jh_laws.specs.StepLines.{IsStepOver}
 use Rattle.jh_settings_texts.specs.DocumentWritten.{printed_text, whole_number}
 use Rattle.jh_settings_texts.specs.DocumentWritten.{schedule_texts}
@@ -78,7 +79,7 @@ pub record IsWhollyKnown (p : PlanValue) : Type 0 where
 -- only a register holds something at first, and numbers are in the ranges of their keys
 pub record HasWritableNumbers (p : PlanValue) : Type 0 where
   pub initial : IfSome p.settings.initial (λ _. p.settings.workload ≡ Workload.Register)
-  pub tick_every : p.tick_every ≤ 10000
+  pub tick_every : p.tick_every ≤ max_tick_every
   pub seed : p.seed < 2 ^ 63
 
 -- the start and the generator have texts that are read back

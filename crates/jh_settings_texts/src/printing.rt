@@ -14,6 +14,7 @@ ghost use Rattle.jh_nemesis.specs.Steps.{FitsNodes};
 ghost use Rattle.jh_gen.specs.GeneratorText.{parsed_generator};
 ghost use Rattle.jh_gen.specs.View.{generator_of};
 ghost use Rattle.jh_gen_texts.specs.GeneratorWritten.{edn_of_generator};
+ghost use Rattle.jh_settings.specs.Limits.{max_due_at};
 ghost use Rattle.jh_laws.specs.StepLines.{IsStepOver};
 ghost use Rattle.jh_settings_texts.specs.DocumentWritten.{entry_value, spread_value};
 ghost use Rattle.jh_settings_texts.specs.SettingsWritten.{LeadsToOthers};
@@ -83,7 +84,7 @@ fn spread_entry(
     spread: Option<Spread>,
 ) -> Result<Value, AllocError>
     requires fits { FitsNodes (length nodes.now) entry.now.step }
-    requires some { IfSome spread (λ s. (0 < s.calls) × (entry.now.at ≤ 10000)) }
+    requires some { IfSome spread (λ s. (0 < s.calls) × (entry.now.at ≤ max_due_at)) }
     ensures { IfOk result (λ value. view value ≡ spread_value nodes.now spread entry.now) }
 {
     let mut parts = Vec::new(alloc);
@@ -101,7 +102,7 @@ pub(crate) fn entry_text(
 ) -> Result<String, AllocError>
     requires named { AreNodeNames nodes.now }
     requires fits { FitsNodes (length nodes.now) entry.now.step }
-    requires due { entry.now.at ≤ 10000 }
+    requires due { entry.now.at ≤ max_due_at }
     requires others { LeadsToOthers entry.now.step }
     requires some { IfSome spread (λ s. 0 < s.calls) }
     ensures text { IfOk result

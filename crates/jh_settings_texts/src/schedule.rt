@@ -9,6 +9,7 @@ ghost use Rattle.jh_edn.specs.View.{view};
 ghost use Rattle.jh_env.specs.Names.{AreNodeNames};
 ghost use Rattle.jh_nemesis.specs.Steps.{FitsNodes};
 ghost use Rattle.jh_settings.specs.Keys.{IsDocument};
+ghost use Rattle.jh_settings.specs.Limits.{max_due_at};
 ghost use Rattle.jh_settings_texts.specs.DocumentWritten.{due_value, schedule_document};
 ghost use Rattle.jh_settings_texts.specs.SettingsWritten.{LeadsToOthers};
 
@@ -31,7 +32,7 @@ pub struct Spread {
 /// The time at which so many of all calls are over, in milliseconds.
 fn time_of(at: u32, milliseconds: u32, calls: u32) -> u64
     requires some { 0 < calls }
-    requires few { at ≤ 10000 }
+    requires few { at ≤ max_due_at }
     ensures time { result ≡ at * milliseconds / calls }
     ensures within { result < 2 ^ 63 }
 {
@@ -53,7 +54,7 @@ fn time_value(alloc: Global, milliseconds: u64) -> Result<Value, AllocError>
 /// When an entry is due, as a schedule has it: after so many answered calls, or at its time where calls are spread over
 /// time.
 pub(crate) fn due(alloc: Global, at: u32, spread: Option<Spread>) -> Result<Value, AllocError>
-    requires { IfSome spread (λ s. (0 < s.calls) × (at ≤ 10000)) }
+    requires { IfSome spread (λ s. (0 < s.calls) × (at ≤ max_due_at)) }
     ensures { IfOk result (λ value. view value ≡ due_value spread at) }
 {
     match spread {
@@ -79,7 +80,7 @@ pub fn schedule_to_text(
     requires some { IfSome spread (λ s. 0 < s.calls) }
     requires named { AreNodeNames nodes.now }
     requires fit { All (λ entry. FitsNodes (length nodes.now) entry.step) entries.now }
-    requires due { All (λ entry. entry.at ≤ 10000) entries.now }
+    requires due { All (λ entry. entry.at ≤ max_due_at) entries.now }
     requires others { All (λ entry. LeadsToOthers entry.step) entries.now }
     ensures { IfOk result
         (λ text. IsDocument (string_bytes text) (schedule_document nodes.now spread entries.now)) }

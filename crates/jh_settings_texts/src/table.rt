@@ -12,7 +12,7 @@ ghost use Rattle.jh_nemesis.specs.Steps.{FitsNodes};
 ghost use Rattle.jh_gen.specs.GeneratorText.{parsed_generator};
 ghost use Rattle.jh_gen_texts.specs.GeneratorWritten.{edn_of_generator};
 ghost use Rattle.jh_simnode.specs.Plans.{IsKeptPlan};
-ghost use Rattle.jh_settings.specs.Limits.{max_budget};
+ghost use Rattle.jh_settings.specs.Limits.{max_budget, max_due_at};
 ghost use Rattle.jh_laws.specs.StepLines.{IsStepOver};
 ghost use Rattle.jh_settings_texts.specs.DocumentWritten.{document_of, schedule_document};
 ghost use Rattle.jh_settings_texts.specs.DocumentWritten.{spread_texts, whole_number};
@@ -123,7 +123,7 @@ fn entry_texts(
     requires some { IfSome spread (λ s. 0 < s.calls) }
     requires named { AreNodeNames nodes.now }
     requires fit { All (λ entry. FitsNodes (length nodes.now) entry.step) entries.now }
-    requires due { All (λ entry. entry.at ≤ 10000) entries.now }
+    requires due { All (λ entry. entry.at ≤ max_due_at) entries.now }
     requires others { All (λ entry. LeadsToOthers entry.step) entries.now }
     ensures texts { IfOk result
         (λ values. toml.items_view values.items ≡ spread_texts nodes.now spread entries.now) }
@@ -146,7 +146,7 @@ fn put_schedule(
 ) -> Result<(), AllocError>
     requires nodes { nodes.now ≡ plan.now.env.names }
     requires named { AreNodeNames nodes.now }
-    requires due { All (λ entry. entry.at ≤ 10000) plan.now.schedule }
+    requires due { All (λ entry. entry.at ≤ max_due_at) plan.now.schedule }
     requires others { All (λ entry. LeadsToOthers entry.step) plan.now.schedule }
     ensures table { OnOk result
         (table_view table.new ≡ inside.put_schedule plan.now (table_view table.old)) }
@@ -167,7 +167,7 @@ pub(crate) fn schedule_table(
     requires some { IfSome spread (λ s. 0 < s.calls) }
     requires named { AreNodeNames nodes.now }
     requires fit { All (λ entry. FitsNodes (length nodes.now) entry.step) entries.now }
-    requires due { All (λ entry. entry.at ≤ 10000) entries.now }
+    requires due { All (λ entry. entry.at ≤ max_due_at) entries.now }
     requires others { All (λ entry. LeadsToOthers entry.step) entries.now }
     ensures { IfOk result
         (λ table. table_view table ≡ schedule_document nodes.now spread entries.now) }
