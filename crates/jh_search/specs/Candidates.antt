@@ -15,7 +15,7 @@ use Rattle.jh_settings_texts.specs.SettingsWritten.{plan_in_order}
 use Rattle.jh_search.specs.declared.draws.Draw.{Draw}
 use Rattle.jh_step_texts.specs.declared.kinds.FaultKind.{FaultKind}
 use Rattle.jh_search.specs.declared.options.Options.{Options}
-use Rattle.jh_search.specs.Draws.{draw_of, number}
+use Rattle.jh_search.specs.Draws.{draw_of, random_number}
 use Rattle.jh_search.specs.Kinds.{kinds_drawn}
 use Rattle.jh_search.specs.RandomFaults.{fault_drawn}
 
@@ -103,7 +103,8 @@ abbrev pub entries_with_faults : PlanValue → Options → ℕ → List Entry
 entries_with_faults p options seed =
     fold (entries_with_random p options seed) p.schedule (range_with_len 0 options.faults)
 
--- two candidates in three heal, by their own number: they withdraw all faults that are active then
+-- two candidates in three heal, by their first random number: they withdraw all faults that are
+-- active then
 abbrev pub healed_entries : PlanValue → ℕ → List Entry → List Entry
 healed_entries p own entries =
     if (own % 3) == 0 then entries
@@ -111,7 +112,7 @@ healed_entries p own entries =
 
 abbrev pub random_schedule : PlanValue → Options → ℕ → List Entry
 random_schedule p options seed =
-    healed_entries p (number seed 0) (entries_with_faults p options seed)
+    healed_entries p (random_number seed 0) (entries_with_faults p options seed)
 
 -- ---- the candidate
 

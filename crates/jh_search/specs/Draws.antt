@@ -13,23 +13,23 @@ candidate_stream = 1
 abbrev pub numbers_after : ℕ → ℕ → Lcg
 numbers_after seed n = random_numbers_after candidate_stream seed n
 
--- the number of this index, from 0
-abbrev pub number : ℕ → ℕ → ℕ
-number seed n = random_number_at candidate_stream seed n
+-- the random number of this index, from 0
+abbrev pub random_number : ℕ → ℕ → ℕ
+random_number seed n = random_number_at candidate_stream seed n
 
--- the seven numbers from an index on, as those of one fault
+-- the seven random numbers from an index on, as those of one fault
 abbrev pub draw_from : ℕ → ℕ → Draw
 draw_from seed n = record {
-  kind = number seed n;
-  shape = number seed (n + 1);
-  order = number seed (n + 2);
-  amount = number seed (n + 3);
-  begin = number seed (n + 4);
-  stay = number seed (n + 5);
-  length = number seed (n + 6);
+  kind = random_number seed n;
+  shape = random_number seed (n + 1);
+  order = random_number seed (n + 2);
+  amount = random_number seed (n + 3);
+  begin = random_number seed (n + 4);
+  stay = random_number seed (n + 5);
+  length = random_number seed (n + 6);
 }
 
--- the numbers of a fault: the first number is the candidate's own, and each fault has the next
--- seven
+-- the random numbers of a fault: by the first a candidate heals or doesn't, and each fault has the
+-- next seven
 abbrev pub draw_of : ℕ → ℕ → Draw
 draw_of seed fault = draw_from seed (7 * fault + 1)

@@ -1,7 +1,7 @@
 //! The random numbers of a candidate. `specs/Draws.antt` says which each fault has.
 
 ghost use Rattle.std.specs.Prelude.{◌≡◌, ◌+◌, ℕ};
-ghost use Rattle.jh_search.specs.Draws.{draw_from, number, numbers_after};
+ghost use Rattle.jh_search.specs.Draws.{draw_from, numbers_after, random_number};
 
 use rand_core::utils::NextWord;
 use rand_pcg::Lcg128Xsl64;
@@ -23,22 +23,22 @@ pub(crate) struct Draw {
     pub(crate) length: u64,
 }
 
-/// The numbers of a candidate with this seed, before the first.
+/// The random numbers of a candidate with this seed, before the first.
 pub(crate) fn numbers_of(seed: u64) -> Lcg128Xsl64
     ensures { result ≡ numbers_after seed 0 }
 {
     Lcg128Xsl64::new(u128::from(seed), 1)
 }
 
-/// The next number.
+/// The next random number.
 pub(crate) fn next(numbers: &mut Lcg128Xsl64) -> u64
     ensures { (seed n : ℕ) → numbers.old ≡ numbers_after seed n
-        → (result ≡ number seed n) × (numbers.new ≡ numbers_after seed (n + 1)) }
+        → (result ≡ random_number seed n) × (numbers.new ≡ numbers_after seed (n + 1)) }
 {
     numbers.next_word()
 }
 
-/// The numbers of the next fault.
+/// The random numbers of the next fault.
 pub(crate) fn next_draw(numbers: &mut Lcg128Xsl64) -> Draw
     ensures { (seed n : ℕ) → numbers.old ≡ numbers_after seed n
         → (result ≡ draw_from seed n) × (numbers.new ≡ numbers_after seed (n + 7)) }
