@@ -21,7 +21,7 @@ use Rattle.jh_settings_texts.specs.declared.schedule.Spread.{Spread}
 use Rattle.jh_cli.specs.declared.search_command.SearchQuestion.{SearchQuestion}
 use Rattle.jh_cli.specs.declared.search_command.Show.{Show}
 
--- what a search is asked, with these kinds of faults and a judge of this budget
+-- the options of the search that a question asks for, with these kinds of faults and this budget
 abbrev pub search_options : SearchQuestion → Palette → ℕ → Options
 search_options question palette budget =
     record {

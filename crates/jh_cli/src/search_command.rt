@@ -41,7 +41,9 @@ pub struct Show {
     pub milliseconds: Option<u32>,
 }
 
-/// What `search` is asked.
+/// What the command line asks of `search`: which candidates, on how many threads, or which one to
+/// show. Its kinds of faults may be unknown, and its budget stands in the settings. `jh_search::Options`
+/// are what the search takes of it, with all known.
 #[derive(Clone, Copy, Debug, PartialEq, Eq)]
 pub struct SearchQuestion {
     /// The number of the first candidate, below 2^63.
@@ -83,7 +85,8 @@ pub struct SearchQuestion {
 /// Errors: `BadPalette` where the question names no kinds, before anything is read; an error of
 /// reading (`Input`, `Read`); `Settings`; `Unwritable` where settings can't say the plan again (its
 /// generator would be nested deeper than a text may be); `Thread` where a thread could not be had, so
-/// never where one was wanted; `OutOfMemory`; `Write`. Nothing is written before any of them but `Write`.
+/// never where the question asks for a single thread; `OutOfMemory`; `Write`. Nothing is written before
+/// any of them but `Write`.
 pub fn search_run<T: Threads + Wait + Sync, R: Read, W: Write, O: SearchObserver>(
     rt: &T,
     alloc: Global,
@@ -132,7 +135,7 @@ fn processors<T: Threads>(rt: &T) -> u32
     }
 }
 
-/// What a search is asked, with a judge of this budget.
+/// The options of the search that a question asks for, with these kinds and a judge of this budget.
 fn options_of(question: SearchQuestion, palette: Palette, budget: u64) -> Options
     ensures { result ≡ search_options question palette budget }
 {

@@ -1,9 +1,12 @@
-//! What a search is asked. `specs/Candidates.antt` and `specs/Search.antt` say what its fields
+//! What a search takes. `specs/Candidates.antt` and `specs/Search.antt` say what its fields
 //! mean.
 
 use crate::kinds::Palette;
 
-/// What a search is asked.
+/// What a search takes beside a plan, with all known: which candidates are made and tried, and by which
+/// budget each is judged. On how many threads they are tried is no option, for the answer is the same.
+/// What a command line asks, which may name no kinds or one candidate to show, is
+/// `jh_cli::SearchQuestion`.
 #[derive(Clone, Copy, Debug, PartialEq, Eq)]
 pub struct Options {
     /// The number of the first candidate.
