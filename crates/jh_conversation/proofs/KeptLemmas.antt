@@ -53,9 +53,9 @@ pub record IsKeptByCalls (t : TestValue) (P : Machine → Type 0) : Type 0 where
 pub by_answers : (t : TestValue) (P : Machine → Type 0) → IsKeptByAnswers t P → IsKeptByCalls t P
 by_answers t P k = record {
   visits = λ m thread within idle may h.
-      let word = pcg64 m.random_numbers in
-      let answer = driver_answer m.driver thread word.0 in
-      go (record m { driver = answer.1; random_numbers = word.1 }) thread answer.0 within idle may (k.asks m answer.1 word.1 h);
+      let drawn = pcg64 m.random_numbers in
+      let answer = driver_answer m.driver thread drawn.0 in
+      go (record m { driver = answer.1; random_numbers = drawn.1 }) thread answer.0 within idle may (k.asks m answer.1 drawn.1 h);
 }
   where
     go : (m : Machine) (thread : ℕ) (answer : GenAnswer) → thread < t.clients → (caller_of m thread).call ≡ None → may_call t m ≡ true → P m → P (after_answer t thread answer m)

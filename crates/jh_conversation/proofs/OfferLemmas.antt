@@ -192,12 +192,12 @@ module _ (asked_answers : AskedAnswers) (end_keeps : EndKeepsGenerator) (t : Tes
   offered_in_turn = record {
     calls = record {
       visits = λ m n within idle may h.
-          let word = pcg64 m.random_numbers in
-          let answer = driver_answer m.driver n word.0 in
+          let drawn = pcg64 m.random_numbers in
+          let answer = driver_answer m.driver n drawn.0 in
           let both = and_parts (not m.has_spent) (may_call_in_phase m.phase t m.stops m.given m.clock) may in
           let unspent : m.has_spent ≡ false = not-true m.has_spent both.0 in
-          answer_offers (record m { driver = answer.1; random_numbers = word.1 }) n within unspent answer.0
-          (part_after m.phase m.stops m.given m.clock m.driver m.final_calls (given_calls t m.history) n word.0 both.1 h.0 within
+          answer_offers (record m { driver = answer.1; random_numbers = drawn.1 }) n within unspent answer.0
+          (part_after m.phase m.stops m.given m.clock m.driver m.final_calls (given_calls t m.history) n drawn.0 both.1 h.0 within
           (subst (λ b. Part m.phase b m.driver m.final_calls (given_calls t m.history)) unspent h.1));
     };
     begins = λ m due w d h. h;

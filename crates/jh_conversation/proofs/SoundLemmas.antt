@@ -347,8 +347,8 @@ idle_is callers k e = ap has_no_call e
 pub sound_by_calls : (t : TestValue) → IsFitTest t → IsKeptByCalls t (IsSoundMachine t)
 sound_by_calls t fit = record {
   visits = λ m n within none may h.
-      let word = pcg64 m.random_numbers in
-      sound_answer t fit m n word.1 within (idle_is m.callers n none) may h (driver_answer m.driver n word.0) (has_asked m.driver n word.0);
+      let drawn = pcg64 m.random_numbers in
+      sound_answer t fit m n drawn.1 within (idle_is m.callers n none) may h (driver_answer m.driver n drawn.0) (has_asked m.driver n drawn.0);
 }
 
 -- A turn.

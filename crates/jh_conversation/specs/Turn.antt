@@ -188,9 +188,9 @@ driver_answer d number random_number =
 
 abbrev pub ask : TestValue → ℕ → Machine → Machine
 ask t number m =
-    let word = pcg64 m.random_numbers in
-    let answer = driver_answer m.driver number word.0 in
-    after_answer t number answer.0 (record m { driver = answer.1; random_numbers = word.1 })
+    let drawn = pcg64 m.random_numbers in
+    let answer = driver_answer m.driver number drawn.0 in
+    after_answer t number answer.0 (record m { driver = answer.1; random_numbers = drawn.1 })
 
 abbrev pub visit : TestValue → ℕ → Machine → Machine
 visit t number m =

@@ -13,7 +13,7 @@ use Rattle.jh_check.specs.CounterResults.{natural}
 use Rattle.jh_edn.specs.Edn.{Edn, int, keyword}
 use Rattle.jh_edn.specs.Parts.{vector_of}
 use Rattle.jh_test_parts.specs.Test.{IsGoodShape}
-use Rattle.jh_test_parts.specs.Transactions.{TransactionSource, after_word, first_source, is_full_with_one, next_op, next_ops, next_transaction, no_slot, op_on, op_on_slot, slot_after, slots_from, source_after_append, word_of}
+use Rattle.jh_test_parts.specs.Transactions.{TransactionSource, after_random_number, first_source, is_full_with_one, next_op, next_ops, next_transaction, no_slot, op_on, op_on_slot, slot_after, slots_from, source_after_append, random_number_of}
 use Rattle.jh_test_parts.specs.declared.parts.TransactionShape.{TransactionShape}
 use Rattle.jh_test_parts.specs.declared.transactions.Slot.{Slot}
 use Rattle.jh_txn_histories.specs.Written.{Written, append, read, appends_of, has_repeat, is_equal, is_same_append}
@@ -26,14 +26,14 @@ abbrev pub op_written_on : Bool → Slot → Written
 op_written_on reads slot = if reads then read (int (pos slot.key)) [] else append (int (pos slot.key)) (int (pos (slot.appends + 1)))
 
 abbrev pub op_written : TransactionSource → Written
-op_written s = op_written_on (word_of s % 2 == 0) (slice_index_or s.slots (word_of (after_word s) % s.shape.keys) no_slot)
+op_written s = op_written_on (random_number_of s % 2 == 0) (slice_index_or s.slots (random_number_of (after_random_number s) % s.shape.keys) no_slot)
 
 abbrev pub ops_written : ℕ → TransactionSource → List Written
 ops_written zero s = []
 ops_written (suc n) s = op_written s ∷ ops_written n (next_op s).1
 
 abbrev pub transaction_written : TransactionSource → List Written
-transaction_written s = ops_written (1 + word_of s % s.shape.most) (after_word s)
+transaction_written s = ops_written (1 + random_number_of s % s.shape.most) (after_random_number s)
 
 -- micro-operations as the parts of a transaction
 abbrev spelled : List Edn → Option (List Written)
@@ -46,11 +46,11 @@ one_more s false place slot ops = refl
 spells : (n : ℕ) (s : TransactionSource) → spelled (next_ops n s).0 ≡ Some (ops_written n s)
 spells zero s = refl
 spells (suc n) s =
-    one_more (after_word (after_word s)) (word_of s % 2 == 0) (word_of (after_word s) % s.shape.keys) (slice_index_or s.slots (word_of (after_word s) % s.shape.keys) no_slot) (next_ops n (next_op s).1).0
+    one_more (after_random_number (after_random_number s)) (random_number_of s % 2 == 0) (random_number_of (after_random_number s) % s.shape.keys) (slice_index_or s.slots (random_number_of (after_random_number s) % s.shape.keys) no_slot) (next_ops n (next_op s).1).0
     ∙ ap (λ o. option_map (λ ws. op_written s ∷ ws) o) (spells n (next_op s).1)
 
 pub transaction_spells : (s : TransactionSource) → ops_asked (keyword (codes "txn")) (next_transaction s).0 ≡ Some (transaction_written s)
-transaction_spells s = spells (1 + word_of s % s.shape.most) (after_word s)
+transaction_spells s = spells (1 + random_number_of s % s.shape.most) (after_random_number s)
 
 -- ---- no append twice
 
@@ -247,16 +247,16 @@ keeps_on s front left true place within clean = (no_more s front left (less_left
 keeps_on s front left false place within clean = (clean_next s front left place clean within, once s front left place clean within)
 
 -- the random numbers of a source are no part of what is clean
-other_words : (s : TransactionSource) (front : List (Edn × Edn)) (left : ℕ) → IsClean s front left → IsClean (after_word s) front left
-other_words s front left h = record { room = h.room; long = h.long; some = h.some; used = h.used; apart = h.apart; old = all_mapped (IsOld s) (IsOld (after_word s)) (λ made o. record { key = o.key; element = o.element; is = o.is; used = o.used; counted = o.counted }) front h.old }
+other_random_numbers : (s : TransactionSource) (front : List (Edn × Edn)) (left : ℕ) → IsClean s front left → IsClean (after_random_number s) front left
+other_random_numbers s front left h = record { room = h.room; long = h.long; some = h.some; used = h.used; apart = h.apart; old = all_mapped (IsOld s) (IsOld (after_random_number s)) (λ made o. record { key = o.key; element = o.element; is = o.is; used = o.used; counted = o.counted }) front h.old }
 
 keeps_one : (s : TransactionSource) (front : List (Edn × Edn)) (left : ℕ) → IsClean s front (suc left) → Keeps (next_op s).1 front (appends_of (op_written s ∷ [])) left
 keeps_one s front left clean =
     let long = clean.long in
     let some = clean.some in
-    let below : word_of (after_word s) % s.shape.keys < s.shape.keys = mod_below (word_of (after_word s)) s.shape.keys (omega (arith, some)) in
-    keeps_on (after_word (after_word s)) front left (word_of s % 2 == 0) (word_of (after_word s) % s.shape.keys) (omega (arith, below, long))
-    (other_words (after_word s) front (suc left) (other_words s front (suc left) clean))
+    let below : random_number_of (after_random_number s) % s.shape.keys < s.shape.keys = mod_below (random_number_of (after_random_number s)) s.shape.keys (omega (arith, some)) in
+    keeps_on (after_random_number (after_random_number s)) front left (random_number_of s % 2 == 0) (random_number_of (after_random_number s) % s.shape.keys) (omega (arith, below, long))
+    (other_random_numbers (after_random_number s) front (suc left) (other_random_numbers s front (suc left) clean))
 
 pub repeat_joined : (front xs ys : List (Edn × Edn)) → has_repeat front xs ≡ false → has_repeat (front ++ xs) ys ≡ false → has_repeat front (xs ++ ys) ≡ false
 repeat_joined front [] ys h k = subst (λ l. has_repeat l ys ≡ false) (append-nil front) k
@@ -284,9 +284,9 @@ keeps_ops (suc n) s front left clean =
 pub keeps_transaction : (s : TransactionSource) (front : List (Edn × Edn)) (left most : ℕ) → 1 ≤ s.shape.most → s.shape.most ≤ most → IsClean s front (most + left)
     → Keeps (next_transaction s).1 front (appends_of (transaction_written s)) left
 keeps_transaction s front left most some few clean =
-    let below : word_of s % s.shape.most < s.shape.most = mod_below (word_of s) s.shape.most (omega (arith, some)) in
-    let n = 1 + word_of s % s.shape.most in
-    keeps_ops n (after_word s) front left (less_left (after_word s) front (most + left) (n + left) (omega (arith, below, few)) (other_words s front (most + left) clean))
+    let below : random_number_of s % s.shape.most < s.shape.most = mod_below (random_number_of s) s.shape.most (omega (arith, some)) in
+    let n = 1 + random_number_of s % s.shape.most in
+    keeps_ops n (after_random_number s) front left (less_left (after_random_number s) front (most + left) (n + left) (omega (arith, below, few)) (other_random_numbers s front (most + left) clean))
 
 -- how transactions are made stays
 shape_on : (s : TransactionSource) (reads : Bool) (place : ℕ) (slot : Slot) → (op_on_slot s reads place slot).1.shape ≡ s.shape
@@ -297,10 +297,10 @@ shape_ops : (n : ℕ) (s : TransactionSource) → (next_ops n s).1.shape ≡ s.s
 shape_ops zero s = refl
 shape_ops (suc n) s =
     shape_ops n (next_op s).1
-    ∙ shape_on (after_word (after_word s)) (word_of s % 2 == 0) (word_of (after_word s) % s.shape.keys) (slice_index_or s.slots (word_of (after_word s) % s.shape.keys) no_slot)
+    ∙ shape_on (after_random_number (after_random_number s)) (random_number_of s % 2 == 0) (random_number_of (after_random_number s) % s.shape.keys) (slice_index_or s.slots (random_number_of (after_random_number s) % s.shape.keys) no_slot)
 
 pub same_shape : (s : TransactionSource) → (next_transaction s).1.shape ≡ s.shape
-same_shape s = shape_ops (1 + word_of s % s.shape.most) (after_word s)
+same_shape s = shape_ops (1 + random_number_of s % s.shape.most) (after_random_number s)
 
 -- ---- the first source
 

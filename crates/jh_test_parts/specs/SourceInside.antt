@@ -9,7 +9,7 @@ use Rattle.jh_test_parts.specs.declared.transactions.TransactionSource.TheInside
 abbrev pub source_of : Inside → TransactionSource
 source_of a = record {
   shape = a.shape;
-  words = a.words;
+  random_numbers = a.random_numbers;
   slots = a.slots.items;
   next_key = a.next_key;
 }

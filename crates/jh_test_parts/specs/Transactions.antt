@@ -13,7 +13,7 @@ use Rattle.jh_test_parts.specs.declared.transactions.Slot.{Slot}
 -- was never used
 pub record TransactionSource : Type 0 where
   pub shape : TransactionShape
-  pub words : Lcg
+  pub random_numbers : Lcg
   pub slots : List Slot
   pub next_key : ℕ
 
@@ -28,16 +28,16 @@ slots_from key (suc n) = (record { key = key; appends = 0 }) ∷ slots_from (key
 abbrev pub first_source : TransactionShape → ℕ → TransactionSource
 first_source shape seed = record {
   shape = shape;
-  words = started 128 multiplier_128 seed (increment_of 128 1);
+  random_numbers = started 128 multiplier_128 seed (increment_of 128 1);
   slots = slots_from 0 shape.keys;
   next_key = shape.keys;
 }
 
-abbrev pub after_word : TransactionSource → TransactionSource
-after_word source = record source { words = (pcg64 source.words).1 }
+abbrev pub after_random_number : TransactionSource → TransactionSource
+after_random_number source = record source { random_numbers = (pcg64 source.random_numbers).1 }
 
-abbrev pub word_of : TransactionSource → ℕ
-word_of source = (pcg64 source.words).0
+abbrev pub random_number_of : TransactionSource → ℕ
+random_number_of source = (pcg64 source.random_numbers).0
 
 -- `[:r K nil]` and `[:append K E]`
 abbrev pub read_written : ℕ → Edn
@@ -80,8 +80,9 @@ op_on source reads place = op_on_slot source reads place (slice_index_or source.
 -- the next micro-operation takes two numbers: what it does, and the slot
 abbrev pub next_op : TransactionSource → Edn × TransactionSource
 next_op source =
-    let chosen = after_word source in
-    op_on (after_word chosen) (word_of source % 2 == 0) (word_of chosen % source.shape.keys)
+    let chosen = after_random_number source in
+    op_on (after_random_number chosen) (random_number_of source % 2 == 0)
+    (random_number_of chosen % source.shape.keys)
 
 -- so many micro-operations
 abbrev pub next_ops : ℕ → TransactionSource → List Edn × TransactionSource
@@ -94,5 +95,6 @@ next_ops (suc n) source =
 -- the next transaction takes a number for its length, and then those of its micro-operations
 abbrev pub next_transaction : TransactionSource → Edn × TransactionSource
 next_transaction source =
-    let ops = next_ops (1 + word_of source % source.shape.most) (after_word source) in
+    let ops =
+    next_ops (1 + random_number_of source % source.shape.most) (after_random_number source) in
     (vector_of ops.0, ops.1)

@@ -30,7 +30,7 @@ pub struct Slot {
 #[derive(Drop)]
 pub struct TransactionSource {
     shape: TransactionShape,
-    words: Lcg128Xsl64,
+    random_numbers: Lcg128Xsl64,
     slots: Vec<Slot>,
     next_key: u64,
 }
@@ -81,18 +81,18 @@ impl TransactionSource {
     {
         Ok(TransactionSource {
             shape,
-            words: Lcg128Xsl64::new(u128::from(seed), 1),
+            random_numbers: Lcg128Xsl64::new(u128::from(seed), 1),
             slots: first_slots(alloc, shape.keys)?,
             next_key: u64::from(shape.keys),
         })
     }
 
     /// The next random number.
-    fn next_word(&mut self) -> u64
-        ensures word { result ≡ rule.word_of self.old }
-        ensures source { self.new ≡ rule.after_word self.old }
+    fn next_random_number(&mut self) -> u64
+        ensures random_number { result ≡ rule.random_number_of self.old }
+        ensures source { self.new ≡ rule.after_random_number self.old }
     {
-        self.words.next_word()
+        self.random_numbers.next_word()
     }
 
     /// Counts one more append to the slot at a place. Where its key has all its appends, the next key
@@ -142,8 +142,8 @@ impl TransactionSource {
         ensures op { IfOk result (λ op. view op ≡ (rule.next_op self.old).0) }
         ensures source { OnOk result (self.new ≡ (rule.next_op self.old).1) }
     {
-        let reads = self.next_word() % 2 == 0;
-        let place = self.next_word() % u64::from(self.shape.keys);
+        let reads = self.next_random_number() % 2 == 0;
+        let place = self.next_random_number() % u64::from(self.shape.keys);
         self.op_on(alloc, reads, place as usize)
     }
 
@@ -156,7 +156,7 @@ impl TransactionSource {
             (λ value. view value ≡ (rule.next_transaction self.old).0) }
         ensures source { OnOk result (self.new ≡ (rule.next_transaction self.old).1) }
     {
-        let count = 1 + self.next_word() % u64::from(self.shape.most);
+        let count = 1 + self.next_random_number() % u64::from(self.shape.most);
         let mut ops = Vec::new(alloc);
         for _op in 0..count {
             ops.push(self.next_op(alloc)?)?;

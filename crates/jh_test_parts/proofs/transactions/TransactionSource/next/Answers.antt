@@ -6,7 +6,7 @@ use Rattle.jh_test_parts.proofs.transactions.TransactionSource.next.Goals as goa
 
 pub loop-op-preserved : goal.loop-op-preserved
 loop-op-preserved c =
-    let count = 1 + c.next_word.result % c.from.result in
+    let count = 1 + c.next_random_number.result % c.from.result in
     let left = count - (c.loop-op._op + 1) in
     let one : count - c.loop-op._op ≡ suc left = omega (arith, c.loop-op-test.true) in
     let source = c.loop-op.self in
