@@ -27,9 +27,9 @@ answer_to_line c line = text_to c.test c.machine line
 abbrev pub conversation_after : ConversationValue → List ℕ → ConversationValue
 conversation_after c line = record { test = c.test; machine = take_line c.test c.machine line }
 
--- it listens no more
-abbrev pub has_no_more : ConversationValue → Bool
-has_no_more c = is_test_over c.machine
+-- it is over: it listens no more
+abbrev pub is_over : ConversationValue → Bool
+is_over c = is_test_over c.machine
 
 -- after any lines it is the machine of the laws that has taken these lines
 abbrev pub ConversationIsRun : Type 0

@@ -7,7 +7,7 @@ use Rattle.jh_check.specs.declared.error.CheckError.{CheckError}
 use Rattle.jh_check.specs.declared.error.CheckError.TheVariants as CheckErrors
 use Rattle.jh_checkers.specs.declared.finding.Judging.{Judging}
 use Rattle.jh_conversation.specs.Conversations.{ConversationValue, IsTestBegun, answer_to_line}
-use Rattle.jh_conversation.specs.Conversations.{conversation_after, has_no_more, opening_of}
+use Rattle.jh_conversation.specs.Conversations.{conversation_after, is_over, opening_of}
 use Rattle.jh_conversation.specs.Text.{end_line, recorded_history}
 use Rattle.jh_independent.specs.Refusals.{RefusesKeys, keys_question}
 use Rattle.jh_independent.specs.declared.error.KeysError.{KeysError}
@@ -35,11 +35,11 @@ pub record IsConducted (t : TestValue) (past : List TalkEvent) (last : Conversat
     (ending : Ending) : Type 0 where
   pub first : ConversationValue
   pub begun : IsTestBegun t first
-  pub talk : IsConversation opening_of conversation_after answer_to_line has_no_more first past last ending
+  pub talk : IsConversation opening_of conversation_after answer_to_line is_over first past last ending
 
 -- the line of the end, where the conversation did not come to it
 abbrev pub end_if_missing : ConversationValue → List ℕ
-end_if_missing c = if has_no_more c then [] else end_line
+end_if_missing c = if is_over c then [] else end_line
 
 -- What is written behind a conversation: its history, what is left of the faults, and what is found, as one
 -- or by keys, with the exit status of the verdict.
@@ -96,7 +96,7 @@ module _ (t : TestValue) (judging : Judging) (input rest before after : Option (
     pub report : List ℕ
     pub is_report : IsReportOf judging last status report
     pub written : Appends before after (told_in past ++ report)
-    pub answer : result ≡ drive_answer last.machine.bad (has_no_more last) ending status
+    pub answer : result ≡ drive_answer last.machine.bad (is_over last) ending status
 
   -- Memory was refused, or the output could not be written, or the history can't be judged.
   abbrev pub FailsBy : DriveError → Type 0
