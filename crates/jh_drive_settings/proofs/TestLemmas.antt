@@ -42,15 +42,15 @@ has_ops document n e = needed_is 1 1000000 (data_under Key.Ops document) n e
 
 module _ (document : Members) (parts : Parts) (parsed : AreParsedParts document parts) where
   -- one of two numbers alone is missing the other
-  pub shares_refused : (e : SettingsError) → RefusesShares parts.pace.threads parts.pace.calls e → RefusesDriveValues document e
+  pub shares_refused : (e : SettingsError) → RefusesShares parts.pace.threads_per_key parts.pace.ops_per_key e → RefusesDriveValues document e
   shares_refused NotToml h = absurd h
   shares_refused (Unknown name) h = absurd h
   shares_refused (Missing key) h =
-      (all_good document parts (option_map generator_of parts.final_calls) parsed.final_calls parsed, one_share_missing document parts.asked.checker parsed.asked.workload parts.pace.threads parts.pace.calls parsed.pace.by_threads parsed.pace.by_calls key h)
+      (all_good document parts (option_map generator_of parts.final_calls) parsed.final_calls parsed, one_share_missing document parts.asked.checker parsed.asked.workload parts.pace.threads_per_key parts.pace.ops_per_key parsed.pace.by_threads parsed.pace.by_calls key h)
   shares_refused (BadValue key) h = absurd h
   shares_refused OutOfMemory h = absurd h
 
-  module _ (shares : Option KeyShares) (threads : parts.pace.threads ≡ option_map (λ (s : KeyShares). s.threads) shares) (calls : parts.pace.calls ≡ option_map (λ (s : KeyShares). s.calls) shares) where
+  module _ (shares : Option KeyShares) (threads : parts.pace.threads_per_key ≡ option_map (λ (s : KeyShares). s.threads) shares) (calls : parts.pace.ops_per_key ≡ option_map (λ (s : KeyShares). s.calls) shares) where
     test_parsed : IsParsedTest document (test_of_parts parts shares)
     test_parsed = record {
       start = parsed.asked.start;

@@ -47,8 +47,8 @@ pub record IsParsedPace (document : Members) (pace : Pace) : Type 0 where
   pub so_many : parsed_test_ops document ≡ Some pace.ops
   pub until : parsed_time_limit document ≡ Some pace.time_limit
   pub at_rate : parsed_rate document ≡ Some pace.rate
-  pub by_threads : parsed_threads_per_key document ≡ Some pace.threads
-  pub by_calls : parsed_ops_per_key document ≡ Some pace.calls
+  pub by_threads : parsed_threads_per_key document ≡ Some pace.threads_per_key
+  pub by_calls : parsed_ops_per_key document ≡ Some pace.ops_per_key
   pub recovers : parsed_recovery document ≡ Some pace.recovery
 
 abbrev pub shape_keys : List Key

@@ -21,8 +21,8 @@ pub(crate) struct Pace {
     pub ops: u32,
     pub time_limit: Option<u32>,
     pub rate: Option<u32>,
-    pub threads: Option<u32>,
-    pub calls: Option<u32>,
+    pub threads_per_key: Option<u32>,
+    pub ops_per_key: Option<u32>,
     pub recovery: u32,
 }
 

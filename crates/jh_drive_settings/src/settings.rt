@@ -77,16 +77,16 @@ fn pace_of(table: &Table, checker: Checker) -> Result<Pace, SettingsError>
     let ops = test_ops_under(table)?;
     let time_limit = time_limit_under(table)?;
     let rate = rate_under(table)?;
-    let threads = share_under(table, Key::ThreadsPerKey, checker, MAX_CLIENTS)?;
-    let calls = share_under(table, Key::OpsPerKey, checker, MAX_CALLS)?;
+    let threads_per_key = share_under(table, Key::ThreadsPerKey, checker, MAX_CLIENTS)?;
+    let ops_per_key = share_under(table, Key::OpsPerKey, checker, MAX_CALLS)?;
     let recovery = recovery_under(table)?;
     Ok(Pace {
         clients,
         ops,
         time_limit,
         rate,
-        threads,
-        calls,
+        threads_per_key,
+        ops_per_key,
         recovery,
     })
 }
@@ -258,7 +258,7 @@ fn settings_in(alloc: Global, table: &Table) -> Result<DriveSettings, SettingsEr
         (RefusesDriveValues (table_view table.now)) }
 {
     let parts = parts_of(alloc, table)?;
-    let keys = shares_of(parts.pace.threads, parts.pace.calls)?;
+    let keys = shares_of(parts.pace.threads_per_key, parts.pace.ops_per_key)?;
     let details = parts.details;
     let test = allowed_test(alloc, data_of(parts, keys))?;
     Ok(DriveSettings {
