@@ -1,8 +1,8 @@
 //! A test as a conversation by lines, which `jh_lines` holds with an adapter. `specs/Laws.antt` says
 //! what holds of it.
 //!
-//! `Machine` is here that of `machine.rt`: where a test stands. `jh_lines::Machine`, always with its
-//! crate, is the trait of what answers lines, which a conversation is.
+//! `Machine` is here that of `machine.rt`: where a test stands. `jh_lines::Machine`, written so, is
+//! the trait of what answers lines, which a conversation is.
 
 ghost use Rattle.std.specs.Prelude.{◌≡◌, ◌++◌, IfOk, OnOk, true};
 ghost use Rattle.jh_gen.specs.View.{generator_of};

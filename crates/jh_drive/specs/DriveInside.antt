@@ -10,7 +10,7 @@ use Rattle.jh_drive.specs.Drive.{IsNotJudged, end_if_missing}
 use Rattle.jh_drive.specs.declared.error.DriveError.{DriveError}
 use Rattle.jh_drive.specs.declared.error.DriveError.TheVariants.{Mismatch, Write, OutOfMemory}
 
--- all of a report but its last line
+-- all of a report (`IsReport` of jh_reports) but its last line, each part added to those before it
 abbrev pub IsFirstPart : ConversationValue → List ℕ → Type 0
 IsFirstPart c text =
     (env : EnvValue) × IsEnvOf c.machine.nemesis env
