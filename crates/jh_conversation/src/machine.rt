@@ -111,8 +111,8 @@ impl Machine {
         driver: Driver,
         final_calls: Option<Driver>,
     ) -> Result<Machine, AllocError>
-        ensures { IfOk result
-            (λ machine. machine ≡ at_first test.now driver final_calls (first_state test.now.start)) }
+        ensures { IfOk result (λ machine. machine
+            ≡ at_first test.now driver final_calls (first_state test.now.start)) }
     {
         let clients = test.clients();
         Ok(Machine {

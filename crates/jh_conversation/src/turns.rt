@@ -427,8 +427,8 @@ impl Machine {
 
     /// Ends *rest*, if its time has come, and says whether it had.
     fn end_rest(&mut self, alloc: Global, test: &Test) -> Result<bool, AllocError>
-        ensures machine { OnOk result
-            (self.new ≡ inside.moved self.old (rule.after_rest test.now self.old.final_calls self.old)) }
+        ensures machine { OnOk result (self.new
+            ≡ inside.moved self.old (rule.after_rest test.now self.old.final_calls self.old)) }
         ensures moved { IfOk result
             (λ moved. moved ≡ is_some (rule.after_rest test.now self.old.final_calls self.old)) }
     {

@@ -180,7 +180,8 @@ fn suits(checker: Checker, clients: u32, generator: &Gen) -> bool
 
 /// Whether the generator of the final calls, where there is one, suits too.
 fn final_calls_suit(checker: Checker, clients: u32, final_calls: &Option<Gen>) -> bool
-    ensures { result ≡ rule.final_calls_suit checker clients (option_map generator_of final_calls.now) }
+    ensures { result
+        ≡ rule.final_calls_suit checker clients (option_map generator_of final_calls.now) }
 {
     match final_calls {
         None => true,
