@@ -157,7 +157,7 @@ impl jh_lines::Machine for Conversation {
     ghost use Rattle.std.specs.Prelude.{[], if◌then◌else◌};
     ghost use Rattle.std.proofs.Common.{ap, ◌∙◌};
     ghost use Rattle.jh_conversation.specs.Conversations.{answer_to_line, conversation_after};
-    ghost use Rattle.jh_conversation.specs.Conversations.{is_over, opening_of};
+    ghost use Rattle.jh_conversation.specs.Conversations.{is_over as is_over_of, opening_of};
     ghost use Rattle.jh_conversation.specs.Lines.{is_test_over, listen, take_line, take_in};
     ghost use Rattle.jh_test_parts.specs.LineMeanings.{line_meaning};
     ghost use Rattle.jh_conversation.specs.Text.{said_lines};
@@ -169,7 +169,7 @@ impl jh_lines::Machine for Conversation {
 
     ghost answer_to = { answer_to_line };
 
-    ghost has_finished = { is_over };
+    ghost has_finished = { is_over_of };
 
     ghost stays_over = { λ c line over. (
       ap (λ b. if b then [] else said_lines c.test (take_line c.test c.machine line)) over,
