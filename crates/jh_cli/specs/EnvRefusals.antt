@@ -59,7 +59,7 @@ RefusesEnvValues values _ = ⊥
 -- write comes only where there is something to write.
 abbrev pub RefusesEnv : List ℕ → CliError → Type 0
 RefusesEnv input (Input error) =
-    IsInputError error × edn.RefusesText input error × edn.IsFirstError input error
+    IsInputError error × edn.RefusesText input error × edn.IsFirstIfInText input error
 RefusesEnv input Read = Unit {0}
 RefusesEnv input Write = (status : ℕ) × (output : List ℕ) × IsEnvTextOf input status output
 RefusesEnv input OutOfMemory = Unit {0}

@@ -8,7 +8,7 @@ use Rattle.jh_edn.specs.declared.syntax_error.SyntaxErrorKind.TheVariants.{Unexp
 use Rattle.jh_edn.specs.Edn.{Edn}
 use Rattle.jh_edn.specs.Spelling.{IsGap, SpellsAll, Reads, NothingReads}
 use Rattle.jh_edn.specs.Reading.{error_at, IsFirstErrorAt, line_at, IsReached, IsErrorBehind}
-use Rattle.jh_edn.specs.Refused.{SpellsNothing, RefusesText, IsFirstError}
+use Rattle.jh_edn.specs.Refused.{SpellsNothing, RefusesText, IsFirstIfInText}
 use Rattle.jh_edn.proofs.ReadAtLemmas.{no_gap, one_next, made}
 
 -- whatever the rest is spelled as, these stand before it
@@ -53,7 +53,7 @@ spells_nothing xs text at utf8 behind h = (utf8, λ ys spelled. let p = behind y
 
 -- each kind's error is one with a line
 with_line : (text : List ℕ) (kind : SyntaxErrorKind) (line : ℕ)
-    → (SpellsNothing text → RefusesText text (error_at kind line)) × (IsErrorBehind text (error_at kind line) → IsFirstError text (error_at kind line))
+    → (SpellsNothing text → RefusesText text (error_at kind line)) × (IsErrorBehind text (error_at kind line) → IsFirstIfInText text (error_at kind line))
 with_line text UnexpectedEnd line = (λ h. h, λ h. h)
 with_line text BadToken line = (λ h. h, λ h. h)
 with_line text FloatUnsupported line = (λ h. h, λ h. h)
@@ -66,10 +66,10 @@ with_line text TooDeep line = (λ h. h, λ h. h)
 pub refuses : (text : List ℕ) (at : ℕ) (e : EdnError) → SpellsNothing text → IsFirstErrorAt text at e → RefusesText text e
 refuses text at e h f = subst (RefusesText text) (sym f.is) ((with_line text f.found.kind _).0 h)
 
-pub first_behind : (text : List ℕ) (at : ℕ) (e : EdnError) → IsReached text at → IsFirstErrorAt text at e → IsFirstError text e
+pub first_behind : (text : List ℕ) (at : ℕ) (e : EdnError) → IsReached text at → IsFirstErrorAt text at e → IsFirstIfInText text e
 first_behind text at e reached f =
     let behind : IsErrorBehind text (error_at f.found.kind (line_at text f.found.left)) = subst (IsErrorBehind text) f.is (at, reached, f) in
-    subst (IsFirstError text) (sym f.is) ((with_line text f.found.kind _).1 behind)
+    subst (IsFirstIfInText text) (sym f.is) ((with_line text f.found.kind _).1 behind)
 
 -- a text spells at most one list of values
 pub once : (text : List ℕ) (xs ys : List Edn) → SpellsAll xs text → SpellsAll ys text → xs ≡ ys

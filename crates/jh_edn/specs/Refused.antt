@@ -32,14 +32,14 @@ RefusesText bytes Read = Unit {0}
 RefusesText bytes Write = ⊥
 RefusesText bytes OutOfMemory = Unit {0}
 
--- An error with a line is the text's first error.
-abbrev pub IsFirstError : List ℕ → EdnError → Type 0
-IsFirstError bytes Utf8 = Unit {0}
-IsFirstError bytes TooLong = Unit {0}
-IsFirstError bytes Read = Unit {0}
-IsFirstError bytes Write = Unit {0}
-IsFirstError bytes OutOfMemory = Unit {0}
-IsFirstError bytes error = IsErrorBehind bytes error
+-- An error that stands at a line of the text is its first; the other errors stand nowhere in it.
+abbrev pub IsFirstIfInText : List ℕ → EdnError → Type 0
+IsFirstIfInText bytes Utf8 = Unit {0}
+IsFirstIfInText bytes TooLong = Unit {0}
+IsFirstIfInText bytes Read = Unit {0}
+IsFirstIfInText bytes Write = Unit {0}
+IsFirstIfInText bytes OutOfMemory = Unit {0}
+IsFirstIfInText bytes error = IsErrorBehind bytes error
 
 -- what reading a reader's bytes can fail with
 abbrev pub IsReaderError : EdnError → Type 0

@@ -2,7 +2,7 @@
 
 ghost use Rattle.std.specs.Prelude.{◌≢◌, IfOk, IfErr, IfSome};
 ghost use Rattle.std.specs.Str.{IsUtf8};
-ghost use Rattle.jh_edn.specs.Refused.{RefusesText, IsFirstError};
+ghost use Rattle.jh_edn.specs.Refused.{RefusesText, IsFirstIfInText};
 ghost use Rattle.jh_edn.specs.Spelling.{SpellsAll};
 ghost use Rattle.jh_edn.specs.View.{views};
 
@@ -17,7 +17,7 @@ use std::io::Read;
 fn values_of(alloc: Global, text: &str) -> Result<Vec<Value>, EdnError>
     ensures values { IfOk result (λ v. SpellsAll (views v.items) text.now) }
     ensures refused { IfErr result (RefusesText text.now) }
-    ensures first_error { IfErr result (IsFirstError text.now) }
+    ensures first_error { IfErr result (IsFirstIfInText text.now) }
 {
     let mut values = Vec::new(alloc);
     let mut at = 0;
@@ -40,7 +40,7 @@ pub fn read_all<R: Read>(alloc: Global, reader: &mut R, turns: u32) -> Result<Ve
     ensures refused { IfErr result
         (λ e. IfSome (R.remaining reader.old) (λ bytes. RefusesText bytes e)) }
     ensures first_error { IfErr result
-        (λ e. IfSome (R.remaining reader.old) (λ bytes. IsFirstError bytes e)) }
+        (λ e. IfSome (R.remaining reader.old) (λ bytes. IsFirstIfInText bytes e)) }
     ensures error { IfErr result (λ e. e ≢ EdnError.Write) }
 {
     let bytes = read_bytes(alloc, reader, turns)?;

@@ -4,7 +4,7 @@ use Rattle.std.proofs.lemmas.List.{append-nil, length-append}
 use Rattle.std.specs.Str.{IsUtf8}
 use Rattle.jh_edn.specs.Edn.{Edn}
 use Rattle.jh_edn.specs.Reading.{IsReached, IsFirstErrorAt}
-use Rattle.jh_edn.specs.Refused.{RefusesText, IsFirstError}
+use Rattle.jh_edn.specs.Refused.{RefusesText, IsFirstIfInText}
 use Rattle.jh_edn.specs.Spelling.{IsGap, NothingReads, Reads}
 use Rattle.jh_edn.specs.declared.error.EdnError.{EdnError}
 use Rattle.jh_edn.specs.declared.error.EdnError.TheVariants.{OutOfMemory}
@@ -40,7 +40,7 @@ one_further text values at value end begun reads =
 pub text_refused : (text : List ℕ) (values : List Edn) (at : ℕ) (error : EdnError) → IsUtf8 text → Begins text values at → (error ≡ OutOfMemory) ⊎ NothingReads text at → (error ≡ OutOfMemory) ⊎ IsFirstErrorAt text at error
     → RefusesHistoryOf text (Text error)
 text_refused text values at error utf8 begun why first =
-    let memory : (error ≡ OutOfMemory) → RefusesText text error × IsFirstError text error = λ is. subst (λ (e : EdnError). RefusesText text e × IsFirstError text e) (sym is) (tt, tt) in
+    let memory : (error ≡ OutOfMemory) → RefusesText text error × IsFirstIfInText text error = λ is. subst (λ (e : EdnError). RefusesText text e × IsFirstIfInText text e) (sym is) (tt, tt) in
     elim why [
       | inl is ↦ memory is
       | inr nothing ↦ elim first [

@@ -4,7 +4,7 @@ use Rattle.std.specs.Prelude.{ℕ, List}
 use Rattle.std.specs.Str.{IsUtf8}
 use Rattle.jh_edn.specs.Edn.{Edn}
 use Rattle.jh_edn.specs.Spelling.{SpellsAll}
-use Rattle.jh_edn.specs.Refused.{RefusesText, IsFirstError}
+use Rattle.jh_edn.specs.Refused.{RefusesText, IsFirstIfInText}
 use Rattle.jh_histories.specs.declared.error.ReadHistoryError.{ReadHistoryError}
 use Rattle.jh_histories.specs.declared.error.ReadHistoryError.TheVariants.{Text, History}
 use Rattle.jh_ops.specs.HistoryText.{AreParsed, RefusesValues}
@@ -23,7 +23,7 @@ IsHistoryOf text history =
 -- Why a text means no history: its first error, wherever it stands; or else the first of its values
 -- that means no operation. Memory may run out in any text.
 abbrev pub RefusesHistoryOf : List ℕ → ReadHistoryError → Type 0
-RefusesHistoryOf text (Text error) = RefusesText text error × IsFirstError text error
+RefusesHistoryOf text (Text error) = RefusesText text error × IsFirstIfInText text error
 RefusesHistoryOf text (History OutOfMemory) = Unit {0}
 RefusesHistoryOf text (History (Op place refusal)) =
     (values : List Edn) × AreValuesOf values text × RefusesValues values (Op place refusal)

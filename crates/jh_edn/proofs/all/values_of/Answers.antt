@@ -1,7 +1,7 @@
 use Rattle.std.proofs.Common.{◌≡◌, ◌++◌, ◌∷◌, [], inl, inr, refl, sym, subst}
 use Rattle.std.proofs.lemmas.List.{map_push}
 use Rattle.std.proofs.lemmas.Result.{err_from_is_err_and}
-use Rattle.jh_edn.specs.Refused.{RefusesText, IsFirstError}
+use Rattle.jh_edn.specs.Refused.{RefusesText, IsFirstIfInText}
 use Rattle.jh_edn.specs.Reading.{IsReached}
 use Rattle.std.proofs.lemmas.Str.{IsCharBoundary-start}
 use Rattle.jh_edn.specs.View.{view, views}
@@ -58,7 +58,7 @@ returns-in_err-value-clause-first_error c =
     let p = err_from_is_err_and c.from_residual.result c.from_residual.ensures.1 in
     let text = c.args.text.now in
     let e = c.in_err-value.field-0.0 in
-    let parsed : IsFirstError text e = elim c.in_err-value.ensures.first_error [
+    let parsed : IsFirstIfInText text e = elim c.in_err-value.ensures.first_error [
       | inl memory ↦ rw memory tt
       | inr error ↦ first_behind text c.loop-values.at e c.loop-values.invariant.reached error
     ] in
