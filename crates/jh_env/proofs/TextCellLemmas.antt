@@ -19,7 +19,7 @@ use Rattle.jh_env.specs.Faults.{is_same_link}
 use Rattle.jh_env.specs.Starting.{StartValue, SetsLink, SetsNode, IsStartingLink, IsStartingNode, RefusesLink, RefusesNode}
 use Rattle.jh_env.specs.Text.{OfLink, OfNode}
 use Rattle.jh_env.specs.TextCells.{link_with, node_with}
-use Rattle.jh_env.specs.TextErrors.{place_of, entry_error, is_within, is_link_amount, is_node_amount}
+use Rattle.jh_env.specs.TextErrors.{place_of, entry_error, is_within, is_link_change_amount, is_node_change_amount}
 use Rattle.jh_env.specs.TextInside.{AreStarting, SetsEntry, fits_link, cell_error}
 
 -- a place is one of the names'
@@ -49,12 +49,12 @@ other_name names from to a b from_at to_at apart =
 
 -- the fault of an entry of a link whose ends are nodes
 pub entry_error-link : (names : List (List ℕ)) (from to : List ℕ) (says : LinkChange) (a b : ℕ) → place_of names from ≡ Some a → place_of names to ≡ Some b
-    → entry_error names (OfLink from to says) ≡ (if bytes_eq from to then Some SelfLink else if not (is_link_amount says) then Some BadAmount else None)
+    → entry_error names (OfLink from to says) ≡ (if bytes_eq from to then Some SelfLink else if not (is_link_change_amount says) then Some BadAmount else None)
 entry_error-link names from to says a b from_at to_at = rw (from_at, to_at) refl
 
 -- the fault of an entry of a node that is one
 pub entry_error-node : (names : List (List ℕ)) (name : List ℕ) (says : NodeChange) (a : ℕ) → place_of names name ≡ Some a
-    → entry_error names (OfNode name says) ≡ (if not (is_node_amount says) then Some BadAmount else None)
+    → entry_error names (OfNode name says) ≡ (if not (is_node_change_amount says) then Some BadAmount else None)
 entry_error-node names name says a at = rw at refl
 
 -- a link that is set is what its entry makes of it
@@ -120,7 +120,7 @@ sets_node old new name says a cell at was starting sets = record {
 }
 
 -- a change within its range keeps a link within its ranges
-pub link_with-starts : (says : LinkChange) (link : Link) → is_link_amount says ≡ true → IsStartingLink link → IsStartingLink (link_with says link)
+pub link_with-starts : (says : LinkChange) (link : Link) → is_link_change_amount says ≡ true → IsStartingLink link → IsStartingLink (link_with says link)
 link_with-starts LinkChange.Cut link good starts = starts
 link_with-starts (LinkChange.Delay (pos n)) link good starts = (grind (arith, nat_tests), starts.1)
 link_with-starts (LinkChange.Delay (negsuc n)) link good starts = absurd cc
@@ -128,7 +128,7 @@ link_with-starts (LinkChange.Loss (pos n)) link good starts = (starts.0, grind (
 link_with-starts (LinkChange.Loss (negsuc n)) link good starts = absurd cc
 
 -- and so of a node
-pub node_with-starts : (says : NodeChange) (cell : NodeCell) → is_node_amount says ≡ true → IsStartingNode cell → IsStartingNode (node_with says cell)
+pub node_with-starts : (says : NodeChange) (cell : NodeCell) → is_node_change_amount says ≡ true → IsStartingNode cell → IsStartingNode (node_with says cell)
 node_with-starts NodeChange.Pause cell good starts = starts
 node_with-starts NodeChange.Kill cell good starts = starts
 node_with-starts (NodeChange.Clock ms) cell good starts =
@@ -164,7 +164,7 @@ pub within : (least most z : ℤ) → least ≤ℤ z → z ≤ℤ most → is_wi
 within least most z above below = and_from (int_le least z) (int_le z most) (passes (int_le least z) above.le) (passes (int_le z most) below.le)
 
 -- a change within its range fits a link
-pub link_amount-fits : (says : LinkChange) → is_link_amount says ≡ true → fits_link says ≡ true
+pub link_amount-fits : (says : LinkChange) → is_link_change_amount says ≡ true → fits_link says ≡ true
 link_amount-fits LinkChange.Cut good = refl
 link_amount-fits (LinkChange.Delay ms) good = (and_parts (int_le (pos 0) ms) (int_le ms (pos 60000)) good).0
 link_amount-fits (LinkChange.Loss level) good =
@@ -174,7 +174,7 @@ link_amount-fits (LinkChange.Loss level) good =
     within (pos 0) (pos 255) level above (omega (arith, ints))
 
 -- a change that fits a link, and with which it may start, is within its range
-pub link_amount-starts : (says : LinkChange) (link : Link) → fits_link says ≡ true → IsStartingLink (link_with says link) → is_link_amount says ≡ true
+pub link_amount-starts : (says : LinkChange) (link : Link) → fits_link says ≡ true → IsStartingLink (link_with says link) → is_link_change_amount says ≡ true
 link_amount-starts LinkChange.Cut link fits starts = refl
 link_amount-starts (LinkChange.Delay (pos n)) link fits starts = within (pos 0) (pos 60000) (pos n) (omega (arith, ints)) (omega (arith, ints, starts.0))
 link_amount-starts (LinkChange.Delay (negsuc n)) link fits starts = absurd cc
@@ -182,7 +182,7 @@ link_amount-starts (LinkChange.Loss (pos n)) link fits starts = within (pos 0) (
 link_amount-starts (LinkChange.Loss (negsuc n)) link fits starts = absurd cc
 
 -- and so of a node
-pub node_amount-starts : (says : NodeChange) (cell : NodeCell) → IsStartingNode (node_with says cell) → is_node_amount says ≡ true
+pub node_amount-starts : (says : NodeChange) (cell : NodeCell) → IsStartingNode (node_with says cell) → is_node_change_amount says ≡ true
 node_amount-starts NodeChange.Pause cell starts = refl
 node_amount-starts NodeChange.Kill cell starts = refl
 node_amount-starts (NodeChange.Clock ms) cell starts = within (negsuc (10 ^ 12 - 1)) (pos (10 ^ 12)) ms (omega (arith, ints, starts.0)) starts.1
@@ -193,8 +193,8 @@ unless true never = absurd (never refl)
 unless false never = refl
 
 -- what does not fit a link is out of its range
-pub link_amount-unfit : (says : LinkChange) → fits_link says ≡ false → is_link_amount says ≡ false
-link_amount-unfit says unfit = unless (is_link_amount says) (λ good. false≢true (sym unfit ∙ link_amount-fits says good))
+pub link_amount-unfit : (says : LinkChange) → fits_link says ≡ false → is_link_change_amount says ≡ false
+link_amount-unfit says unfit = unless (is_link_change_amount says) (λ good. false≢true (sym unfit ∙ link_amount-fits says good))
 
 -- a link between two nodes that is not set is in error by its entry
 pub link_refused : (s : StartValue) (from to : List ℕ) (says : LinkChange) (a b : ℕ) (link : Link) (e : StartError)
@@ -204,7 +204,7 @@ link_refused s from to says a b link StartError.UnknownNode from_at to_at apart 
     absurd (refused (place_below s.names from a from_at, place_below s.names to b to_at))
 link_refused s from to says a b link StartError.SelfLink from_at to_at apart starts refused = absurd (apart refused.1)
 link_refused s from to says a b link StartError.BadAmount from_at to_at apart starts refused =
-    let bad = unless (is_link_amount says) (λ good. refused.2 (link_with-starts says link good starts)) in
+    let bad = unless (is_link_change_amount says) (λ good. refused.2 (link_with-starts says link good starts)) in
     rw (entry_error-link s.names from to says a b from_at to_at, other_name s.names from to a b from_at to_at apart, bad) refl
 
 -- and so of a node
@@ -214,5 +214,5 @@ pub node_refused : (s : StartValue) (name : List ℕ) (says : NodeChange) (a : �
 node_refused s name says a cell StartError.UnknownNode at starts refused = let below = place_below s.names name a at in absurd (omega arith)
 node_refused s name says a cell StartError.SelfLink at starts refused = absurd refused
 node_refused s name says a cell StartError.BadAmount at starts refused =
-    let bad = unless (is_node_amount says) (λ good. refused.1 (node_with-starts says cell good starts)) in
+    let bad = unless (is_node_change_amount says) (λ good. refused.1 (node_with-starts says cell good starts)) in
     rw (entry_error-node s.names name says a at, bad) refl

@@ -17,7 +17,7 @@ use Rattle.jh_env.specs.declared.texts.entries.NodeChange.{NodeChange}
 use Rattle.jh_env.specs.Overlay.{EnvValue, cells_of, link_of, node_of}
 use Rattle.jh_env.specs.Starting.{IsStartingLink, IsStartingNode}
 use Rattle.jh_env.specs.Text.{◌>>=◌, Entry, OfLink, OfNode, sections}
-use Rattle.jh_env.specs.TextErrors.{place_of, entry_error, entry_error_after, repeats, is_same_link_key, is_same_node_key, is_link_amount, is_node_amount, AreSound}
+use Rattle.jh_env.specs.TextErrors.{place_of, entry_error, entry_error_after, repeats, is_same_link_key, is_same_node_key, is_link_change_amount, is_node_change_amount, AreSound}
 use Rattle.jh_env.specs.TextLaws.{CanStart}
 use Rattle.jh_env.specs.TextWritten.{places, link_entry, node_entry, link_change, node_change, life_change, is_zero, entries_written}
 use Rattle.jh_env.proofs.TextCellLemmas.{within, entry_error-link, entry_error-node, other_name, link_apart}
@@ -75,7 +75,7 @@ unless_gives true x y is = absurd cc
 unless_gives false x y is = cc
 
 -- what is written of a link that may start is in its range
-link_change-amount : (section : Section) (link : Link) (says : LinkChange) → IsStartingLink link → link_change section link ≡ Some says → is_link_amount says ≡ true
+link_change-amount : (section : Section) (link : Link) (says : LinkChange) → IsStartingLink link → link_change section link ≡ Some says → is_link_change_amount says ≡ true
 link_change-amount Section.Cut link says starts is_written = rw (if_gives link.cut LinkChange.Cut says is_written) refl
 link_change-amount Section.Slow link says starts is_written =
     let above : pos 0 ≤ℤ pos link.delay = omega (arith, ints) in
@@ -88,13 +88,13 @@ link_change-amount Section.Loss link says starts is_written =
 link_change-amount Section.Down link says starts is_written = absurd cc
 link_change-amount Section.Clock link says starts is_written = absurd cc
 
-life_change-amount : (life : Life) (says : NodeChange) → life_change life ≡ Some says → is_node_amount says ≡ true
+life_change-amount : (life : Life) (says : NodeChange) → life_change life ≡ Some says → is_node_change_amount says ≡ true
 life_change-amount Running says is_written = absurd cc
 life_change-amount Paused says is_written = let e : says ≡ NodeChange.Pause = cc in rw e refl
 life_change-amount Killed says is_written = let e : says ≡ NodeChange.Kill = cc in rw e refl
 
 -- and so of a node
-node_change-amount : (section : Section) (cell : NodeCell) (says : NodeChange) → IsStartingNode cell → node_change section cell ≡ Some says → is_node_amount says ≡ true
+node_change-amount : (section : Section) (cell : NodeCell) (says : NodeChange) → IsStartingNode cell → node_change section cell ≡ Some says → is_node_change_amount says ≡ true
 node_change-amount Section.Down cell says starts is_written = life_change-amount cell.process says is_written
 node_change-amount Section.Clock cell says starts is_written = rw (unless_gives (is_zero cell.clock) _ says is_written) (within (negsuc (10 ^ 12 - 1)) (pos (10 ^ 12)) cell.clock (omega (arith, ints, starts.0)) starts.1)
 node_change-amount Section.Cut cell says starts is_written = absurd cc

@@ -1,5 +1,3 @@
-pub use Rattle.jh_tables.specs.Limits
-pub use Rattle.jh_tables.specs.Standing
 pub mod Cells
 pub mod Names
 pub mod Faults

@@ -42,21 +42,21 @@ abbrev pub is_within : ℤ → ℤ → ℤ → Bool
 is_within least most z = int_le least z && int_le z most
 
 -- a link's change is in its range: a delay of 0 or more milliseconds, a level of loss of 0 or more
-abbrev pub is_link_amount : LinkChange → Bool
-is_link_amount LinkChange.Cut = true
-is_link_amount (LinkChange.Delay ms) = is_within (pos 0) (pos max_start_delay_ms) ms
-is_link_amount (LinkChange.Loss level) = is_within (pos 0) (pos max_loss) level
+abbrev pub is_link_change_amount : LinkChange → Bool
+is_link_change_amount LinkChange.Cut = true
+is_link_change_amount (LinkChange.Delay ms) = is_within (pos 0) (pos max_start_delay_ms) ms
+is_link_change_amount (LinkChange.Loss level) = is_within (pos 0) (pos max_loss) level
 
 -- a node's change is in its range: a clock that is off by so much at most, either way
-abbrev pub is_node_amount : NodeChange → Bool
-is_node_amount (NodeChange.Clock ms) =
+abbrev pub is_node_change_amount : NodeChange → Bool
+is_node_change_amount (NodeChange.Clock ms) =
     is_within (negsuc (max_start_offset_ms - 1)) (pos max_start_offset_ms) ms
-is_node_amount _ = true
+is_node_change_amount _ = true
 
 -- the change of an entry is in its range
 abbrev pub is_amount : Entry → Bool
-is_amount (OfLink from to says) = is_link_amount says
-is_amount (OfNode node says) = is_node_amount says
+is_amount (OfLink from to says) = is_link_change_amount says
+is_amount (OfNode node says) = is_node_change_amount says
 
 -- the error of an entry by itself
 abbrev pub entry_error : List (List ℕ) → Entry → Option EnvTextError

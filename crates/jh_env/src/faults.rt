@@ -107,7 +107,7 @@ impl Fault {
             links.now) }
         ensures fits { IfOk result (FitsCount (length nodes.now)) }
     {
-        let kind = judging::judged_links(nodes, given, links)?;
+        let kind = judging::judged_kind(nodes, given, links)?;
         match keeping::kept_links(alloc, nodes, links) {
             Ok(links) => Ok(Fault {
                 fault: PlainFault::OnLinks(kind, links),

@@ -90,7 +90,7 @@ pub(crate) fn are_apart<B: NamesBump>(nodes: &Nodes, bumps: &[B]) -> bool
 }
 
 /// What a fault does to these links, or why such a fault is refused whatever memory there is.
-pub(crate) fn judged_links<L: NamesLink>(
+pub(crate) fn judged_kind<L: NamesLink>(
     nodes: &Nodes,
     given: GivenLinkFault,
     links: &[L],

@@ -13,7 +13,7 @@ use Rattle.std.proofs.lemmas.List.Kept.{AllPairs-filter}
 use Rattle.std.proofs.lemmas.List.Quantifiers.{all_pairs_push}
 use Rattle.jh_env.specs.Faults.{FaultValue, FitsCount}
 use Rattle.jh_nemesis.specs.State.{has_id, is_active, faults_in}
-use Rattle.jh_env.specs.Standing.{faults_of}
+use Rattle.jh_tables.specs.Standing.{faults_of}
 use Rattle.jh_nemesis.specs.Steps.{active_without}
 use Rattle.jh_nemesis.specs.AcceptedInside.{accepted_at, stamps_after, stamps_before, active_after, begun_fault, faults_at, moment, past_of, fault_with_stamp, faults_with_stamps, IsBegin, AreRight, AreStamps, IsRight}
 use Rattle.jh_nemesis.specs.declared.accepted.AcceptedStep.{AcceptedStep}

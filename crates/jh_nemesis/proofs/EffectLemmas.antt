@@ -6,7 +6,7 @@ use Rattle.std.proofs.lemmas.List.{get_or_default, get_or-map, length-map, map-a
 use Rattle.std.proofs.lemmas.List.Elements.{All-contains, Contains-append_right}
 use Rattle.std.proofs.lemmas.List.Sums.{sum_by-cons}
 use Rattle.jh_env.specs.Faults.{FaultValue, FitsCount, fault_size}
-use Rattle.jh_env.specs.Standing.{AreInOrder}
+use Rattle.jh_tables.specs.Standing.{AreInOrder}
 use Rattle.jh_nemesis.specs.State.{Active, has_id, is_active}
 use Rattle.jh_nemesis.specs.Steps.{active_without}
 use Rattle.jh_nemesis.specs.AcceptedInside.{active_after, begun_fault, faults_at, moment, accepted_at, fault_with_stamp, faults_with_stamps, AreRight, AreStamps, IsBegin, IsRight}

@@ -5,7 +5,7 @@ ghost use Rattle.std.specs.Prelude.{◌≤◌, ◌<◌, ◌+◌, [], length};
 ghost use Rattle.std.specs.List.{All, AllPairs};
 ghost use Rattle.jh_env.specs.Faults.{FitsCount, fault_size};
 ghost use Rattle.jh_env.specs.Overlay.{KeepsStart, StandsWith, tables_of, work_of};
-ghost use Rattle.jh_env.specs.Standing.{IsPut, IsTaken, StandsAtSome};
+ghost use Rattle.jh_tables.specs.Standing.{IsPut, IsTaken, StandsAtSome};
 ghost use Rattle.jh_nemesis.specs.AcceptedInside.{active_after, faults_at, moment, accepted_at};
 ghost use Rattle.jh_nemesis.specs.AcceptedInside.{fault_with_stamp, faults_with_stamps, AreRight};
 ghost use Rattle.jh_nemesis.specs.AcceptedInside.{AreStamps, IsBegin};

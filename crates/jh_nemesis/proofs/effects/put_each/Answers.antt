@@ -1,7 +1,7 @@
 use Rattle.std.proofs.Common.{◌∙◌, ◌+◌, [], arith, subst, sym, take}
 use Rattle.std.proofs.lemmas.List.{append-nil, length-map, length-take-le}
 use Rattle.jh_env.specs.Overlay.{StandsWith, work_of}
-use Rattle.jh_env.specs.Standing.{AreInOrder}
+use Rattle.jh_tables.specs.Standing.{AreInOrder}
 use Rattle.jh_nemesis.specs.AcceptedInside.{fault_with_stamp, faults_with_stamps}
 use Rattle.jh_nemesis.proofs.EffectLemmas.{rise_take, stamped_more, stamps_rise, work_more}
 use Rattle.jh_nemesis.proofs.effects.put_each.Goals as goal

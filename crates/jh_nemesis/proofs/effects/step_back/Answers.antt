@@ -1,7 +1,7 @@
 use Rattle.std.proofs.Common.{◌≡◌, ◌∙◌, ◌+◌, [], add-one, arith, length, refl, rules, subst, sym}
 use Rattle.std.proofs.lemmas.List.{append-nil}
 use Rattle.jh_env.specs.Overlay.{StandsWith}
-use Rattle.jh_env.specs.Standing.{AreInOrder}
+use Rattle.jh_tables.specs.Standing.{AreInOrder}
 use Rattle.jh_nemesis.specs.AcceptedInside.{active_after, accepted_at, faults_with_stamps, IsRight}
 use Rattle.jh_nemesis.specs.declared.accepted.AcceptedStep.TheVariants.{Begun, Withdrawn, WithdrawnAll}
 use Rattle.jh_nemesis.proofs.EffectLemmas.{all_begins, all_few, all_fit, all_rise, all_size, before_order, begun_size, begun_stamped, first, last, step_read, withdrawn_after, withdrawn_before, withdrawn_begin, withdrawn_fits, withdrawn_room, withdrawn_size}
