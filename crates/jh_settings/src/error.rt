@@ -11,7 +11,7 @@ use std::marker::Model;
 use thiserror::Error;
 
 /// How many bytes a key has at most that is shown itself.
-const MAX_SHOWN: usize = 200;
+pub(crate) const MAX_SHOWN: usize = 200;
 
 /// The text of a key that no setting has. A contract sees its bytes, which are UTF-8.
 ///

@@ -19,7 +19,7 @@ use toml::Table;
 pub const MAX_TICK_EVERY: u32 = 10_000;
 
 /// The greatest budget of a judgement.
-const MAX_BUDGET: u64 = 10_000_000;
+pub(crate) const MAX_BUDGET: u64 = 10_000_000;
 
 /// How many client threads, under `clients`: from 1 to 16.
 ///
