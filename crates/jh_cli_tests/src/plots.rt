@@ -1,7 +1,7 @@
 //! The command `plot`: pages of histories, and what is refused. A row is an input, an arrow, and the
 //! answer as `timelines` has it: the status, and parts of the page that stand in it one behind the other.
-//! What is expected follows from the definitions: times lie on 899 pixels, latencies on 299 from 0.1 ms
-//! to 1 ms.
+//! An input that begins with `--skip-unread` is read with that option. What is expected follows from the
+//! definitions: times lie on 899 pixels, latencies on 299 from 0.1 ms to 1 ms.
 
 use crate::rows::{push_error, with_status};
 use crate::timelines::has_parts;
@@ -10,9 +10,12 @@ use std::alloc::Global;
 
 /// The answer to an input; `None` where memory was refused.
 fn answer_once(alloc: Global, input: &str) -> Option<Vec<u8>> {
-    let mut reader = input.as_bytes();
+    let (mut reader, skips_unread) = match input.trim().strip_prefix("--skip-unread") {
+        Some(history) => (history.as_bytes(), true),
+        None => (input.as_bytes(), false),
+    };
     let mut page = Vec::new(alloc);
-    match plot_run(alloc, &mut reader, &mut page, false) {
+    match plot_run(alloc, &mut reader, &mut page, skips_unread) {
         Ok(status) => with_status(alloc, status, &page),
         Err(CliError::OutOfMemory | CliError::Write) => None,
         Err(error) => {
@@ -63,6 +66,10 @@ fn histories_are_plotted_with_their_faults(rt: HostRuntime) {
 §
 → 0
 <p>The history has no call, so there is nothing to draw.</p>
+§ --skip-unread {:type :invoke, :process 0, :f :read, :value nil, :time 7, :latency 1.5}
+→ 0
+<h2>:read, calls: 1</h2>
+<path class="info" d="M899-0h0"/>
 "#;
     assert_eq!(rt; first_wrong(rt.alloc(), rows), None);
 }
@@ -78,6 +85,10 @@ fn inputs_are_refused(rt: HostRuntime) {
 → 3 line 2: unexpected end
 § 5
 → 3 operation 0: not a map
+§ {:type :invoke, :process 0, :f :read, :value nil, :time 7, :latency 1.5}
+→ 3 line 1: float unsupported
+§ --skip-unread {:type :invoke, :process 0, :f :read, :value 1.5, :time 7}
+→ 3 line 1: float unsupported
 "#;
     assert_eq!(rt; first_wrong(rt.alloc(), rows), None);
 }
