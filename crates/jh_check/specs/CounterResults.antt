@@ -11,7 +11,7 @@ use Rattle.std.specs.Option.{option_map_or, option_map}
 use Rattle.jh_edn.specs.Edn.{Edn, int, is_keyword}
 use Rattle.jh_edn.specs.Order.{in_order}
 use Rattle.jh_ops.specs.Operation.{Operation, is_kind}
-use Rattle.jh_ops.specs.Pairing.{IsWellFormed, RefusesHistory, history_pairs}
+use Rattle.jh_ops.specs.Pairing.{IsWellFormed, RefusesPairing, history_pairs}
 use Rattle.jh_ops.specs.declared.operation.Kind.{Kind}
 use Rattle.jh_ops.specs.declared.pairs.Pair.{Pair}
 use Rattle.jh_ops.specs.declared.pairs.PairError.{PairError}
@@ -20,9 +20,9 @@ use Rattle.jh_check.specs.Verdicts.{verdict_of}
 use Rattle.jh_check.specs.declared.counter.CounterResult.{CounterResult}
 use Rattle.jh_check.specs.declared.counter.ReadBounds.{ReadBounds}
 use Rattle.jh_check.specs.declared.error.CheckError.{CheckError}
-use Rattle.jh_check.specs.declared.error.CheckError.TheVariants.{Pair as Unpaired, BadValue}
-use Rattle.jh_check.specs.declared.error.CheckError.TheVariants.{NegativeAdd, RepeatedAppend}
-use Rattle.jh_check.specs.declared.error.CheckError.TheVariants.{OutOfMemory}
+use Rattle.jh_check.specs.declared.error.CheckError.TheVariants as check_errors
+use Rattle.jh_check.specs.declared.error.CheckError.TheVariants.{BadValue, NegativeAdd}
+use Rattle.jh_check.specs.declared.error.CheckError.TheVariants.{RepeatedAppend, OutOfMemory}
 
 -- ---- operations
 
@@ -151,7 +151,7 @@ abbrev pub errors_in : List Operation → List Pair → List CheckError
 errors_in history pairs = filter_map (value_error history) pairs
 
 abbrev pub place_of_error : CheckError → ℕ
-place_of_error (Unpaired error) = 0
+place_of_error (check_errors.Pair error) = 0
 place_of_error (BadValue place) = place
 place_of_error (NegativeAdd place) = place
 place_of_error (RepeatedAppend place) = place
@@ -169,13 +169,13 @@ IsCountable history = IsWellFormed history × (errors_in history (history_pairs 
 -- the error that a checker gives for one of pairing
 abbrev pub error_of_pairing : PairError → CheckError
 error_of_pairing pair_errors.OutOfMemory = OutOfMemory
-error_of_pairing error = Unpaired error
+error_of_pairing error = check_errors.Pair error
 
 -- Why there is no result: first for its pairs, then for the first bad value. Memory is wanted where
 -- neither is at error, or for the pairs.
 abbrev pub RefusesCounter : List Operation → CheckError → Type 0
-RefusesCounter history (Unpaired error) =
-    (error_of_pairing error ≡ Unpaired error) × RefusesHistory history error
+RefusesCounter history (check_errors.Pair error) =
+    (error_of_pairing error ≡ check_errors.Pair error) × RefusesPairing history error
 RefusesCounter history (BadValue place) =
     IsWellFormed history × IsEarliest (BadValue place) (errors_in history (history_pairs history))
 RefusesCounter history (NegativeAdd place) =
@@ -183,4 +183,4 @@ RefusesCounter history (NegativeAdd place) =
     × IsEarliest (NegativeAdd place) (errors_in history (history_pairs history))
 RefusesCounter history (RepeatedAppend place) = ⊥
 RefusesCounter history OutOfMemory =
-    RefusesHistory history pair_errors.OutOfMemory ⊎ IsCountable history
+    RefusesPairing history pair_errors.OutOfMemory ⊎ IsCountable history

@@ -3,7 +3,7 @@
 -- the definitions of its own crate).
 use Rattle.std.specs.Prelude.{◌≡◌, ◌⊎◌, ℕ, List, Option, Some, None}
 use Rattle.jh_ops.specs.Operation.{Operation}
-use Rattle.jh_ops.specs.Pairing.{IsWellFormed, RefusesHistory as RefusesPairing, history_pairs}
+use Rattle.jh_ops.specs.Pairing.{IsWellFormed, RefusesPairing, history_pairs}
 use Rattle.jh_ops.specs.declared.pairs.PairError.TheVariants as pair_errors
 use Rattle.jh_check.specs.CounterResults.{IsCountable, RefusesCounter, counter_result}
 use Rattle.jh_check.specs.CounterResults.{error_of_pairing}

@@ -9,7 +9,7 @@ use Rattle.std.proofs.lemmas.List.{length-map, take-append-drop, take_more, take
 use Rattle.std.proofs.lemmas.Option.{slice_get_within, get_or_from_slice_get}
 use borrow.Author.Count.{below_more}
 use Rattle.jh_ops.specs.Operation.{Operation, operation, operations}
-use Rattle.jh_ops.specs.Pairing.{is_of_client, kinds_of, IsWellFormed, pair_error_of, pair_error_at, HasPairError, RefusesHistory, history_pairs}
+use Rattle.jh_ops.specs.Pairing.{is_of_client, kinds_of, IsWellFormed, pair_error_of, pair_error_at, HasPairError, RefusesPairing, history_pairs}
 use Rattle.jh_ops.specs.StageInside.{stage_after, pairs_after, pair_awaited}
 use Rattle.jh_ops.specs.declared.operation.Kind.{Kind}
 use Rattle.jh_ops.specs.declared.operation.Op.{Op}
@@ -147,7 +147,7 @@ never_memory (Waiting at) Kind.Fail place opened step = cc
 never_memory (Waiting at) Kind.Info place opened step = cc
 
 -- an error is why the history is refused
-pub refuses : (history : List Operation) (stage : Stage) (kind : Kind) (place opened : ℕ) (e : PairError) → stage_after stage kind place opened ≡ Err e → HasPairError history e → RefusesHistory history e
+pub refuses : (history : List Operation) (stage : Stage) (kind : Kind) (place opened : ℕ) (e : PairError) → stage_after stage kind place opened ≡ Err e → HasPairError history e → RefusesPairing history e
 refuses history stage kind place opened (AfterCrash at) step has = has
 refuses history stage kind place opened (DoubleInvoke at) step has = has
 refuses history stage kind place opened (NoInvoke at) step has = has
@@ -156,7 +156,7 @@ refuses history stage kind place opened OutOfMemory step has = absurd (never_mem
 -- memory was refused at an operation that its client's stage takes
 pub wants_memory : (stages : ℕ → Stage) (pairs : List Pair) (history : List Op) (place : ℕ) (op : Op) (client opened : ℕ) (next : Stage) → place < length history → op ≡ get_or history place op
     → op.process ≡ Process.Client client → Stands stages pairs (operations history) place → stage_after (stages client) op.kind place opened ≡ Ok next
-    → RefusesHistory (operations history) OutOfMemory
+    → RefusesPairing (operations history) OutOfMemory
 wants_memory stages pairs history place op client opened next below same own stands step =
     let long = length-map history operation in
     (place, omega (arith, below, long), λ earlier up_to. sound_here stages pairs history place op client opened next below same own stands step earlier (omega (arith, up_to)))

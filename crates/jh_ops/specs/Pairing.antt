@@ -108,8 +108,8 @@ HasPairError history error =
 
 -- Why a history is refused. `OutOfMemory` is possible only at an operation up to which nothing is
 -- wrong.
-abbrev pub RefusesHistory : List Operation → PairError → Type 0
-RefusesHistory history OutOfMemory =
+abbrev pub RefusesPairing : List Operation → PairError → Type 0
+RefusesPairing history OutOfMemory =
     (place : ℕ) × (place < length history)
     × ((earlier : ℕ) → earlier ≤ place → pair_error_at history earlier ≡ None)
-RefusesHistory history error = HasPairError history error
+RefusesPairing history error = HasPairError history error

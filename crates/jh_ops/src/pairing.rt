@@ -7,7 +7,7 @@
 ghost use Rattle.std.specs.Prelude.{◌≡◌, ◌<◌, length, All, IfOk, IsOkUnless, MatchResult, OnOk};
 ghost use Rattle.std.specs.Option.{ForSome};
 ghost use Rattle.jh_ops.specs.Operation.{operations};
-ghost use Rattle.jh_ops.specs.Pairing.{IsWellFormed, IsPairWithin, RefusesHistory, history_pairs};
+ghost use Rattle.jh_ops.specs.Pairing.{IsWellFormed, IsPairWithin, RefusesPairing, history_pairs};
 ghost use Rattle.jh_ops.specs.StageInside.{pair_awaited, pairs_after, stage_after};
 ghost use Rattle.jh_ops.specs.declared.pairs.PairError.TheVariants.{OutOfMemory};
 
@@ -68,7 +68,7 @@ pub fn pair(alloc: Global, history: &[Op]) -> Result<Vec<Pair>, PairError>
     ensures judged { MatchResult result
         (λ pairs. IsWellFormed (operations history.now)
         × (pairs.items ≡ history_pairs (operations history.now)))
-        (RefusesHistory (operations history.now)) }
+        (RefusesPairing (operations history.now)) }
     ensures accepts { IsWellFormed (operations history.now) → IsOkUnless result OutOfMemory }
     ensures within { IfOk result (λ pairs. All (IsPairWithin (length history.now)) pairs.items) }
 {

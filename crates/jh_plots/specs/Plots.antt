@@ -3,7 +3,7 @@
 use Rattle.std.specs.Prelude.{◌≡◌, ℕ, List, map, length}
 use Rattle.std.specs.List.{range_with_len}
 use Rattle.jh_ops.specs.Operation.{Operation}
-use Rattle.jh_ops.specs.Pairing.{RefusesHistory}
+use Rattle.jh_ops.specs.Pairing.{RefusesPairing}
 use Rattle.jh_ops.specs.declared.pairs.PairError.{PairError}
 use Rattle.jh_ops.specs.declared.pairs.PairError.TheVariants as pair_errors
 use Rattle.jh_plots.specs.Calls.{AreTimedCallsOf, functions, latency}
@@ -55,5 +55,5 @@ plot_error_of_pairing error = Pair error
 abbrev pub HasNoPlot : List Operation → PlotError → Type 0
 HasNoPlot history (TimeMissing index) = IsFirstTimeless history index
 HasNoPlot history (Pair error) =
-    HaveTimes history × (plot_error_of_pairing error ≡ Pair error) × RefusesHistory history error
+    HaveTimes history × (plot_error_of_pairing error ≡ Pair error) × RefusesPairing history error
 HasNoPlot history OutOfMemory = HaveTimes history

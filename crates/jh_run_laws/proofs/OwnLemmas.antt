@@ -1,7 +1,7 @@
 -- No checker refuses the history of a run.
 use Rattle.std.proofs.Common.{◌≡◌, ℕ, ◌<◌, List, [], refl, sym, subst, arith}
 use Rattle.jh_ops.specs.Operation.{Operation}
-use Rattle.jh_ops.specs.Pairing.{IsWellFormed, RefusesHistory as RefusesPairing}
+use Rattle.jh_ops.specs.Pairing.{IsWellFormed, RefusesPairing}
 use Rattle.jh_ops.specs.declared.call.Workload.{Workload}
 use Rattle.jh_ops.specs.declared.call.Workload.TheVariants.{Register, Counter, Set, Ids}
 use Rattle.jh_ops.specs.declared.pairs.PairError.{PairError}

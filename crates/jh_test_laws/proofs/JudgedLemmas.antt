@@ -22,7 +22,7 @@ use Rattle.jh_independent.specs.Refusals.{RefusesKeys, keys_question}
 use Rattle.jh_independent.specs.declared.error.KeysError.{KeysError}
 use Rattle.jh_independent.specs.declared.error.KeysError.TheVariants as keys_errors
 use Rattle.jh_ops.specs.Operation.{Operation, is_client}
-use Rattle.jh_ops.specs.Pairing.{IsWellFormed, RefusesHistory as RefusesPairing, history_pairs}
+use Rattle.jh_ops.specs.Pairing.{IsWellFormed, RefusesPairing, history_pairs}
 use Rattle.jh_txn_histories.specs.Histories.{IsRepeatedAt}
 use Rattle.jh_ops.specs.declared.operation.Kind.{Kind}
 use Rattle.jh_ops.specs.declared.operation.Process.{Process}
