@@ -26,7 +26,7 @@ use Rattle.jh_checkers.specs.Checkers.{checker_name, checker_names}
 use Rattle.jh_checkers.specs.Models.{model_named}
 use Rattle.jh_arguments.specs.Palettes.{palette_named}
 use Rattle.jh_arguments.specs.Line.{IsCommandLine, check, drive, jeprun, plot, search, shrink, timeline, without_options}
-use Rattle.jh_arguments.specs.Commands.{SubcommandIsAny, AsksCheck, SubcommandIsDrive, SubcommandIs, AsksSearch, AsksTimeline, IsFlag, IsGivenWithin, IsIndex, IsInitial, IsJudging, IsJudgingBy, IsNumberWithin, IsShow}
+use Rattle.jh_arguments.specs.Commands.{SubcommandIsAny, AsksCheck, SubcommandIsDrive, SubcommandIs, AsksSearch, AsksTimeline, IsFlag, IsGivenWithin, IsGivenNumber, IsInitial, IsJudging, IsJudgingBy, IsNumberWithin, IsShow}
 use Rattle.jh_arguments.specs.Limits.{max_candidates, max_spread_ms}
 use Rattle.jh_settings.specs.Limits.{max_budget}
 use Rattle.jh_checkers.specs.declared.checker.Checker.{Checker}
@@ -71,11 +71,11 @@ module _ (rows : List Row) (id : Text) where
       let n = digits_value 10 (without_leading_plus t.text) in
       (Some n, subst (λ o. IsGivenWithin least most o (Some n)) (sym t.one) (((t.accepted.0, t.accepted.1), refl), t.accepted.2, t.accepted.3))
 
-  index_in : ((false ≡ false) × HasNoText rows id) ⊎ HasText rows id false (vp.Unsigned 0 18446744073709551615) → (n : Option ℕ) × IsIndex (one_of id rows) n
-  index_in (inl none) = (None, subst (λ o. IsIndex o None) (sym none.1.one) refl)
-  index_in (inr t) =
+  given_number_in : ((false ≡ false) × HasNoText rows id) ⊎ HasText rows id false (vp.Unsigned 0 18446744073709551615) → (n : Option ℕ) × IsGivenNumber (one_of id rows) n
+  given_number_in (inl none) = (None, subst (λ o. IsGivenNumber o None) (sym none.1.one) refl)
+  given_number_in (inr t) =
       let n = digits_value 10 (without_leading_plus t.text) in
-      (Some n, subst (λ o. IsIndex o (Some n)) (sym t.one) ((t.accepted.0, t.accepted.1), refl))
+      (Some n, subst (λ o. IsGivenNumber o (Some n)) (sym t.one) ((t.accepted.0, t.accepted.1), refl))
 
 initial_in : (rows : List Row) → ((false ≡ false) × HasNoText rows (codes "initial")) ⊎ HasText rows (codes "initial") false (vp.Signed (negsuc 9223372036854775807) (pos 9223372036854775807))
     → (v : Option ℤ) × IsInitial (one_of (codes "initial") rows) v
@@ -252,7 +252,7 @@ module _ (names models : Bor (List (Bor Text))) (all : map (λ s. s.now) names.n
       let explain = flag_in (one_of (codes "explain") rows) in
       let independent = flag_in (one_of (codes "independent") rows) in
       let threads = number_in rows (codes "threads") 1 16 (needed_gives _ rows holds (codes "threads") false (vp.Unsigned 1 16) refl) in
-      let least = index_in rows (codes "at-least") (option_gives _ rows holds (codes "at-least") false (vp.Unsigned 0 18446744073709551615) false refl) in
+      let least = given_number_in rows (codes "at-least") (option_gives _ rows holds (codes "at-least") false (vp.Unsigned 0 18446744073709551615) false refl) in
       let by = judging_in _ rows holds refl refl explain.0 checker.0 checker.1 in
       let skips = flag_in (one_of (codes "skip-unread") rows) in
       let asks : AsksCheck rows (record { judging = by.0; independent = independent.0; threads = threads.0; at_least = least.0; skips_unread = skips.0 }) = record {
@@ -301,8 +301,8 @@ module _ (names models : Bor (List (Bor Text))) (all : map (λ s. s.now) names.n
       let rows = rows_after (leaf (timeline names models)).rules [] rest in
       let judging = page_in rows holds (option_gives _ rows holds (codes "workload") false (vp.Names names) false refl) in
       let independent = flag_in (one_of (codes "independent") rows) in
-      let from = index_in rows (codes "from") (option_gives _ rows holds (codes "from") false (vp.Unsigned 0 18446744073709551615) false refl) in
-      let to = index_in rows (codes "to") (option_gives _ rows holds (codes "to") false (vp.Unsigned 0 18446744073709551615) false refl) in
+      let from = given_number_in rows (codes "from") (option_gives _ rows holds (codes "from") false (vp.Unsigned 0 18446744073709551615) false refl) in
+      let to = given_number_in rows (codes "to") (option_gives _ rows holds (codes "to") false (vp.Unsigned 0 18446744073709551615) false refl) in
       let skips = flag_in (one_of (codes "skip-unread") rows) in
       let asks : AsksTimeline rows (record { judging = judging.0; independent = independent.0; choice = record { from = from.0; to = to.0 }; skips_unread = skips.0 }) =
       record { judging = judging.1; independent = independent.1; from = from.1; to = to.1; skips_unread = skips.1 } in

@@ -7,7 +7,7 @@ use Rattle.clap.specs.declared.builder.value_parser.ValueParser.TheVariants as v
 use Rattle.jh_arguments.proofs.PassedTexts.{HasNoText, HasText}
 use Rattle.jh_arguments.proofs.OptionLemmas.{number_one}
 use Rattle.jh_checkers.specs.Checkers.{checker_name, checker_named}
-use Rattle.jh_arguments.specs.Commands.{AsksCheck, SubcommandIs, AsksSearch, AsksTimeline, IsFlag, IsGivenWithin, IsIndex, IsInitial, IsJudging, IsJudgingBy, IsNumberWithin, IsShow}
+use Rattle.jh_arguments.specs.Commands.{AsksCheck, SubcommandIs, AsksSearch, AsksTimeline, IsFlag, IsGivenWithin, IsGivenNumber, IsInitial, IsJudging, IsJudgingBy, IsNumberWithin, IsShow}
 use Rattle.jh_arguments.specs.Limits.{max_candidates, max_spread_ms}
 use Rattle.jh_checkers.specs.declared.checker.Checker.{Checker}
 use Rattle.jh_checkers.specs.declared.checker.Checker.TheVariants.{Register, Set, Counter, Ids, ListAppend}
@@ -41,12 +41,12 @@ initial_once (Some t) (Some m) None a b = absurd (b a.0)
 initial_once (Some t) None (Some n) a b = absurd (a b.0)
 initial_once (Some t) None None a b = refl
 
-index_once : (o : Option Text) (m n : Option ℕ) → IsIndex o m → IsIndex o n → m ≡ n
-index_once None m n a b = a ∙ sym b
-index_once (Some t) (Some m) (Some n) a b = ap Some (a.1 ∙ sym b.1)
-index_once (Some t) (Some m) None a b = absurd (b a.0)
-index_once (Some t) None (Some n) a b = absurd (a b.0)
-index_once (Some t) None None a b = refl
+given_number_once : (o : Option Text) (m n : Option ℕ) → IsGivenNumber o m → IsGivenNumber o n → m ≡ n
+given_number_once None m n a b = a ∙ sym b
+given_number_once (Some t) (Some m) (Some n) a b = ap Some (a.1 ∙ sym b.1)
+given_number_once (Some t) (Some m) None a b = absurd (b a.0)
+given_number_once (Some t) None (Some n) a b = absurd (a b.0)
+given_number_once (Some t) None None a b = refl
 
 given_once : (least most : ℕ) (o : Option Text) (m n : Option ℕ) → IsGivenWithin least most o m → IsGivenWithin least most o n → m ≡ n
 given_once least most None m n a b = a ∙ sym b
@@ -89,7 +89,7 @@ check_once rows explained split skipped m n a b =
     let judging = judging_once rows m.judging n.judging a.judging b.judging (explained m.judging.explain n.judging.explain a.explain b.explain) in
     let independent = split m.independent n.independent a.independent b.independent in
     let threads = number_one (one_of (codes "threads") rows) m.threads n.threads a.threads.0 b.threads.0 in
-    let least = index_once (one_of (codes "at-least") rows) m.at_least n.at_least a.at_least b.at_least in
+    let least = given_number_once (one_of (codes "at-least") rows) m.at_least n.at_least a.at_least b.at_least in
     let skips = skipped m.skips_unread n.skips_unread a.skips_unread b.skips_unread in
     λ i. record {
       judging = judging i;
@@ -119,8 +119,8 @@ timeline_once : (rows : List Row) → FlagOnce rows (codes "independent") → Fl
 timeline_once rows split skipped m n a b =
     let judging = page_once rows m.judging n.judging a.judging b.judging in
     let independent = split m.independent n.independent a.independent b.independent in
-    let from = index_once (one_of (codes "from") rows) m.choice.from n.choice.from a.from b.from in
-    let to = index_once (one_of (codes "to") rows) m.choice.to n.choice.to a.to b.to in
+    let from = given_number_once (one_of (codes "from") rows) m.choice.from n.choice.from a.from b.from in
+    let to = given_number_once (one_of (codes "to") rows) m.choice.to n.choice.to a.to b.to in
     let skips = skipped m.skips_unread n.skips_unread a.skips_unread b.skips_unread in
     λ i. record { judging = judging i; independent = independent i; choice = record { from = from i; to = to i }; skips_unread = skips i }
 

@@ -9,7 +9,7 @@ use Rattle.clap.specs.Words.{ReadsOne, Row, Text, first_of, first_value, one_of,
 use Rattle.clap.specs.declared.parser.matches.Found.{Found}
 use Rattle.jh_checkers.specs.declared.finding.Judging.{Judging}
 use Rattle.clap.proofs.WalkLemmas.{first_value-rows, one_text-rows}
-use Rattle.jh_arguments.specs.Commands.{IsFlag, IsIndex, IsInitial, IsJudging, IsJudgingBy, IsNumber, IsNumberWithin, IsGivenWithin}
+use Rattle.jh_arguments.specs.Commands.{IsFlag, IsGivenNumber, IsInitial, IsJudging, IsJudgingBy, IsNumber, IsNumberWithin, IsGivenWithin}
 
 -- what `FromStr` says of `i64` and of `u64`
 abbrev SignedGives : Text → Result ℤ ParseIntError → Type 0
@@ -52,13 +52,13 @@ number_unread f id None n none some = go (one_of id (rows_of f)) (one_text-rows 
     go None is wanted = wanted
     go (Some t) is wanted = (some t is).1.0 wanted.0
 
--- an index, if there is one
-pub index_read : (f : Found) (id : Text) (r : Option ℕ) → (one_text f id ≡ None → r ≡ None)
-    → ((t : Text) → one_text f id ≡ Some t → ReadsOne UnsignedGives t r) → IsIndex (one_of id (rows_of f)) r
-index_read f id r none some = go (one_of id (rows_of f)) r (one_text-rows f id) none some
+-- a number that is read, if there is one
+pub given_number_read : (f : Found) (id : Text) (r : Option ℕ) → (one_text f id ≡ None → r ≡ None)
+    → ((t : Text) → one_text f id ≡ Some t → ReadsOne UnsignedGives t r) → IsGivenNumber (one_of id (rows_of f)) r
+given_number_read f id r none some = go (one_of id (rows_of f)) r (one_text-rows f id) none some
   where
     go : (o : Option Text) (r : Option ℕ) → one_text f id ≡ o → (one_text f id ≡ None → r ≡ None)
-        → ((t : Text) → one_text f id ≡ Some t → ReadsOne UnsignedGives t r) → IsIndex o r
+        → ((t : Text) → one_text f id ≡ Some t → ReadsOne UnsignedGives t r) → IsGivenNumber o r
     go None r is none some = none is
     go (Some t) (Some n) is none some = (some t is).0
     go (Some t) None is none some = (some t is).1.0

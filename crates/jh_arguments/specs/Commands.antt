@@ -77,11 +77,11 @@ IsFlag None given = given ≡ false
 IsFlag (Some text) given =
     (text ≡ codes "true" → given ≡ true) × (text ≡ codes "false" → given ≡ false)
 
--- the index, or the least number, that an option gives, if it is there
-abbrev pub IsIndex : Option Text → Option ℕ → Type 0
-IsIndex None index = index ≡ None
-IsIndex (Some text) (Some number) = IsNumber (Some text) number
-IsIndex (Some text) None = WritesUnsigned text → ⊥
+-- the number that an option gives, if it is there: an index, or how many at least
+abbrev pub IsGivenNumber : Option Text → Option ℕ → Type 0
+IsGivenNumber None number = number ≡ None
+IsGivenNumber (Some text) (Some number) = IsNumber (Some text) number
+IsGivenNumber (Some text) None = WritesUnsigned text → ⊥
 
 -- a history is judged so, by the checker of the workload that is named
 pub record IsJudgingBy (options : List Row) (judging : Judging) : Type 0 where
@@ -96,7 +96,7 @@ pub record AsksCheck (options : List Row) (question : CheckQuestion) : Type 0 wh
   pub explain : IsFlag (one_of (codes "explain") options) question.judging.explain
   pub independent : IsFlag (one_of (codes "independent") options) question.independent
   pub threads : IsThreads (one_of (codes "threads") options) question.threads
-  pub at_least : IsIndex (one_of (codes "at-least") options) question.at_least
+  pub at_least : IsGivenNumber (one_of (codes "at-least") options) question.at_least
   pub skips_unread : IsFlag (one_of (codes "skip-unread") options) question.skips_unread
 
 -- what the history of a page is judged by, where it is; a no is explained
@@ -109,8 +109,8 @@ IsJudging options (Some judging) =
 pub record AsksTimeline (options : List Row) (question : TimelineQuestion) : Type 0 where
   pub judging : IsJudging options question.judging
   pub independent : IsFlag (one_of (codes "independent") options) question.independent
-  pub from : IsIndex (one_of (codes "from") options) question.choice.from
-  pub to : IsIndex (one_of (codes "to") options) question.choice.to
+  pub from : IsGivenNumber (one_of (codes "from") options) question.choice.from
+  pub to : IsGivenNumber (one_of (codes "to") options) question.choice.to
   pub skips_unread : IsFlag (one_of (codes "skip-unread") options) question.skips_unread
 
 -- the options of `plot` ask that keys which can't be read are left out, or do not

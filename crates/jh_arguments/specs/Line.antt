@@ -40,9 +40,9 @@ initial_rule =
     record (option (codes "initial"))
     { parser = Some (Signed (negsuc 9223372036854775807) (pos 9223372036854775807)) }
 
--- a number of `u64`
-abbrev pub index : Text → Rule
-index name = record (option name) { parser = Some (Unsigned 0 18446744073709551615) }
+-- a number of `u64`, if it is given: an index, or how many at least
+abbrev pub given_number : Text → Rule
+given_number name = record (option name) { parser = Some (Unsigned 0 18446744073709551615) }
 
 -- a number that a parser reads, and this where it is not given
 abbrev pub number_rule : Text → ValueParser → Text → Rule
@@ -80,7 +80,7 @@ check names models =
     (with_rule (with_rule (new_app (codes "check")) (needed_rule (workload names)))
     initial_rule) (model models))
     (budget (codes "100000"))) (flag (codes "explain"))) (flag (codes "independent"))) threads)
-    (index (codes "at-least"))) skip_unread) verbose
+    (given_number (codes "at-least"))) skip_unread) verbose
 
 -- the file with the settings of a run, by whose schedule the page of what it printed names steps
 abbrev pub schedule_file : Rule
@@ -92,8 +92,8 @@ timeline names models =
     (with_rule (with_rule (with_rule
     (with_rule (with_rule (new_app (codes "timeline")) (workload names)) initial_rule)
     (model models))
-    (budget (codes "100000"))) (flag (codes "independent"))) (index (codes "from")))
-    (index (codes "to"))) schedule_file) skip_unread) verbose
+    (budget (codes "100000"))) (flag (codes "independent"))) (given_number (codes "from")))
+    (given_number (codes "to"))) schedule_file) skip_unread) verbose
 
 abbrev pub shrink : App
 shrink = with_rule (with_rule (new_app (codes "shrink")) (budget (codes "10000"))) verbose

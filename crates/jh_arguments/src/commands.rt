@@ -12,9 +12,10 @@ ghost use Rattle.jh_cli.specs.declared.error.CliError.{CliError as CliErrorData}
 ghost use Rattle.jh_cli.specs.declared.error.CliError.TheVariants as CliError;
 ghost use Rattle.jh_arguments.specs.Commands.{AsksCheck, AsksPlot, SubcommandHasSchedule};
 ghost use Rattle.jh_arguments.specs.Commands.{SubcommandIs};
-ghost use Rattle.jh_arguments.specs.Commands.{SubcommandIsDrive, SubcommandIsVerbose, IsGivenWithin};
+ghost use Rattle.jh_arguments.specs.Commands.{SubcommandIsDrive, SubcommandIsVerbose};
 ghost use Rattle.jh_arguments.specs.Commands.{AsksSearch, IsShow};
-ghost use Rattle.jh_arguments.specs.Commands.{AsksTimeline, HasNumbersInRange, IsFlag, IsIndex};
+ghost use Rattle.jh_arguments.specs.Commands.{AsksTimeline, HasNumbersInRange, IsFlag};
+ghost use Rattle.jh_arguments.specs.Commands.{IsGivenNumber, IsGivenWithin};
 ghost use Rattle.jh_arguments.specs.Commands.{IsInitial, IsNumberWithin};
 ghost use Rattle.jh_arguments.specs.Commands.{IsJudging, IsJudgingBy, IsNumber};
 ghost use Rattle.jh_arguments.specs.Commands.{IsOfOptions, IsOutputOf, IsThreads, RefusesCommand};
@@ -149,7 +150,7 @@ pub fn question_of(options: &ArgMatches<'_>) -> Option<CheckQuestion>
         judging: judging_by(options, name, explain)?,
         independent: flag_of(options, "independent"),
         threads: threads_of(options)?,
-        at_least: index_of(options, "at-least"),
+        at_least: given_number(options, "at-least"),
         skips_unread: flag_of(options, "skip-unread"),
     })
 }
@@ -185,8 +186,8 @@ pub fn timeline_question_of(options: &ArgMatches<'_>) -> Option<TimelineQuestion
         judging: judging_of(options)?,
         independent,
         choice: Choice {
-            from: index_of(options, "from"),
-            to: index_of(options, "to"),
+            from: given_number(options, "from"),
+            to: given_number(options, "to"),
         },
         skips_unread: flag_of(options, "skip-unread"),
     })
@@ -254,9 +255,9 @@ fn flag_of(options: &ArgMatches<'_>, name: &str) -> bool
     options.get_flag(name)
 }
 
-/// The index that an option gives, if it is there.
-fn index_of(options: &ArgMatches<'_>, name: &str) -> Option<usize>
-    ensures { IsIndex (one_of name.now (rows_of (found_of options.now))) result }
+/// The number that an option gives, if it is there: an index, or how many at least.
+fn given_number(options: &ArgMatches<'_>, name: &str) -> Option<usize>
+    ensures { IsGivenNumber (one_of name.now (rows_of (found_of options.now))) result }
 {
     options.get_one::<usize>(name)
 }

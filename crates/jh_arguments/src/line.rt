@@ -391,7 +391,7 @@ fn model_option<'a>(alloc: Global, models: &'static [&'static str]) -> Arg<'a>
 
 /// The index of a record: a number of `u64`.
 fn index_option<'a>(alloc: Global, name: &'static str, help: &'static str) -> Arg<'a>
-    ensures rule { rule_of result ≡ text.index name.now }
+    ensures rule { rule_of result ≡ text.given_number name.now }
     ensures local { result.global ≡ false }
 {
     Arg::new(alloc, name)
@@ -433,7 +433,7 @@ fn threads_option<'a>(alloc: Global) -> Arg<'a>
 
 /// How many calls that ended `:ok` a valid history has at least: a number of `u64`.
 fn at_least_option<'a>(alloc: Global) -> Arg<'a>
-    ensures rule { rule_of result ≡ text.index (codes "at-least") }
+    ensures rule { rule_of result ≡ text.given_number (codes "at-least") }
     ensures local { result.global ≡ false }
 {
     given_option(

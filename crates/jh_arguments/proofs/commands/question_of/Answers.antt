@@ -28,6 +28,6 @@ returns-clause-parsed c =
       explain = subst (IsFlag (one_of (codes "explain") (rows_of (found_of c.args.options.now)))) (sym judged.explained) c.flag_of-explain.ensures;
       independent = c.flag_of.ensures;
       threads = c.in_ok-threads_of.ensures.parsed;
-      at_least = c.index_of.ensures;
+      at_least = c.given_number.ensures;
       skips_unread = c.flag_of-2.ensures;
     }

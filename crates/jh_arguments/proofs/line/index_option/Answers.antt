@@ -1,13 +1,13 @@
 use Rattle.std.proofs.Common.{ap, ◌≡◌, ◌∙◌}
 use Rattle.std.specs.Prelude.{Some}
 use Rattle.clap.specs.Words.{Rule, rule_of}
-use Rattle.jh_arguments.specs.Line.{option, index}
+use Rattle.jh_arguments.specs.Line.{option, given_number}
 use Rattle.jh_arguments.proofs.ChainLemmas.{longed, named_once}
 use Rattle.jh_arguments.proofs.line.index_option.Goals as goal
 
 pub returns-clause-rule : goal.returns-clause-rule
 returns-clause-rule c =
-    let rule = index c.args.name.now in
+    let rule = given_number c.args.name.now in
     let plain : rule_of c.help.result ≡ option c.args.name.now = ap rule_of c.help.ensures ∙ (ap rule_of c.value_name.ensures
     ∙ ap named_once (ap rule_of c.long.ensures ∙ ap (longed c.args.name.now) c.new.ensures.rule)) in
     let given : c.value_parser-2.result.value_parser ≡ rule.parser = c.value_parser-2.ensures.given.1 ∙ ap Some (c.value_parser-2.ensures.given.2 ∙ c.value_parser.ensures) in
