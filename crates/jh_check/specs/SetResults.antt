@@ -46,8 +46,8 @@ elements_read history = option_and_then (λ read. elements_shown read.1.value) (
 -- What is found where the last read shows this set:
 -- ok: what was read and attempted. unexpected: what was read and never attempted.
 -- lost: what was acknowledged and not read. recovered: what is ok and was not acknowledged.
-abbrev pub set_finding : List Operation → List Edn → SetFound
-set_finding history read =
+abbrev pub set_found : List Operation → List Edn → SetFound
+set_found history read =
     let ok = filter (has_same_value (attempts history)) read in
     record {
       ok = ok;
@@ -69,7 +69,7 @@ never_read_result = record { verdict = Unknown; found = None }
 abbrev pub result_with : List Operation → Option (List Edn) → SetResult
 result_with history None = never_read_result
 result_with history (Some elements) =
-    result_of_found (set_finding history (set_of (map normal elements)))
+    result_of_found (set_found history (set_of (map normal elements)))
 
 -- the result of a history
 abbrev pub set_result : List Operation → SetResult

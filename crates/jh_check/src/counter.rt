@@ -124,7 +124,7 @@ pub fn read_ends(alloc: Global, history: &[Op], pairs: &[Pair]) -> Result<Vec<us
 }
 
 /// A read with its bounds, by what these are at each place.
-fn bounds_of(history: &[Op], read: Pair, lower: &[u128], upper: &[u128]) -> ReadBounds
+fn bounds_at(history: &[Op], read: Pair, lower: &[u128], upper: &[u128]) -> ReadBounds
     requires invoke { read.invoke < length lower.now }
     requires end { rule.end_place read < length lower.now }
     requires alike { length upper.now ≡ length lower.now }
@@ -155,7 +155,7 @@ fn bounded_reads(
     let reads = sorted_reads(alloc, history, pairs)?;
     let mut bounded = Vec::new(alloc);
     for read in &reads {
-        bounded.push(bounds_of(history, *read, &lower, &upper))?;
+        bounded.push(bounds_at(history, *read, &lower, &upper))?;
     }
     Ok(bounded)
 }

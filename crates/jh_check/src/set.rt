@@ -6,7 +6,7 @@ ghost use Rattle.jh_edn.specs.View.{view, views};
 ghost use Rattle.jh_ops.specs.Operation.{operation, operations};
 ghost use Rattle.jh_check.specs.Distinct.{set_of};
 ghost use Rattle.jh_check.specs.SetResults as rule;
-ghost use Rattle.jh_check.specs.SetResults.{IsJudgeable, RefusesSet, set_finding, set_result};
+ghost use Rattle.jh_check.specs.SetResults.{IsJudgeable, RefusesSet, set_found, set_result};
 
 use crate::asked::{sorted_normal, sorted_values};
 use crate::distinct::{distinct, selected};
@@ -66,7 +66,7 @@ fn elements_shown(value: &Value) -> Option<&[Value]>
 /// What is found where the last read shows these elements.
 fn found_in(alloc: Global, history: &[Op], elements: &[Value]) -> Result<SetFound, AllocError>
     ensures { IfOk result (λ found. found
-        ≡ set_finding (operations history.now) (set_of (map normal (views elements.now)))) }
+        ≡ set_found (operations history.now) (set_of (map normal (views elements.now)))) }
 {
     let read = distinct(sorted_normal(alloc, elements)?);
     let attempted = sorted_values(alloc, Kind::Invoke, "add", history)?;

@@ -11,7 +11,7 @@ use Rattle.jh_edn.specs.Spelling.{depth_limit}
 use Rattle.jh_ops.specs.Operation.{Operation}
 use Rattle.jh_ops.specs.declared.operation.Kind.{Kind}
 use Rattle.jh_check.specs.Distinct.{has_same_value, set_of}
-use Rattle.jh_check.specs.SetResults.{attempts, acknowledged_values, set_finding, is_whole_set}
+use Rattle.jh_check.specs.SetResults.{attempts, acknowledged_values, set_found, is_whole_set}
 use Rattle.jh_check.specs.declared.set.SetFound.{SetFound}
 use Rattle.jh_laws.specs.EqualResults.{CanPrintEach, IsOneOf, IsNormalOf, LastReadShows, IsWholeSet, IsSetFound, elements_attempted, elements_acknowledged}
 use Rattle.jh_laws.proofs.EqualLemmas.{EqualLaw, OneLaw, Shows, normals_show, set_shows, kept_show, held_normal, among_is_one, else_is_none, one_unless}
@@ -74,7 +74,7 @@ module _ (equal : EqualLaw) (one : OneLaw) where
     read_show : Shows shown read
     read_show = set_shows equal one read last.read_printable
 
-    pub found_parsed : IsSetFound history read (set_finding history shown)
+    pub found_parsed : IsSetFound history read (set_found history shown)
     found_parsed = record {
       ok = among_parsed shown read read_show last.read_printable (attempts history) tried tried_show last.attempted_printable;
       unexpected = else_parsed shown read read_show last.read_printable (attempts history) tried tried_show last.attempted_printable;

@@ -2,7 +2,7 @@ use Rattle.std.proofs.Common.{◌≡◌, ◌↔◌, List, Option, map, IsSomeAnd
 use Rattle.jh_edn.specs.Edn.{Edn}
 use Rattle.jh_edn.specs.Normal.{normal}
 use Rattle.jh_check.specs.Distinct.{set_of}
-use Rattle.jh_check.specs.SetResults.{set_finding, is_whole_set, result_with}
+use Rattle.jh_check.specs.SetResults.{set_found, is_whole_set, result_with}
 use Rattle.jh_check.specs.declared.verdict.Verdict.TheVariants.{True}
 use Rattle.jh_laws.specs.EqualResults.{IsSetFound, IsWholeSet}
 use Rattle.jh_laws.proofs.EqualLemmas.{true_verdict, verdict_true}
@@ -13,7 +13,7 @@ pub returns-clause-verdict : goal.returns-clause-verdict
 returns-clause-verdict c = λ history read last.
     let equal = c.same_values_are_equal.ensures.equal in
     let one = c.normal_laws.ensures.one in
-    let found = set_finding history (set_of (map normal read)) in
+    let found = set_found history (set_of (map normal read)) in
     let parsed = found_parsed equal one history read last in
     subst (λ (shown : Option (List Edn)). (((result_with history shown).verdict ≡ True) ↔ IsWholeSet history read)) (sym last.shown) (
       λ valid. whole_from equal one history read last found parsed (true_verdict (is_whole_set found) valid),
