@@ -25,7 +25,7 @@ use Rattle.jh_simnode.specs.Replicas.{blank_replica, contents_of, replica_at, fi
 use Rattle.jh_simnode.specs.Effects.{add_change, cas_change, generate_change, effect, is_small}
 use Rattle.jh_env.specs.Names.{node_places}
 use Rattle.jh_grudge.specs.Grudges.{majority}
-use Rattle.jh_simnode.specs.Reach.{Cells, responding_nodes, reached_nodes}
+use Rattle.jh_simnode.specs.Reach.{EnvCells, responding_nodes, reached_nodes}
 use Rattle.jh_simnode.specs.Requests.{is_read_request, only_asks}
 use Rattle.jh_simnode.specs.Stores.{ReplyAndReplicas, reply_alone, reply_to, reply_at, reply_in, running_reply, local_change, lww_change, quorum_change, quorum_read, quorum_write, newest_place, newer_place, version_at, replicas_with_new_at, older_places, replicas_after_tick, replicas_after_sending, replicas_after_sending_all, replicas_after_kills, replicas_after_kill}
 use Rattle.jh_simnode.proofs.PlaceLemmas.{places_below}
@@ -198,7 +198,7 @@ read_served w c all place Txn r n t = absurd cc
 some_of : (n m : ℕ) → nat_lt n (majority m) ≡ false → 0 < n
 some_of n m e = let q = ltb-false n (majority m) e in omega (arith, q)
 
-quorum_served : (w : Workload) (c : ℕ) (env : Cells) (all : List Replica) (node : ℕ) (request : Request) (draw : ℕ) → is_request_of request w ≡ true → AreShaped w c all
+quorum_served : (w : Workload) (c : ℕ) (env : EnvCells) (all : List Replica) (node : ℕ) (request : Request) (draw : ℕ) → is_request_of request w ≡ true → AreShaped w c all
     → IsServed w c request (if is_read_request request then quorum_read all (responding_nodes env node (reached_nodes env (length all) draw node)) else quorum_write all (reached_nodes env (length all) draw node) (length (responding_nodes env node (reached_nodes env (length all) draw node))) request)
 quorum_served w c env all node request draw r t =
     let reached = reached_nodes env (length all) draw node in
@@ -217,7 +217,7 @@ quorum_served w c env all node request draw r t =
     changed_shaped w c all (newest_place all reached) reached (length answering) request (replica_at all (newest_place all reached)).contents
     (effect_fits w request (replica_at all (newest_place all reached)).contents r (t.each (newest_place all reached) best)) t))
 
-running_served : (store : Store) (w : Workload) (c : ℕ) (env : Cells) (all : List Replica) (number : ℕ) (clock : ℤ) (node : ℕ) (request : Request) (draw : ℕ) → is_request_of request w ≡ true → node < c → AreShaped w c all
+running_served : (store : Store) (w : Workload) (c : ℕ) (env : EnvCells) (all : List Replica) (number : ℕ) (clock : ℤ) (node : ℕ) (request : Request) (draw : ℕ) → is_request_of request w ≡ true → node < c → AreShaped w c all
     → IsServed w c request (running_reply store env all clock (record { number = number; node = node; request = request; draw = draw }))
 running_served Quorum w c env all number clock node request draw r n t = quorum_served w c env all node request draw r t
 running_served Lww w c env all number clock node request draw r n t =
@@ -225,18 +225,18 @@ running_served Lww w c env all number clock node request draw r n t =
     (λ _. lww_shaped w c all _ node (reached_nodes env (length all) draw node) request (replica_at all node).contents (effect_fits w request (replica_at all node).contents r (t.each node (rw t.sized n))) t)
 running_served Local w c env all number clock node request draw r n t = local_served_fits w c all node request r n t
 
-in_served : (life : Life) (s : Database) (c : ℕ) (env : Cells) (all : List Replica) (number : ℕ) (clock : ℤ) (node : ℕ) (request : Request) (draw : ℕ) → is_request_of request s.workload ≡ true → node < c → AreShaped s.workload c all
+in_served : (life : Life) (s : Database) (c : ℕ) (env : EnvCells) (all : List Replica) (number : ℕ) (clock : ℤ) (node : ℕ) (request : Request) (draw : ℕ) → is_request_of request s.workload ≡ true → node < c → AreShaped s.workload c all
     → IsServed s.workload c request (reply_in life s env all clock (record { number = number; node = node; request = request; draw = draw }))
 in_served Running s c env all number clock node request draw r n t = running_served s.store s.workload c env all number clock node request draw r n t
 in_served Paused s c env all number clock node request draw r n t = (t, either (ReplyFits s.workload request) (only_asks request) reply_of.Fail reply_of.Info (λ _. tt) (λ _. tt))
 in_served Killed s c env all number clock node request draw r n t = (t, tt)
 
-at_served : (s : Database) (c : ℕ) (env : Cells) (all : List Replica) (number node : ℕ) (request : Request) (draw : ℕ) (cell : Option NodeCell) → is_request_of request s.workload ≡ true → node < c → AreShaped s.workload c all
+at_served : (s : Database) (c : ℕ) (env : EnvCells) (all : List Replica) (number node : ℕ) (request : Request) (draw : ℕ) (cell : Option NodeCell) → is_request_of request s.workload ≡ true → node < c → AreShaped s.workload c all
     → IsServed s.workload c request (reply_at s env all (record { number = number; node = node; request = request; draw = draw }) cell)
 at_served s c env all number node request draw None r n t = (t, tt)
 at_served s c env all number node request draw (Some cell) r n t = in_served cell.process s c env all number cell.clock node request draw r n t
 
-pub serve_fits : (s : Database) (c : ℕ) (env : Cells) (all : List Replica) (number node : ℕ) (request : Request) (draw : ℕ) → node < c → AreShaped s.workload c all
+pub serve_fits : (s : Database) (c : ℕ) (env : EnvCells) (all : List Replica) (number node : ℕ) (request : Request) (draw : ℕ) → node < c → AreShaped s.workload c all
     → IsServed s.workload c request (reply_to s env all number node request draw)
 unfolding reply_to
 serve_fits s c env all number node request draw n t =
@@ -244,11 +244,11 @@ serve_fits s c env all number node request draw n t =
 
 -- ---- ticks and kills
 
-sent_shaped : (w : Workload) (c : ℕ) (env : Cells) (from : ℕ) (all : List Replica) (to : ℕ) → from < c → AreShaped w c all → AreShaped w c (replicas_after_sending env from all to)
+sent_shaped : (w : Workload) (c : ℕ) (env : EnvCells) (from : ℕ) (all : List Replica) (to : ℕ) → from < c → AreShaped w c all → AreShaped w c (replicas_after_sending env from all to)
 sent_shaped w c env from all to n t =
     either (AreShaped w c) _ (set all to (replica_at all from)) all (λ _. set_shaped w c all to (replica_at all from) t (t.each from (rw t.sized n))) (λ _. t)
 
-ticked_shaped : (store : Store) (w : Workload) (c : ℕ) (env : Cells) (all : List Replica) → AreShaped w c all → AreShaped w c (replicas_after_tick store env all)
+ticked_shaped : (store : Store) (w : Workload) (c : ℕ) (env : EnvCells) (all : List Replica) → AreShaped w c all → AreShaped w c (replicas_after_tick store env all)
 unfolding replicas_after_tick
 ticked_shaped Quorum w c env all t = t
 ticked_shaped Lww w c env all t =
@@ -263,7 +263,7 @@ first_shaped Counter initial = tt
 first_shaped Set initial = tt
 first_shaped Ids initial = tt
 
-forgotten_shaped : (s : Database) (c : ℕ) (before : List Bool) (after : Cells) (all : List Replica) → AreShaped s.workload c all → AreShaped s.workload c (replicas_after_kills s before after all)
+forgotten_shaped : (s : Database) (c : ℕ) (before : List Bool) (after : EnvCells) (all : List Replica) → AreShaped s.workload c all → AreShaped s.workload c (replicas_after_kills s before after all)
 unfolding replicas_after_kills
 forgotten_shaped s c before after all t =
     either (AreShaped s.workload c) s.volatile _ all

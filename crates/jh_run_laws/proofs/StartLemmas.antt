@@ -13,7 +13,7 @@ use Rattle.jh_ops.specs.Operation.{Operation}
 use Rattle.jh_simnode.specs.declared.events.Event.{Event}
 use Rattle.jh_simnode.specs.Events.{AreDue, IsDue, IsLegal, Moment, Setup, env_of, faults_after, moment_after, opening}
 use Rattle.jh_simnode.specs.Plans.{PlanValue}
-use Rattle.jh_simnode.specs.Reach.{Cells, cells_over}
+use Rattle.jh_simnode.specs.Reach.{EnvCells, cells_over}
 use Rattle.jh_simnode.specs.Runs.{Turns, Move, Comes, Reaches, IsSerialRun, move_of, setup_of}
 use Rattle.jh_simnode.specs.Runs.Move.{Ticks, Applies, Waits, Calls, Ends, Rests}
 use Rattle.jh_simnode.specs.Stores.{killed_flags, replicas_after_kills, reply_to, replicas_after_tick}
@@ -95,7 +95,7 @@ next_restarted u start m Event.Tick same =
 
 due_restarted : (u : Setup) (start : Table) (m : Moment) (e : Event) → AreSameCells m.faults.start start → IsDue u m e → IsDue (founded start u) (restarted_moment start m) e
 due_restarted u start m (Event.Call process node request draw reply) same h =
-    (h.0, subst (λ (env : Cells). reply ≡ (reply_to u.settings env m.replicas m.number node request draw).reply) (sym (env_same start m.faults same)) h.1)
+    (h.0, subst (λ (env : EnvCells). reply ≡ (reply_to u.settings env m.replicas m.number node request draw).reply) (sym (env_same start m.faults same)) h.1)
 due_restarted u start m (Event.Step step answer) same h = (h.0, h.1 ∙ sym (answer_restarted start m.faults step))
 due_restarted u start m Event.Tick same h = tt
 

@@ -17,7 +17,7 @@ use Rattle.jh_simnode.specs.declared.settings.Database.{Database}
 use Rattle.jh_simnode.specs.Inside.{world_setup}
 use Rattle.jh_simnode.specs.Stores.{reply_to, replicas_after_tick, killed_flags, replicas_after_kills}
 use Rattle.jh_simnode.proofs.VersionLemmas.{serve_tidy, ticked_tidy, forgotten_tidy}
-use Rattle.jh_simnode.specs.Reach.{Cells, env_cells, cells_over}
+use Rattle.jh_simnode.specs.Reach.{EnvCells, env_cells, cells_over}
 use Rattle.jh_simnode.specs.Events.{Setup, Moment, opening, env_of, faults_after, replicas_after, moment_after, moment_after_all, moment_at, IsDue, AreDue, AreTidy, IsWorldOf}
 
 -- a vector after a helper wrote all of its slice
@@ -75,8 +75,8 @@ pub call_goes_on : (s : State) (settings : Database) (all new : List Replica) (e
     → IsWorldOf (world_setup s settings) s new (es ++ Event.Call process node request draw reply ∷ [])
 call_goes_on s settings all new es env number process node request draw reply w few stands start at known given =
     let cells = cells_are env s stands start in
-    let Got : Cells → ℕ → Type 0 = λ env k. reply ≡ (reply_to settings env all k node request draw).reply in
-    let Left : Cells → ℕ → Type 0 = λ env k. new ≡ (reply_to settings env all k node request draw).replicas in
+    let Got : EnvCells → ℕ → Type 0 = λ env k. reply ≡ (reply_to settings env all k node request draw).reply in
+    let Left : EnvCells → ℕ → Type 0 = λ env k. new ≡ (reply_to settings env all k node request draw).replicas in
     let got : Got (env_of s) (length es) = subst (Got (env_of s)) at (subst (λ env. Got env number) cells given.0) in
     let left : Left (env_of s) (length es) = subst (Left (env_of s)) at (subst (λ env. Left env number) cells given.1) in
     goes_on (world_setup s settings) s s all new es (Event.Call process node request draw reply) w few ((known, got), refl, left)
@@ -87,7 +87,7 @@ pub tick_goes_on : (s : State) (settings : Database) (all new : List Replica) (e
     → new ≡ replicas_after_tick settings.store (env_cells env) all
     → IsWorldOf (world_setup s settings) s new (es ++ Event.Tick ∷ [])
 tick_goes_on s settings all new es env w few stands start given =
-    let Left : Cells → Type 0 = λ env. new ≡ replicas_after_tick settings.store env all in
+    let Left : EnvCells → Type 0 = λ env. new ≡ replicas_after_tick settings.store env all in
     let left : Left (env_of s) = subst Left (cells_are env s stands start) given in
     goes_on (world_setup s settings) s s all new es Event.Tick w few (tt, refl, left)
     (rw left (ticked_tidy settings.store (env_of s) (length s.names) (length es) all w.tidy))
@@ -103,7 +103,7 @@ pub step_goes_on : (s t : State) (settings : Database) (all new : List Replica) 
     → IsWorldOf (world_setup t settings) t new (es ++ Event.Step step answer ∷ [])
 step_goes_on s t settings all new es before after step answer w few stands start fits given moved stands' start' forgot =
     let u = world_setup s settings in
-    let Left : Cells → Cells → Type 0 = λ was is. new ≡ replicas_after_kills settings (killed_flags was (length s.names)) is all in
+    let Left : EnvCells → EnvCells → Type 0 = λ was is. new ≡ replicas_after_kills settings (killed_flags was (length s.names)) is all in
     let at_t : Left (env_of s) (env_of t) = subst (Left (env_of s)) (cells_are after t stands' start') (subst (λ was. Left was (env_cells after)) (cells_are before s stands start) forgot) in
     let left : Left (env_of s) (env_of (state_after s step)) = subst (λ (r : State). Left (env_of s) (env_of r)) moved at_t in
     rw (same_setup s t settings step moved)

@@ -17,7 +17,7 @@ use Rattle.jh_nemesis.specs.declared.steps.StepAnswer.{StepAnswer}
 use Rattle.jh_nemesis.specs.declared.steps.StepAnswer.TheVariants.{Ok}
 use Rattle.jh_nemesis.proofs.StepLemmas.{state_after_start}
 use Rattle.jh_simnode.specs.declared.events.Event.{Event}
-use Rattle.jh_simnode.specs.Reach.{Cells, cells_over}
+use Rattle.jh_simnode.specs.Reach.{EnvCells, cells_over}
 use Rattle.jh_simnode.specs.Events.{Setup, Moment, opening, env_of, faults_after, moment_after, moment_after_all, moment_at, IsDue, AreDue, IsLegal}
 use Rattle.jh_simnode.specs.Laws.{state_at, env_at, steps_in, is_quiet, OverlayStands, QuietStays, WithdrawLeaves, WithdrawAllLeaves, PastReturns, UndoRestoresWorld}
 
@@ -115,7 +115,7 @@ withdraw_all_leaves u before after legal =
     let m = moved_at u before after WithdrawAll legal in
     let start : (state_at u before).start ≡ u.start = start_stays u (opening u) before in
     let env = ap env_of m ∙ ap (λ (t : Table). cells_over t []) start in
-    (ap (λ (s : State). s.active) m, λ a b. ap (λ (c : Cells). c.link a b) env ∙ link_stays a b (link_at u.start a b), λ a. ap (λ (c : Cells). c.node a) env ∙ node_stays a (node_at u.start a))
+    (ap (λ (s : State). s.active) m, λ a b. ap (λ (c : EnvCells). c.link a b) env ∙ link_stays a b (link_at u.start a b), λ a. ap (λ (c : EnvCells). c.node a) env ∙ node_stays a (node_at u.start a))
 
 -- where the same faults are active the environment is the same
 pub same_env : (u : Setup) (xs ys : List Event) → (state_at u xs).active ≡ (state_at u ys).active → env_at u xs ≡ env_at u ys

@@ -3,10 +3,10 @@ use Rattle.std.proofs.Common.{◌≡◌, ℕ, ◌<◌, length, arith}
 use Rattle.std.specs.List.{All}
 use Rattle.std.proofs.lemmas.List.FromFn.{length-range_with_len, get_or-range_with_len, length-map-range_with_len}
 use Rattle.jh_env.specs.Names.{node_places}
-use Rattle.jh_simnode.specs.Reach.{Cells, is_node_killed}
+use Rattle.jh_simnode.specs.Reach.{EnvCells, is_node_killed}
 use Rattle.jh_simnode.specs.Stores.{killed_flags}
 
-pub length-killed_flags : (env : Cells) (n : ℕ) → length (killed_flags env n) ≡ n
+pub length-killed_flags : (env : EnvCells) (n : ℕ) → length (killed_flags env n) ≡ n
 length-killed_flags env n = length-map-range_with_len (λ p. is_node_killed (env.node p)) 0 n
 
 -- the places are below their number

@@ -11,7 +11,7 @@ use Rattle.jh_env.specs.Names.{node_places}
 use Rattle.jh_simnode.specs.declared.replicas.Replica.{Replica}
 use Rattle.jh_simnode.specs.declared.stores.Taken.{Taken}
 use Rattle.jh_simnode.specs.Replicas.{blank_replica, replica_at, is_lower}
-use Rattle.jh_simnode.specs.Reach.{Cells, is_node_running}
+use Rattle.jh_simnode.specs.Reach.{EnvCells, is_node_running}
 use Rattle.jh_simnode.specs.Stores.{replicas_with_new, replicas_with_new_at, replicas_after_sending, is_uncut}
 use Rattle.jh_simnode.specs.TakingInside.{replicas_with, AreTaken, AreSources, replicas_from}
 use Rattle.jh_simnode.proofs.PlaceLemmas.{places_below}
@@ -41,12 +41,12 @@ replica_from count replicas sources p source h within is =
     get_or-map (replica_at replicas) sources p source blank_replica (rw h.sized within) ∙ ap (replica_at replicas) (sym is)
 
 -- what decides whether a node takes over another's replica, by their sources
-abbrev takes : Cells → ℕ → ℕ → List Replica → ℕ → ℕ → Bool
+abbrev takes : EnvCells → ℕ → ℕ → List Replica → ℕ → ℕ → Bool
 takes env from to replicas source target =
     ((is_node_running (env.node from) && is_node_running (env.node to)) && is_uncut (env.link from to))
     && is_lower (replica_at replicas target).recency (replica_at replicas source).recency
 
-send_is : (env : Cells) (from to count : ℕ) (replicas : List Replica) (sources : List ℕ) (source target : ℕ) → AreSources count sources → from < count → to < count
+send_is : (env : EnvCells) (from to count : ℕ) (replicas : List Replica) (sources : List ℕ) (source target : ℕ) → AreSources count sources → from < count → to < count
     → source ≡ get_or sources from source → target ≡ get_or sources to target
     → replicas_after_sending env from (replicas_from replicas sources) to
     ≡ (if takes env from to replicas source target then set (replicas_from replicas sources) to (replica_at replicas source) else replicas_from replicas sources)
@@ -54,7 +54,7 @@ send_is env from to count replicas sources source target h a b s t =
     rw (replica_from count replicas sources from source h a s, replica_from count replicas sources to target h b t) refl
 
 -- the other takes it over, where both run, the link is uncut and its own stamp is lower
-pub send_takes : (env : Cells) (from to count : ℕ) (replicas : List Replica) (sources : List ℕ) (source target : ℕ) → AreSources count sources → from < count → to < count
+pub send_takes : (env : EnvCells) (from to count : ℕ) (replicas : List Replica) (sources : List ℕ) (source target : ℕ) → AreSources count sources → from < count → to < count
     → source ≡ get_or sources from source → target ≡ get_or sources to target
     → ((is_node_running (env.node from) && is_node_running (env.node to)) && is_uncut (env.link from to)) ≡ true
     → is_lower (replica_at replicas target).recency (replica_at replicas source).recency ≡ true

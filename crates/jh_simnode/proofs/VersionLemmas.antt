@@ -19,7 +19,7 @@ use Rattle.jh_simnode.specs.Replicas.{blank_replica, replica_at, version, first_
 use Rattle.jh_simnode.specs.Effects.{effect}
 use Rattle.jh_simnode.specs.declared.effects.RequestEffect.{RequestEffect}
 use Rattle.jh_env.specs.Names.{node_places}
-use Rattle.jh_simnode.specs.Reach.{Cells, reached_nodes, responding_nodes}
+use Rattle.jh_simnode.specs.Reach.{EnvCells, reached_nodes, responding_nodes}
 use Rattle.jh_simnode.specs.Stores.{ReplyAndReplicas, reply_to, reply_at, reply_in, running_reply, local_change, lww_change, quorum_change, newest_place, version_at, replicas_with_new, replicas_with_new_at, older_places, replicas_after_tick, replicas_after_sending, replicas_after_sending_all, replicas_after_kills, replicas_after_kill}
 use Rattle.jh_simnode.specs.Events.{AreTidy}
 
@@ -65,7 +65,7 @@ changed_tidy c n all best these k (Some e) t =
     let h = t.low best in
     give_tidy c (n + 1) (record { recency = Version (version (replica_at all best).recency + 1); contents = e.after }) all these (omega arith) (later_tidy c n all t)
 
-running_tidy : (store : Store) (env : Cells) (c n : ℕ) (all : List Replica) (clock : ℤ) (node : ℕ) (r : Request) (draw : ℕ) → AreTidy c n all
+running_tidy : (store : Store) (env : EnvCells) (c n : ℕ) (all : List Replica) (clock : ℤ) (node : ℕ) (r : Request) (draw : ℕ) → AreTidy c n all
     → AreTidy c (n + 1) (running_reply store env all clock (record { number = n; node = node; request = r; draw = draw })).replicas
 running_tidy Quorum env c n all clock node r draw t =
     let l = later_tidy c n all t in
@@ -77,33 +77,33 @@ running_tidy Lww env c n all clock node r draw t =
     either (λ (s : ReplyAndReplicas). AreTidy c (n + 1) s.replicas) (is_read_request r) _ _ (later_tidy c n all t) (lww_tidy c n all _ node (reached_nodes env (length all) draw node) (effect r (replica_at all node).contents) t)
 running_tidy Local env c n all clock node r draw t = local_tidy c n all node (effect r (replica_at all node).contents) t
 
-in_tidy : (life : Life) (s : Database) (env : Cells) (c n : ℕ) (all : List Replica) (clock : ℤ) (node : ℕ) (r : Request) (draw : ℕ) → AreTidy c n all
+in_tidy : (life : Life) (s : Database) (env : EnvCells) (c n : ℕ) (all : List Replica) (clock : ℤ) (node : ℕ) (r : Request) (draw : ℕ) → AreTidy c n all
     → AreTidy c (n + 1) (reply_in life s env all clock (record { number = n; node = node; request = r; draw = draw })).replicas
 in_tidy Running s env c n all clock node r draw t = running_tidy s.store env c n all clock node r draw t
 in_tidy Paused s env c n all clock node r draw t = later_tidy c n all t
 in_tidy Killed s env c n all clock node r draw t = later_tidy c n all t
 
-at_tidy : (s : Database) (env : Cells) (c n : ℕ) (all : List Replica) (node : ℕ) (r : Request) (draw : ℕ) (cell : Option NodeCell) → AreTidy c n all
+at_tidy : (s : Database) (env : EnvCells) (c n : ℕ) (all : List Replica) (node : ℕ) (r : Request) (draw : ℕ) (cell : Option NodeCell) → AreTidy c n all
     → AreTidy c (n + 1) (reply_at s env all (record { number = n; node = node; request = r; draw = draw }) cell).replicas
 at_tidy s env c n all node r draw None t = later_tidy c n all t
 at_tidy s env c n all node r draw (Some cell) t = in_tidy cell.process s env c n all cell.clock node r draw t
 
-pub serve_tidy : (s : Database) (env : Cells) (c n : ℕ) (all : List Replica) (node : ℕ) (r : Request) (draw : ℕ) → AreTidy c n all → AreTidy c (n + 1) (reply_to s env all n node r draw).replicas
+pub serve_tidy : (s : Database) (env : EnvCells) (c n : ℕ) (all : List Replica) (node : ℕ) (r : Request) (draw : ℕ) → AreTidy c n all → AreTidy c (n + 1) (reply_to s env all n node r draw).replicas
 unfolding reply_to
 serve_tidy s env c n all node r draw t =
     either (λ (s : ReplyAndReplicas). AreTidy c (n + 1) s.replicas) (is_request_of r s.workload) _ _ (at_tidy s env c n all node r draw (env.node node) t) (later_tidy c n all t)
 
-send_tidy : (c n : ℕ) (env : Cells) (from : ℕ) (all : List Replica) (to : ℕ) → AreTidy c n all → AreTidy c n (replicas_after_sending env from all to)
+send_tidy : (c n : ℕ) (env : EnvCells) (from : ℕ) (all : List Replica) (to : ℕ) → AreTidy c n all → AreTidy c n (replicas_after_sending env from all to)
 send_tidy c n env from all to t = either (AreTidy c n) _ (set all to (replica_at all from)) all (set_tidy c n all to (replica_at all from) t (t.low from)) t
 
-pub ticked_tidy : (store : Store) (env : Cells) (c n : ℕ) (all : List Replica) → AreTidy c n all → AreTidy c (n + 1) (replicas_after_tick store env all)
+pub ticked_tidy : (store : Store) (env : EnvCells) (c n : ℕ) (all : List Replica) → AreTidy c n all → AreTidy c (n + 1) (replicas_after_tick store env all)
 unfolding replicas_after_tick
 ticked_tidy Quorum env c n all t = later_tidy c n all t
 ticked_tidy Lww env c n all t =
     later_tidy c n _ (fold_keeps (AreTidy c n) (replicas_after_sending_all env (length all)) (λ a from k. fold_keeps (AreTidy c n) (replicas_after_sending env from) (λ b to h. send_tidy c n env from b to h) a (node_places (length all)) k) all (node_places (length all)) t)
 ticked_tidy Local env c n all t = later_tidy c n all t
 
-pub forgotten_tidy : (s : Database) (before : List Bool) (after : Cells) (c n : ℕ) (all : List Replica) → AreTidy c n all → AreTidy c (n + 1) (replicas_after_kills s before after all)
+pub forgotten_tidy : (s : Database) (before : List Bool) (after : EnvCells) (c n : ℕ) (all : List Replica) → AreTidy c n all → AreTidy c (n + 1) (replicas_after_kills s before after all)
 unfolding replicas_after_kills
 forgotten_tidy s before after c n all t =
     later_tidy c n _ (either (AreTidy c n) s.volatile _ _

@@ -13,7 +13,7 @@ use Rattle.jh_simnode.specs.declared.events.WorldError.TheVariants.{UnknownNode,
 use Rattle.jh_simnode.specs.declared.events.WorldError.TheVariants.{OutOfMemory}
 use Rattle.jh_simnode.specs.Limits.{max_events}
 use Rattle.jh_simnode.specs.Replicas.{first_replica}
-use Rattle.jh_simnode.specs.Reach.{Cells, cells_over}
+use Rattle.jh_simnode.specs.Reach.{EnvCells, cells_over}
 use Rattle.jh_simnode.specs.Stores.{reply_to, replicas_after_tick, killed_flags}
 use Rattle.jh_simnode.specs.Stores.{replicas_after_kills, version_at}
 
@@ -43,7 +43,7 @@ opening u = record {
 }
 
 -- the environment: what the active faults make of the starting one
-abbrev pub env_of : State → Cells
+abbrev pub env_of : State → EnvCells
 env_of s = cells_over s.start (faults_in s.active)
 
 -- the faults, with their past and future, after an event

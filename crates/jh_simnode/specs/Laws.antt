@@ -9,7 +9,7 @@ use Rattle.jh_nemesis.specs.declared.steps.Step.{Step}
 use Rattle.jh_nemesis.specs.declared.steps.Step.TheVariants.{Withdraw, WithdrawAll, Undo, Redo}
 use Rattle.jh_nemesis.specs.declared.steps.StepAnswer.TheVariants.{Ok}
 use Rattle.jh_simnode.specs.declared.events.Event.{Event}
-use Rattle.jh_simnode.specs.Reach.{Cells, cells_over}
+use Rattle.jh_simnode.specs.Reach.{EnvCells, cells_over}
 use Rattle.jh_simnode.specs.Events.{Setup, Moment, faultless_state, env_of, moment_after, moment_at}
 use Rattle.jh_simnode.specs.Events.{IsLegal}
 
@@ -18,7 +18,7 @@ abbrev pub state_at : Setup → List Event → State
 state_at u journal = (moment_at u journal).faults
 
 -- the environment after a journal
-abbrev pub env_at : Setup → List Event → Cells
+abbrev pub env_at : Setup → List Event → EnvCells
 env_at u journal = env_of (state_at u journal)
 
 -- the steps of a journal alone

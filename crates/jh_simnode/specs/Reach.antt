@@ -13,16 +13,16 @@ use Rattle.jh_env.specs.Overlay.{EnvValue, is_killed, link_over, node_over}
 
 -- an environment as a client meets it: the link between two places, and the node at a place, where
 -- there is one
-pub record Cells : Type 0 where
+pub record EnvCells : Type 0 where
   pub link : ℕ → ℕ → Option Link
   pub node : ℕ → Option NodeCell
 
 -- an environment as it is now
-abbrev pub env_cells : EnvValue → Cells
+abbrev pub env_cells : EnvValue → EnvCells
 env_cells env = record { link = link_at env.cells; node = node_at env.cells }
 
 -- what faults make of starting cells
-abbrev pub cells_over : Table → List FaultValue → Cells
+abbrev pub cells_over : Table → List FaultValue → EnvCells
 cells_over start faults = record {
   link = λ a b. option_map (link_over faults a b) (link_at start a b);
   node = λ a. option_map (node_over faults a) (node_at start a);
@@ -55,20 +55,20 @@ delay_of None = 0
 delay_of (Some l) = l.delay
 
 -- a call of a node reaches another, and its answer comes back
-abbrev pub is_reached : Cells → ℕ → ℕ → ℕ → Bool
+abbrev pub is_reached : EnvCells → ℕ → ℕ → ℕ → Bool
 is_reached env draw node other =
     (other == node)
     || (is_node_running (env.node other)
     && (carries draw (env.link node other) && carries draw (env.link other node)))
 
 -- it comes back in time
-abbrev pub is_timely : Cells → ℕ → ℕ → Bool
+abbrev pub is_timely : EnvCells → ℕ → ℕ → Bool
 is_timely env node other =
     (other == node) || nat_le (delay_of (env.link node other) + delay_of (env.link other node)) 1000
 
 -- the nodes, of so many, that a call of a node reaches, and those that respond in time
-abbrev pub reached_nodes : Cells → ℕ → ℕ → ℕ → List ℕ
+abbrev pub reached_nodes : EnvCells → ℕ → ℕ → ℕ → List ℕ
 reached_nodes env count draw node = filter (is_reached env draw node) (node_places count)
 
-abbrev pub responding_nodes : Cells → ℕ → List ℕ → List ℕ
+abbrev pub responding_nodes : EnvCells → ℕ → List ℕ → List ℕ
 responding_nodes env node reached = filter (is_timely env node) reached

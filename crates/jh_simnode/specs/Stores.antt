@@ -23,7 +23,7 @@ use Rattle.jh_simnode.specs.Requests.{only_asks, is_read_request}
 use Rattle.jh_simnode.specs.Replicas.{version, is_lower, replica_at, got_of, first_replica}
 use Rattle.jh_simnode.specs.Effects.{effect}
 use Rattle.jh_simnode.specs.declared.effects.RequestEffect.{RequestEffect}
-use Rattle.jh_simnode.specs.Reach.{Cells, is_node_running, is_node_killed}
+use Rattle.jh_simnode.specs.Reach.{EnvCells, is_node_running, is_node_killed}
 use Rattle.jh_simnode.specs.Reach.{reached_nodes, responding_nodes}
 
 -- a reply, and the replicas after it
@@ -101,7 +101,7 @@ local_reply replicas node request =
     local_change replicas node (effect request (replica_at replicas node).contents)
 
 -- the last writer wins: a read of the own replica, or a change with a stamp
-abbrev pub lww_reply : Cells → List Replica → ℤ → ℕ → Request → ℕ → ReplyAndReplicas
+abbrev pub lww_reply : EnvCells → List Replica → ℤ → ℕ → Request → ℕ → ReplyAndReplicas
 lww_reply env replicas at node request draw =
     if is_read_request request
     then reply_alone replicas (Ok (got_of (replica_at replicas node).contents))
@@ -123,7 +123,7 @@ quorum_write replicas reached answering request =
     (effect request (replica_at replicas (newest_place replicas reached)).contents)
 
 -- the store of quorums
-abbrev pub quorum_reply : Cells → List Replica → ℕ → Request → ℕ → ReplyAndReplicas
+abbrev pub quorum_reply : EnvCells → List Replica → ℕ → Request → ℕ → ReplyAndReplicas
 quorum_reply env replicas node request draw =
     if is_read_request request then
     quorum_read replicas (responding_nodes env node (reached_nodes env (length replicas) draw node))
@@ -138,7 +138,7 @@ pub record NodeRequest : Type 0 where
   pub draw : ℕ
 
 -- what a running node does, at this time of its clock
-abbrev pub running_reply : Store → Cells → List Replica → ℤ → NodeRequest → ReplyAndReplicas
+abbrev pub running_reply : Store → EnvCells → List Replica → ℤ → NodeRequest → ReplyAndReplicas
 running_reply Quorum env replicas clock asked =
     quorum_reply env replicas asked.node asked.request asked.draw
 running_reply Lww env replicas clock asked =
@@ -146,20 +146,21 @@ running_reply Lww env replicas clock asked =
 running_reply Local env replicas clock asked = local_reply replicas asked.node asked.request
 
 -- the same, by what the node's process does
-abbrev pub reply_in : Life → Database → Cells → List Replica → ℤ → NodeRequest → ReplyAndReplicas
+abbrev pub reply_in : Life → Database → EnvCells → List Replica → ℤ → NodeRequest → ReplyAndReplicas
 reply_in Running s env replicas clock asked = running_reply s.store env replicas clock asked
 reply_in Paused s env replicas clock asked =
     reply_alone replicas (if only_asks asked.request then Fail else Info)
 reply_in Killed s env replicas clock asked = reply_alone replicas Fail
 
 -- the same, where there is such a node
-abbrev pub reply_at : Database → Cells → List Replica → NodeRequest → Option NodeCell
+abbrev pub reply_at : Database → EnvCells → List Replica → NodeRequest → Option NodeCell
     → ReplyAndReplicas
 reply_at s env replicas asked None = reply_alone replicas Fail
 reply_at s env replicas asked (Some n) = reply_in n.process s env replicas n.clock asked
 
 -- the reply of a node to a request, at this event number with this draw, and the replicas after it
-unfoldable pub reply_to : Database → Cells → List Replica → ℕ → ℕ → Request → ℕ → ReplyAndReplicas
+unfoldable pub reply_to : Database → EnvCells → List Replica → ℕ → ℕ → Request → ℕ
+    → ReplyAndReplicas
 reply_to s env replicas number node request draw =
     if is_request_of request s.workload
     then reply_at s env replicas
@@ -173,7 +174,7 @@ is_uncut (Some l) = not l.cut
 
 -- one node takes over another's replica where its own stamp is lower, both run and the link is
 -- uncut
-abbrev pub replicas_after_sending : Cells → ℕ → List Replica → ℕ → List Replica
+abbrev pub replicas_after_sending : EnvCells → ℕ → List Replica → ℕ → List Replica
 replicas_after_sending env from replicas to =
     if ((is_node_running (env.node from) && is_node_running (env.node to))
     && is_uncut (env.link from to))
@@ -181,33 +182,33 @@ replicas_after_sending env from replicas to =
     then slice_set replicas to (replica_at replicas from) else replicas
 
 -- one node sends to each in turn
-abbrev pub replicas_after_sending_all : Cells → ℕ → List Replica → ℕ → List Replica
+abbrev pub replicas_after_sending_all : EnvCells → ℕ → List Replica → ℕ → List Replica
 replicas_after_sending_all env count replicas from =
     fold (replicas_after_sending env from) replicas (node_places count)
 
 -- each node in turn sends to all, in order
-abbrev pub replicas_after_spread : Cells → ℕ → List Replica → List Replica
+abbrev pub replicas_after_spread : EnvCells → ℕ → List Replica → List Replica
 replicas_after_spread env count replicas =
     fold (replicas_after_sending_all env count) replicas (node_places count)
 
 -- the replicas after a tick
-unfoldable pub replicas_after_tick : Store → Cells → List Replica → List Replica
+unfoldable pub replicas_after_tick : Store → EnvCells → List Replica → List Replica
 replicas_after_tick Quorum env replicas = replicas
 replicas_after_tick Lww env replicas = replicas_after_spread env (length replicas) replicas
 replicas_after_tick Local env replicas = replicas
 
 -- which of so many nodes are killed
-abbrev pub killed_flags : Cells → ℕ → List Bool
+abbrev pub killed_flags : EnvCells → ℕ → List Bool
 killed_flags env count = map (λ p. is_node_killed (env.node p)) (node_places count)
 
 -- the replica of a node that is killed now and wasn't before is as at first
-abbrev pub replicas_after_kill : Database → List Bool → Cells → List Replica → ℕ → List Replica
+abbrev pub replicas_after_kill : Database → List Bool → EnvCells → List Replica → ℕ → List Replica
 replicas_after_kill s before after replicas place =
     if is_node_killed (after.node place) && not (slice_index_or before place false)
     then slice_set replicas place (first_replica s) else replicas
 
 -- the replicas after nodes were killed
-unfoldable pub replicas_after_kills : Database → List Bool → Cells → List Replica → List Replica
+unfoldable pub replicas_after_kills : Database → List Bool → EnvCells → List Replica → List Replica
 replicas_after_kills s before after replicas =
     if s.volatile
     then fold (replicas_after_kill s before after) replicas (node_places (length replicas))
