@@ -19,6 +19,10 @@ use Rattle.jh_arguments.specs.Limits.{max_candidates, max_faults, max_spread_ms}
 use Rattle.jh_settings.specs.Limits.{max_budget}
 use Rattle.jh_tasks.specs.Threads.{max_threads}
 
+-- The ranges here are those within which `clap` takes the text of an option; the ranges of the
+-- numbers that a command has stand in Commands.antt. Clause `asked` of `parse` says that arguments
+-- which `clap` takes ask for a command with such numbers.
+
 -- an option that takes one value
 abbrev pub option : Text → Rule
 option name = record (new_rule name) { long = Some name; value_names = 1 }
