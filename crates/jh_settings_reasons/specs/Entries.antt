@@ -12,7 +12,8 @@ use Rattle.jh_settings_reasons.specs.declared.key_texts.SettingsKind.{SettingsKi
 use Rattle.jh_settings_reasons.specs.declared.text.TextFault.{TextFault}
 use Rattle.jh_settings_reasons.specs.declared.schedule.EntryFault.{EntryFault}
 
--- the text of a fault; that of an error of EDN or of a step is that error's, which no clause knows
+-- The text of a fault; that of an error of EDN or of a step is that error's, which no clause knows.
+-- The numbers in a text are `max_due_at`, `max_calls` and `max_moment_ms`, as Moments.antt has them.
 abbrev pub entry_fault_text : EntryFault → Option (List ℕ)
 entry_fault_text (EntryFault.Text fault) = text_fault_text fault
 entry_fault_text EntryFault.NoPair = Some (codes "not [AT STEP]")

@@ -9,8 +9,9 @@ use jh_edn::Value;
 use jh_gen::MAX_CALLS;
 use jh_settings::MAX_DUE_AT;
 
-/// The most milliseconds at which an entry of a test is due.
-const MAX_MILLISECONDS: u32 = 86_400_000;
+/// The latest moment at which an entry of a test is due, in milliseconds: a day. Of the settings
+/// themselves it is `MAX_TIME_MS` of `jh_drive_settings`, a crate that this one does not use.
+const MAX_MOMENT_MS: u32 = 86_400_000;
 
 /// Whether an integer is from 0 to the most.
 fn is_up_to(number: i64, most: u32) -> bool
@@ -31,7 +32,7 @@ fn is_test_moment(element: &Value) -> bool
     }
     match element.elements() {
         Some([Value::Keyword(name), Value::Int(at)]) if name.as_str() == "ms" => {
-            is_up_to(*at, MAX_MILLISECONDS)
+            is_up_to(*at, MAX_MOMENT_MS)
         }
         _ => false,
     }
