@@ -1,4 +1,5 @@
--- What is known of a test at a moment. This project's own.
+-- What is known of a test at a moment. This project's own. What is said goes from the test to the
+-- adapter; what is read, or heard, is what the adapter writes.
 use Rattle.std.specs.Prelude.{ℕ, ◌+◌, ◌*◌, Bool, true, false, List, ◌∷◌, get_or, replicate}
 use Rattle.std.specs.Prelude.{Option, None, Some}
 use Rattle.std.specs.List.{list_all}
@@ -14,7 +15,8 @@ use Rattle.jh_test_parts.specs.declared.complaints.Complaint.{Complaint}
 use Rattle.jh_conversation.specs.declared.phase.Phase.{Phase}
 use Rattle.jh_test_parts.specs.declared.records.Recorded.{Recorded}
 
--- The history, and what was said since the last line was read, have the newest record first.
+-- It is a state, and not a machine by lines (the trait of jh_lines), which a conversation is. The
+-- history, and what was said since the last line was read, have the newest record first.
 pub record Machine : Type 0 where
   pub phase : Phase
   -- what gives the calls of this phase, and what will give those of *final*, where it is to come; whether

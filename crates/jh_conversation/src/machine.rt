@@ -17,6 +17,9 @@ use std::alloc::{AllocError, Global};
 use std::marker::Model;
 
 /// The machine of a test. What was said to the last line is the newest part of the history.
+///
+/// It is a state, and does not implement the trait `Machine` of `jh_lines`: a `Conversation` does,
+/// which has this with its test.
 #[derive(Drop)]
 pub struct Machine {
     pub(crate) phase: Phase,
@@ -41,7 +44,7 @@ pub struct Machine {
     pub(crate) nemesis: Nemesis,
     /// How many entries of the schedule were taken.
     pub(crate) taken: usize,
-    /// The step that is open: the adapter has not said that it is done.
+    /// The step that is open: no reply has ended it.
     pub(crate) step: Option<OpenStep>,
     /// How often a stop was read, up to twice.
     pub(crate) stops: u64,

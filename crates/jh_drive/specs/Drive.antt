@@ -1,5 +1,6 @@
--- What `jeprun drive` tells, hears and writes (this project's own): a test's conversation, all of it told
--- in time, and behind its end the report, as `run` writes one.
+-- What `jeprun drive` tells, hears and writes (this project's own): a test's conversation, all of
+-- it told in time, and behind its end the report, as `run` writes one. What is told goes from
+-- `jeprun drive` to the adapter; what is heard, replies, is what the adapter writes.
 use Rattle.std.specs.Prelude.{◌≡◌, ◌≢◌, ◌⊎◌, ◌++◌, ℕ, ℤ, Bool, true, false, List, [], Option, Some}
 use Rattle.std.specs.Prelude.{None, if◌then◌else◌, is_some, Result, Ok, Err}
 use Rattle.std.specs.Io.KnownBytes.{Appends, Consumes}

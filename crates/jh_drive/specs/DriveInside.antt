@@ -10,7 +10,9 @@ use Rattle.jh_drive.specs.Drive.{IsNotJudged, end_if_missing}
 use Rattle.jh_drive.specs.declared.error.DriveError.{DriveError}
 use Rattle.jh_drive.specs.declared.error.DriveError.TheVariants.{Mismatch, Write, OutOfMemory}
 
--- all of a report (`IsReport` of jh_reports) but its last line, each part added to those before it
+-- What is written behind a conversation, without the last line: the line of the end, where that is
+-- missing, and all of a report (`IsReport` of jh_reports) but its last line, each part added to
+-- those before it.
 abbrev pub IsFirstPart : ConversationValue → List ℕ → Type 0
 IsFirstPart c text =
     (env : EnvValue) × IsEnvOf c.machine.nemesis env

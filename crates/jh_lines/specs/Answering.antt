@@ -1,4 +1,6 @@
 -- What becomes of a machine by lines, one after another, and what it answers (this project's own).
+-- Bytes that go from the machine to its peer are said, and told when they are handed over; what the
+-- peer writes is heard, and never called said or told.
 use Rattle.std.specs.Prelude.{ℕ, List, [], ◌∷◌, ◌++◌}
 use Rattle.jh_lines.specs.Lines.{all_lines}
 

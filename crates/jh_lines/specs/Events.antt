@@ -1,5 +1,6 @@
--- What passes between a machine and its peer, and in which order (this project's own). Lists of
--- events have the newest first.
+-- What passes between a machine and its peer, and in which order (this project's own). The peer is
+-- told what the machine says, and what the peer writes is heard. Lists of events have the newest
+-- first.
 use Rattle.std.specs.Prelude.{◌≡◌, ℕ, Bool, true, false, cond, List, [], ◌∷◌, ◌++◌}
 use Rattle.std.specs.Io.{StartsWith}
 use Rattle.std.specs.declared.io.Error.{Error}

@@ -6,6 +6,9 @@ use std::alloc::AllocError;
 /// Answers lines. It adds to `out` what it says, and sees neither how the lines come nor where its
 /// answers go.
 ///
+/// The type `Machine` of `jh_conversation` is no such machine: it is the state of a test, and the
+/// `Conversation` around it implements this trait.
+///
 /// Lines that come at once with the last one that it listens to are given to it too, so it may be
 /// given lines when it listens no more.
 pub trait Machine {
