@@ -31,8 +31,9 @@ pub fn functions_of(checker: Checker) -> &'static [&'static str]
     }
 }
 
-/// Whether a record is a client's, of this kind and of a function that the checker judges. The names
-/// are those of `functions_of`, as the clause has it; they are compared one by one, without a loop.
+/// Whether a record is a client's, of this kind and of a function that the checker judges. The
+/// names are those of `functions_of`, as the clause has it; they are compared one by one, without
+/// a loop.
 pub(crate) fn is_judged(checker: Checker, kind: Kind, op: &Op) -> bool
     ensures { result ≡ rule.is_judged checker kind (operation op.now) }
 {

@@ -13,7 +13,7 @@ use Rattle.jh_settings_reasons.specs.declared.text.TextFault.{TextFault}
 use Rattle.jh_settings_reasons.specs.declared.schedule.EntryFault.{EntryFault}
 
 -- The text of a fault; that of an error of EDN or of a step is that error's, which no clause knows.
--- The numbers in a text are `max_due_at`, `max_calls` and `max_moment_ms`, as Moments.antt has them.
+-- The numbers in a text are `max_due_at`, `max_calls` and `max_moment_ms` of Moments.antt.
 abbrev pub entry_fault_text : EntryFault → Option (List ℕ)
 entry_fault_text (EntryFault.Text fault) = text_fault_text fault
 entry_fault_text EntryFault.NoPair = Some (codes "not [AT STEP]")
