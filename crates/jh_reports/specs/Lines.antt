@@ -16,7 +16,7 @@ line text = text ++ codes "\n"
 abbrev pub ids_of : Active → Edn
 ids_of active = vector_of (map (λ fault. int (pos fault.0)) active)
 
--- the ids on their line; jh_histories finds the end of a history by its first word
+-- the line of the ids, with its line feed; by its first word jh_histories finds where a history ends
 abbrev pub active_line : Active → List ℕ
 active_line active = line (codes ":active " ++ print (ids_of active))
 

@@ -25,7 +25,7 @@ pub struct Output {
     pub text: Vec<u8>,
 }
 
-/// The line of what is found in a history, with the exit status of its verdict.
+/// The line of what is found in a history, with its line feed, and the exit status of its verdict.
 ///
 /// Error: memory was refused.
 pub fn output_of_finding(alloc: Global, finding: &Finding) -> Result<Output, AllocError>
@@ -41,7 +41,8 @@ pub fn output_of_finding(alloc: Global, finding: &Finding) -> Result<Output, All
     })
 }
 
-/// Judges a history as one: the line of what is found, with the exit status of its verdict.
+/// Judges a history as one: the line of what is found, with its line feed, and the exit status of
+/// its verdict.
 ///
 /// Errors: those of `jh_checkers::check_history`, `OutOfMemory` also where the line had no room.
 pub fn judge_whole(alloc: Global, history: &[Op], judging: Judging) -> Result<Output, CheckError>
@@ -53,8 +54,8 @@ pub fn judge_whole(alloc: Global, history: &[Op], judging: Judging) -> Result<Ou
     Ok(output_of_finding(alloc, &finding)?)
 }
 
-/// Judges the history of each key, one key after another: the line of what is found of all keys, with
-/// the exit status of the verdict on them.
+/// Judges the history of each key, one key after another: the line of what is found of all keys,
+/// with its line feed, and the exit status of the verdict on them.
 ///
 /// Errors: those of `jh_independent::check_keys_serial`, `OutOfMemory` also where the line had no room.
 pub fn judge_keys(alloc: Global, history: &[Op], judging: Judging) -> Result<Output, KeysError>
@@ -67,7 +68,8 @@ pub fn judge_keys(alloc: Global, history: &[Op], judging: Judging) -> Result<Out
     Ok(output_of_keys(alloc, &found)?)
 }
 
-/// The line of what is found of all keys, with the exit status of the verdict on them.
+/// The line of what is found of all keys, with its line feed, and the exit status of the verdict on
+/// them.
 ///
 /// Error: memory was refused.
 pub fn output_of_keys(alloc: Global, found: &[KeyFinding]) -> Result<Output, AllocError>

@@ -45,7 +45,7 @@ pub fn keys_text(
     }
 }
 
-/// Writes the ids of the active faults, in order.
+/// Writes a line with the ids of the active faults, in order, with its line feed.
 pub fn write_active(
     alloc: Global,
     nemesis: &Nemesis,
@@ -79,14 +79,14 @@ fn active_ids(alloc: Global, nemesis: &Nemesis) -> Result<Value, AllocError>
     Ok(Value::Vector(Values::of(ids)))
 }
 
-/// Writes a line with an environment.
+/// Writes a line with an environment, with its line feed.
 pub fn write_environment(alloc: Global, env: &Env, output: &mut Vec<u8>) -> Result<(), AllocError>
     ensures { OnOk result (output.new.items ≡ output.old.items ++ environment_line env.now) }
 {
     write_line(&value_of_env(alloc, env)?, output)
 }
 
-/// Writes a value and a line feed.
+/// Writes a line with a value, with its line feed.
 pub fn write_line(value: &Value, output: &mut Vec<u8>) -> Result<(), AllocError>
     ensures { OnOk result (output.new.items ≡ output.old.items ++ line (print (view value.now))) }
 {

@@ -14,7 +14,7 @@ use jh_ops::{Op, write_operation};
 use std::alloc::{AllocError, Global};
 
 /// Adds what is written of a history, of the faults that are active now and what they make, and
-/// behind it a last line, which says what was found.
+/// behind it a last line, which says what was found and comes with its line feed.
 ///
 /// Error: memory was refused, and a part of it may have been added.
 pub fn write_report(
@@ -34,7 +34,7 @@ pub fn write_report(
     output.extend_from_slice(last_line)
 }
 
-/// Adds a line for each operation.
+/// Adds a line for each operation, with its line feed.
 fn write_history(history: &[Op], output: &mut Vec<u8>) -> Result<(), AllocError>
     ensures { OnOk result
         (output.new.items ≡ output.old.items ++ history_lines (operations history.now)) }
@@ -45,7 +45,7 @@ fn write_history(history: &[Op], output: &mut Vec<u8>) -> Result<(), AllocError>
     Ok(())
 }
 
-/// Adds the line of an operation.
+/// Adds the line of an operation, with its line feed.
 fn write_operation_line(op: &Op, output: &mut Vec<u8>) -> Result<(), AllocError>
     ensures { OnOk result
         (output.new.items ≡ output.old.items ++ line (print (value_written (operation op.now)))) }

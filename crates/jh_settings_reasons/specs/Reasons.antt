@@ -1,4 +1,5 @@
--- The lines behind a refusal of settings: one, and none behind out of memory (this project's own).
+-- The lines behind a refusal of settings, without their line feeds: one, and none behind out of
+-- memory (this project's own).
 use Rattle.std.specs.Prelude.{◌≡◌, ◌++◌, ℕ, List, [], ◌∷◌, codes, Option, Some, None, IfSome}
 use Rattle.std.specs.Fmt.{decimal}
 use Rattle.std.specs.Str.{IsUtf8}

@@ -93,7 +93,7 @@ fn unsuited_text(key: Key) -> &'static str
     }
 }
 
-/// Why an element is no generator, or that it is one.
+/// The line that says why an element is no generator, or that it is one, without its line feed.
 fn part_line(alloc: Global, key: Key, element: &Value) -> Result<Vec<u8>, AllocError> {
     let Some((way, part)) = bad_part(alloc, element)? else {
         return line_of(alloc, unsuited_text(key));
@@ -105,7 +105,7 @@ fn part_line(alloc: Global, key: Key, element: &Value) -> Result<Vec<u8>, AllocE
     Ok(line)
 }
 
-/// Why the value under the key of a generator is refused.
+/// The line that says why the value under the key of a generator is refused, without its line feed.
 pub(crate) fn generator_line(
     alloc: Global,
     key: Key,

@@ -22,7 +22,7 @@ pub(crate) fn add_shown<T: Display>(line: &mut Vec<u8>, shown: &T) -> Result<(),
     write!(line, "{shown}").map_err(|_| AllocError)
 }
 
-/// The line of a text.
+/// The line of a text, without its line feed.
 pub(crate) fn line_of(alloc: Global, text: &str) -> Result<Vec<u8>, AllocError>
     ensures { IfOk result (λ line. line.items ≡ text.now) }
 {

@@ -21,7 +21,7 @@ use jh_settings::{Key, SettingsError, table_of, value_under};
 use std::alloc::{AllocError, Global};
 use toml::Table;
 
-/// Why the element under `start` is no environment.
+/// The line that says why the element under `start` is no environment, without its line feed.
 fn environment_line(
     alloc: Global,
     kind: SettingsKind,
@@ -38,7 +38,7 @@ fn environment_line(
     }
 }
 
-/// Why the value under `start` is refused.
+/// The line that says why the value under `start` is refused, without its line feed.
 fn start_line(
     alloc: Global,
     kind: SettingsKind,
@@ -50,7 +50,7 @@ fn start_line(
     }
 }
 
-/// Why what stands under a key is refused.
+/// The line that says why what stands under a key is refused, without its line feed.
 fn value_line(
     alloc: Global,
     kind: SettingsKind,
@@ -72,7 +72,7 @@ fn value_line(
     }
 }
 
-/// The line of a bad value.
+/// The line of a bad value, without its line feed.
 fn bad_value_line(
     alloc: Global,
     kind: SettingsKind,
@@ -89,7 +89,7 @@ fn bad_value_line(
     }
 }
 
-/// The line of a refusal. None where memory was refused.
+/// The line of a refusal, without its line feed. None where memory was refused.
 fn reason_of(
     alloc: Global,
     kind: SettingsKind,
@@ -111,7 +111,8 @@ fn reason_of(
 }
 
 /// The lines that say where and why settings were refused, behind the line of the refusal: one, and none
-/// where memory was refused. The bytes are those that were refused, and are read again.
+/// where memory was refused. They are without their line feeds. The bytes are those that were
+/// refused, and are read again.
 ///
 /// Takes time in proportion to the bytes, and of a generator times its depth.
 ///

@@ -104,7 +104,7 @@ fn first_fault(
     Ok(None)
 }
 
-/// The line that names an entry, by its place from 0, and why it is none.
+/// The line that names an entry, by its place from 0, and why it is none, without its line feed.
 fn entry_line(alloc: Global, place: usize, fault: EntryFault) -> Result<Vec<u8>, AllocError>
     ensures { IfOk result (λ line. reasons.NamesEntry place fault line.items) }
 {
@@ -116,7 +116,8 @@ fn entry_line(alloc: Global, place: usize, fault: EntryFault) -> Result<Vec<u8>,
     Ok(line)
 }
 
-/// Why entries over these nodes are refused: the first that is none, or else what the key takes.
+/// The line that says why entries over these nodes are refused, without its line feed: the first
+/// that is none, or else what the key takes.
 fn entries_line(
     alloc: Global,
     kind: SettingsKind,
@@ -129,7 +130,7 @@ fn entries_line(
     }
 }
 
-/// Why the value under `schedule` is refused.
+/// The line that says why the value under `schedule` is refused, without its line feed.
 pub(crate) fn schedule_line(
     alloc: Global,
     kind: SettingsKind,

@@ -65,7 +65,7 @@ pub(crate) fn element_in(
     }
 }
 
-/// The line of a fault.
+/// The line of a fault, without its line feed.
 pub(crate) fn fault_line(alloc: Global, fault: TextFault) -> Result<Vec<u8>, AllocError>
     ensures { IfOk result
         (λ line. IfSome (text_fault_text fault) (λ text. line.items ≡ text)) }

@@ -30,7 +30,8 @@ fn place_behind(bytes: &[u8]) -> Place {
     place
 }
 
-/// Where and why these bytes, which are a text, are no document.
+/// The line that says where and why these bytes, which are a text, are no document, without its
+/// line feed.
 fn error_line(alloc: Global, bytes: &[u8], error: &toml::de::Error) -> Result<Vec<u8>, AllocError> {
     let mut line = Vec::new(alloc);
     if let Some(span) = error.span() {
@@ -45,7 +46,8 @@ fn error_line(alloc: Global, bytes: &[u8], error: &toml::de::Error) -> Result<Ve
     Ok(line)
 }
 
-/// Why bytes are no TOML document. None where they are one.
+/// The line that says why bytes are no TOML document, without its line feed; of bytes that are one
+/// it is `TOML`.
 pub(crate) fn toml_line(alloc: Global, bytes: &[u8]) -> Result<Vec<u8>, AllocError> {
     if std::str::from_utf8(bytes).is_err() {
         return line_of(alloc, "not UTF-8");

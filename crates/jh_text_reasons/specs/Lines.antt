@@ -1,4 +1,4 @@
--- The lines that say where an input was refused (this project's own).
+-- The lines that say where an input was refused, without their line feeds (this project's own).
 use Rattle.std.specs.Prelude.{◌≡◌, ℕ, List, ◌++◌, codes, drop, take, MatchOption}
 use Rattle.std.specs.Fmt.{decimal}
 use Rattle.jh_lexemes.specs.Lexemes.{lexeme_of}

@@ -12,7 +12,7 @@ pub(crate) const MAX_TOKEN: usize = 40;
 /// How many bytes of a reply are shown at most.
 pub(crate) const MAX_REPLY: usize = 200;
 
-/// What stands at a position.
+/// The line that says what stands at a position, without its line feed.
 pub(crate) fn at_line(alloc: Global, position: Position, shown: &str) -> Result<Vec<u8>, AllocError>
     ensures { IfOk result (λ line. line.items ≡ rule.at_line position shown.now) }
 {
@@ -21,7 +21,7 @@ pub(crate) fn at_line(alloc: Global, position: Position, shown: &str) -> Result<
     Ok(text.into_bytes())
 }
 
-/// A bracket that is not closed.
+/// The line of a bracket that is not closed, without its line feed.
 pub(crate) fn open_line(
     alloc: Global,
     which: &str,
@@ -35,7 +35,7 @@ pub(crate) fn open_line(
     Ok(text.into_bytes())
 }
 
-/// Where an element or an operation of a number begins.
+/// The line that says where an element or an operation of a number begins, without its line feed.
 pub(crate) fn element_line(
     alloc: Global,
     what: &str,
@@ -49,7 +49,7 @@ pub(crate) fn element_line(
     Ok(text.into_bytes())
 }
 
-/// A reply, as it came.
+/// The line of a reply, as it came, without its line feed.
 pub(crate) fn reply_line(alloc: Global, number: u64, shown: &str) -> Result<Vec<u8>, AllocError>
     ensures { IfOk result (λ line. line.items ≡ rule.reply_line number shown.now) }
 {

@@ -38,7 +38,7 @@ fn place_of_operation(alloc: Global, part: &str, number: usize) -> Result<Option
     }
 }
 
-/// The line with the functions of a workload.
+/// The line with the functions of a workload, without its line feed.
 fn functions_line(alloc: Global, functions: &[&str]) -> Result<Vec<u8>, AllocError> {
     let mut line = Vec::from_slice(alloc, b"the functions of the workload:")?;
     for name in functions {

@@ -4,7 +4,7 @@ use crate::lines::{MAX_REPLY, reply_line};
 use jh_one_line::shortened;
 use std::alloc::{AllocError, Global};
 
-/// The line of this number, from 1.
+/// The line of this number, from 1, without its line feed.
 fn line_at(input: &[u8], number: u64) -> Option<&[u8]> {
     let mut before = number.checked_sub(1)?;
     for line in input.split(|b| *b == b'\n') {

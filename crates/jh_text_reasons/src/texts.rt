@@ -62,7 +62,7 @@ fn bracket_at(text: &str, place: usize) -> &'static str {
     }
 }
 
-/// The line of a bracket that is open, at a place of an input.
+/// The line of a bracket that is open, at a place of an input, without its line feed.
 fn line_of_open(
     alloc: Global,
     which: &str,
