@@ -16,7 +16,7 @@ line text = text ++ codes "\n"
 abbrev pub ids_of : Active → Edn
 ids_of active = vector_of (map (λ fault. int (pos fault.0)) active)
 
--- the line of the ids, with its line feed; by its first word jh_histories finds where a history ends
+-- the line of the ids, with its line feed; jh_histories ends a history at its first word
 abbrev pub active_line : Active → List ℕ
 active_line active = line (codes ":active " ++ print (ids_of active))
 
