@@ -45,8 +45,13 @@ fn push_value(
     Ok(())
 }
 
-/// The values of these operations, in normal form and in normal order.
-pub(crate) fn sorted_values(
+/// The values of the client operations of this kind that have this function, in normal form and in
+/// normal order.
+///
+/// Errors: where memory runs out.
+///
+/// Takes O(n log n) comparisons for n operations.
+pub fn sorted_values(
     alloc: Global,
     kind: Kind,
     name: &str,
@@ -64,7 +69,11 @@ pub(crate) fn sorted_values(
 }
 
 /// The values in normal form and in normal order.
-pub(crate) fn sorted_normal(alloc: Global, items: &[Value]) -> Result<Vec<Value>, AllocError>
+///
+/// Errors: where memory runs out.
+///
+/// Takes O(n log n) comparisons for n values.
+pub fn sorted_normal(alloc: Global, items: &[Value]) -> Result<Vec<Value>, AllocError>
     ensures values { IfOk result (λ values. views values.items
         ≡ in_order is_below (map normal (views items.now))) }
     ensures ascends { IfOk result (λ values. Ascends (views values.items)) }

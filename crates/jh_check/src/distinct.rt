@@ -10,7 +10,7 @@ use std::alloc::{AllocError, Global};
 use std::cmp::Ordering;
 
 /// Whether two values in normal form are equal.
-pub(crate) fn is_same(a: &Value, b: &Value) -> bool
+pub fn is_same(a: &Value, b: &Value) -> bool
     ensures { result ≡ rule.is_same (view a.now) (view b.now) }
 {
     matches!(a.compare(b), Ordering::Equal)
@@ -28,8 +28,8 @@ pub fn is_among(values: &[Value], value: &Value) -> bool
         .is_ok()
 }
 
-/// The values, each once, where they ascend.
-pub(crate) fn distinct(values: Vec<Value>) -> Vec<Value>
+/// The values, each once, where they ascend. Takes no memory, and time linear in the values.
+pub fn distinct(values: Vec<Value>) -> Vec<Value>
     requires { Ascends (views values.items) }
     ensures values { views result.items ≡ distinct_values (views values.items) }
     ensures ascends { Ascends (views result.items) }
@@ -58,8 +58,12 @@ fn push_wanted(
     Ok(())
 }
 
-/// Copies of those that are among the others, or of those that are not.
-pub(crate) fn selected(
+/// Copies of those that are among the others, which ascend, or of those that are not.
+///
+/// Errors: where memory runs out.
+///
+/// Takes O(n log m) comparisons for n values and m others.
+pub fn selected(
     alloc: Global,
     values: &[Value],
     others: &[Value],

@@ -14,13 +14,13 @@ mod set;
 mod totals;
 mod verdict;
 
-pub use asked::in_normal_order;
+pub use asked::{in_normal_order, sorted_normal, sorted_values};
 pub use counter::{CounterResult, ReadBounds, Reads, check_counter, read_ends};
-pub use distinct::is_among;
+pub use distinct::{distinct, is_among, is_same, selected};
 pub use error::CheckError;
 pub use ids::{Duplicate, Duplicates, IdsResult, check_unique};
 pub use laws::same_values_are_equal;
-pub use lines::{write_counter, write_ids, write_set, write_verdict};
-pub use pairs::{end_of, is_ok_read};
+pub use lines::{write_count, write_counter, write_ids, write_set, write_verdict};
+pub use pairs::{asks, end_of, has_ended, is_ok_read, value_at};
 pub use set::{SetFound, SetResult, check_set, final_read};
 pub use verdict::{Verdict, merge};

@@ -84,8 +84,10 @@ pub fn write_counter<W: Write>(judged: &CounterResult, writer: &mut W) -> Result
     put(b"}", writer)
 }
 
-/// Writes a pair with a number, behind others.
-fn write_count<W: Write>(name: &str, count: usize, writer: &mut W) -> Result<(), EdnError>
+/// Writes a pair with a number, behind others: `, :NAME COUNT`.
+///
+/// Errors: `Write` where the writer failed, and no other.
+pub fn write_count<W: Write>(name: &str, count: usize, writer: &mut W) -> Result<(), EdnError>
     ensures bytes { OnOk result
         (Appends (W.contents writer.old) (W.contents writer.new)
         (behind_pair_text name.now (int (pos count)))) }

@@ -21,8 +21,9 @@ fn op_at(history: &[Op], place: usize) -> Option<&Op>
     history.get(place)
 }
 
-/// Whether what the operation asks for is the function of this name.
-fn asks(name: &str, history: &[Op], pair: Pair) -> bool
+/// Whether what the operation asks for is the function of this name. A place that the history does
+/// not have makes it none.
+pub fn asks(name: &str, history: &[Op], pair: Pair) -> bool
     ensures { result ≡ rule.asks name.now (operations history.now) pair }
 {
     match op_at(history, pair.invoke) {
@@ -32,7 +33,7 @@ fn asks(name: &str, history: &[Op], pair: Pair) -> bool
 }
 
 /// Whether the operation has an outcome of this kind.
-fn has_ended(kind: Kind, history: &[Op], pair: Pair) -> bool
+pub fn has_ended(kind: Kind, history: &[Op], pair: Pair) -> bool
     ensures { result ≡ rule.has_ended kind (operations history.now) pair }
 {
     let Some(place) = pair.outcome else {
@@ -44,8 +45,8 @@ fn has_ended(kind: Kind, history: &[Op], pair: Pair) -> bool
     }
 }
 
-/// The value at a place.
-fn value_at(history: &[Op], place: usize) -> Option<&Value>
+/// The value of the record at a place, if there is one.
+pub fn value_at(history: &[Op], place: usize) -> Option<&Value>
     ensures { option_map (λ value. view value.now) result
         ≡ rule.value_at (operations history.now) place }
 {

@@ -15,8 +15,8 @@ ghost use Rattle.jh_timeline_marks.specs.MarkedInside.{AreSorted, found_note_wit
 
 use crate::notes::{no_marks, noted, push_note};
 use crate::operations::{is_completed_at, op_at};
-use crate::values::{ends_with_one_of, has_one_of, sorted_copies, sorted_missing, sorted_values};
-use jh_check::{SetFound, final_read};
+use crate::values::{ends_with_one_of, has_one_of, sorted_copies, sorted_missing};
+use jh_check::{SetFound, final_read, sorted_values};
 use jh_edn::Value;
 use jh_ops::{Kind, Op};
 use jh_timeline::{Call, Mark, Note};

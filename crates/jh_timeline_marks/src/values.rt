@@ -1,15 +1,14 @@
 //! Values in normal order, and whether an operation or a call has one of them.
 
-ghost use Rattle.std.specs.Prelude.{◌≡◌, [], ◌∷◌, ◌++◌, not, filter, IfOk, OnOk};
+ghost use Rattle.std.specs.Prelude.{◌≡◌, not, filter, IfOk};
 ghost use Rattle.jh_edn.specs.Order.{in_order, is_below};
 ghost use Rattle.jh_edn.specs.View.{view, views};
 ghost use Rattle.jh_ops.specs.Operation.{operation, operations};
-ghost use Rattle.jh_check.specs.Asked.{values_of};
 ghost use Rattle.jh_check.specs.Distinct.{Ascends, has_same_value};
 ghost use Rattle.jh_timeline_marks.specs.Marked as rule;
 
 use crate::operations::completion_of;
-use jh_check::{in_normal_order, is_among};
+use jh_check::{in_normal_order, is_among, selected};
 use jh_edn::Value;
 use jh_ops::{Kind, Op};
 use jh_timeline::Call;
@@ -28,23 +27,6 @@ pub(crate) fn sorted_copies(alloc: Global, values: &[Value]) -> Result<Vec<Value
     in_normal_order(copies)
 }
 
-/// Puts a copy of a value last, unless it is one of these, which ascend.
-fn push_missing(
-    alloc: Global,
-    value: &Value,
-    others: &[Value],
-    missing: &mut Vec<Value>,
-) -> Result<(), AllocError>
-    requires { Ascends (views others.now) }
-    ensures { OnOk result (views missing.new.items ≡ views missing.old.items
-        ++ filter (λ x. not (has_same_value (views others.now) x)) (view value.now ∷ [])) }
-{
-    if !is_among(others, value) {
-        missing.push(value.copy(alloc)?)?;
-    }
-    Ok(())
-}
-
 /// Copies of the values that are none of these others, which ascend, in normal order.
 pub(crate) fn sorted_missing(
     alloc: Global,
@@ -56,46 +38,8 @@ pub(crate) fn sorted_missing(
         (filter (λ x. not (has_same_value (views others.now) x)) (views values.now))) }
     ensures ascends { IfOk result (λ missing. Ascends (views missing.items)) }
 {
-    let mut missing = Vec::new(alloc);
-    for value in values {
-        push_missing(alloc, value, others, &mut missing)?;
-    }
+    let missing = selected(alloc, values, others, false)?;
     in_normal_order(missing)
-}
-
-/// Puts the value of an operation last, in normal form, where it is of this kind and function.
-fn push_value(
-    alloc: Global,
-    kind: Kind,
-    name: &str,
-    op: &Op,
-    values: &mut Vec<Value>,
-) -> Result<(), AllocError>
-    ensures { OnOk result (views values.new.items
-        ≡ views values.old.items ++ values_of kind name.now (operation op.now ∷ [])) }
-{
-    if op.is_asked(kind, name) {
-        values.push(op.value.normal(alloc)?)?;
-    }
-    Ok(())
-}
-
-/// The values of clients' operations of this kind and function, in normal form and in normal order.
-pub(crate) fn sorted_values(
-    alloc: Global,
-    kind: Kind,
-    name: &str,
-    history: &[Op],
-) -> Result<Vec<Value>, AllocError>
-    ensures order { IfOk result (λ values. views values.items
-        ≡ in_order is_below (values_of kind name.now (operations history.now))) }
-    ensures ascends { IfOk result (λ values. Ascends (views values.items)) }
-{
-    let mut values = Vec::new(alloc);
-    for op in history {
-        push_value(alloc, kind, name, op, &mut values)?;
-    }
-    in_normal_order(values)
 }
 
 /// Whether a client's operation of this kind and function has one of these values, which ascend.

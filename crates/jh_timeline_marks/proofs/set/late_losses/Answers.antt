@@ -15,7 +15,7 @@ returns-clause-order c =
     let history = c.args.history.now in
     let records = ap operations (c.records_before.ensures ∙ ap (λ read. option_map_or (λ place. take place history) read history) c.requires)
     ∙ before_same history (final_read (operations history)) in
-    let acknowledged = ap views c.deref.ensures.value ∙ c.in_ok-acknowledged.ensures.order ∙ ap (λ ops. in_order is_below (values_of Kind.Ok (codes "add") ops)) records in
+    let acknowledged = ap views c.deref.ensures.value ∙ c.in_ok-acknowledged.ensures.values ∙ ap (λ ops. in_order is_below (values_of Kind.Ok (codes "add") ops)) records in
     subst (λ late. IfOk c.sorted_missing.result (λ kept. views kept.items ≡ in_order is_below late))
     (late_are (views c.as_slice.result.now) (views c.deref.result.now) c.args.found.now (operations history) c.as_slice.ensures acknowledged)
     c.sorted_missing.ensures.order
