@@ -16,7 +16,7 @@ mod verdict;
 
 pub use asked::{in_normal_order, sorted_normal, sorted_values};
 pub use counter::{CounterResult, ReadBounds, Reads, check_counter, read_ends};
-pub use distinct::{distinct, is_among, is_same, selected};
+pub use distinct::{is_among, is_same, selected};
 pub use error::CheckError;
 pub use ids::{Duplicate, Duplicates, IdsResult, check_unique};
 pub use laws::same_values_are_equal;
