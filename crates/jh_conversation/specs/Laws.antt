@@ -54,10 +54,11 @@ pub record Drivers (t : TestValue) : Type 0 where
   pub final_calls : Option DriverState
   pub is_final : IsFinalDriver t t.final_calls final_calls
 
--- the machine after these lines
+-- the machine behind its first turn
 abbrev pub start : (t : TestValue) → Drivers t → Machine
 start t d = turn t (at_first t d.first d.final_calls (first_state t.start))
 
+-- the machine after these lines
 abbrev pub run : (t : TestValue) → Drivers t → List (List ℕ) → Machine
 run t d lines = after_lines (take_line t) (start t d) lines
 

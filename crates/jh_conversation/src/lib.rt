@@ -1,5 +1,5 @@
 //! A test of a real database as a conversation: what is said behind each line that is read, and what
-//! holds of it. Small programs that alone touch machines hold the other side.
+//! holds of it. An adapter, a program of the user's, holds the other side.
 #![tactic(auto)]
 
 mod callers;

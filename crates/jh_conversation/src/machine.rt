@@ -46,7 +46,7 @@ pub struct Machine {
     pub(crate) taken: usize,
     /// The step that is open: no reply has ended it.
     pub(crate) step: Option<OpenStep>,
-    /// How often a stop was read, up to twice.
+    /// How far calls are stopped: 0 not, 1 those of *main*, 2 all.
     pub(crate) stops: u64,
     /// The greatest time that was read, and that at which *rest* began, in nanoseconds.
     pub(crate) clock: u64,

@@ -256,13 +256,18 @@ impl Machine {
         })
     }
 
-    /// Takes in what a line says.
-    fn take_in(&mut self, alloc: Global, test: &Test, said: LineMeaning) -> Result<(), AllocError>
+    /// Takes in what a line that was heard means.
+    fn take_in(
+        &mut self,
+        alloc: Global,
+        test: &Test,
+        meaning: LineMeaning,
+    ) -> Result<(), AllocError>
         requires sound { IsSoundMachine test.now self.old }
         requires silent { self.old.said ≡ [] }
-        ensures { OnOk result (self.new ≡ rule.take_in test.now (line_meaning_by said) self.old) }
+        ensures { OnOk result (self.new ≡ rule.take_in test.now (line_meaning_by meaning) self.old) }
     {
-        match said {
+        match meaning {
             LineMeaning::Nothing => Ok(()),
             LineMeaning::Clock(time) => {
                 self.at_time(Some(time));
@@ -323,8 +328,8 @@ impl Machine {
         if self.is_over() {
             return Ok(());
         }
-        let said = line_meaning(alloc, line)?;
-        self.take_in(alloc, test, said)?;
+        let meaning = line_meaning(alloc, line)?;
+        self.take_in(alloc, test, meaning)?;
         self.turn(alloc, test)
     }
 }
