@@ -1,4 +1,4 @@
-//! The parts of a conversation. `specs/Test.antt` and `specs/Machine.antt` say what they are for.
+//! The parts of what a test is set to. `specs/Test.antt` says what they are for.
 
 use jh_nemesis::Step;
 
