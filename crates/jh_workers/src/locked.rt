@@ -1,5 +1,7 @@
 //! A world behind a lock. Each thread that calls it counts its accepted calls in a share, and all
 //! shares together count the journal.
+//!
+//! A part is std's `Share` of the ledger; a share is a part with its count.
 
 ghost use Rattle.std.specs.Prelude.{◌≡◌, ◌+◌, ◌<◌, [], length, sum_by, IfOk, IfSome, OnOk, OnErr};
 ghost use Rattle.std.specs.Prelude.{◌≤◌, MatchResult, IsSome, ⊤};

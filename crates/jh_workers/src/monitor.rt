@@ -251,6 +251,10 @@ impl RunState {
     }
 
     /// Whether the driver has nothing more for any thread, and none has an operation outstanding.
+    ///
+    /// The generator is for clients alone (`driver_of`), so asking for the nemesis takes no call:
+    /// `Done` says that all is spent; then asking a client takes none either, and says only whether
+    /// it is busy.
     fn have_clients_ended(&mut self) -> bool
         ensures { self.new.error ≡ self.old.error }
     {
