@@ -13,7 +13,7 @@ use crate::error::CheckError;
 use jh_edn::Value;
 use jh_ops::{Kind, Op, Pair};
 
-/// The operation at a place, if there is one.
+/// The record at a place, if there is one.
 fn op_at(history: &[Op], place: usize) -> Option<&Op>
     ensures { option_map (λ op. operation op.now) result
         ≡ slice_get (operations history.now) place }
@@ -53,7 +53,8 @@ pub fn value_at(history: &[Op], place: usize) -> Option<&Value>
     Some(&op_at(history, place)?.value)
 }
 
-/// The place of an operation's outcome, or where there is none that of its invocation.
+/// The place of an operation's outcome, or where there is none that of its invocation. For a
+/// register, `op_end` of `jh_linear` puts the end behind all others there.
 pub fn end_of(pair: Pair) -> usize
     ensures { result ≡ rule.end_place pair }
 {

@@ -10,7 +10,7 @@ ghost use Rattle.jh_check.specs.Verdicts.{is_false, is_unknown, merged_verdict};
 pub enum Verdict {
     /// Nothing speaks against it.
     True,
-    /// It does not hold what the checker needs for an answer.
+    /// The checker has no answer: the history lacks what it needs, or its budget was used up.
     Unknown,
     /// It shows that the database is wrong.
     False,
