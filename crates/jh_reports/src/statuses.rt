@@ -12,7 +12,7 @@ pub const DONE: u8 = 0;
 /// Exit status where a history is not valid, or a run fails.
 pub const INVALID: u8 = 1;
 
-/// Exit status where it is not known whether one does.
+/// Exit status where it is not known whether the history is valid, or the run fails.
 pub const UNKNOWN: u8 = 2;
 
 /// Exit status where the arguments or the input are refused.
