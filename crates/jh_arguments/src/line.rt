@@ -431,7 +431,7 @@ fn threads_option<'a>(alloc: Global) -> Arg<'a>
     number_option(alloc, "threads", "How many threads judge keys", parser, "1")
 }
 
-/// How many calls that ended `:ok` a valid history has at least: a number of `u64`.
+/// How many operations that ended `:ok` a valid history has at least: a number of `u64`.
 fn at_least_option<'a>(alloc: Global) -> Arg<'a>
     ensures rule { rule_of result ≡ text.given_number (codes "at-least") }
     ensures local { result.global ≡ false }
@@ -444,7 +444,7 @@ fn at_least_option<'a>(alloc: Global) -> Arg<'a>
     )
 }
 
-/// Whether keys that can't be read are left out.
+/// Whether pairs of an operation's map that can't be read are left out.
 fn skip_unread_option<'a>(alloc: Global) -> Arg<'a>
     ensures rule { rule_of result ≡ text.skip_unread }
     ensures local { result.global ≡ false }
