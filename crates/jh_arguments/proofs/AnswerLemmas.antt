@@ -37,7 +37,7 @@ asked_test_by arguments matches path (app, line, fault, rows, found) asks = (app
 -- what `do_command` says of the options of a command
 pub record SaysOfOptions {R : Type 0} (command : Command) (r : Result ℕ CliError) (old new : R) : Type 0 where
   pub options : (error : CliError) → IsOfOptions command error → IsErrOf r error ↔ RefusesOptions command error
-  pub unread : (error : CliError) → IsOfOptions command error → IsErrOf r error → new ≡ old
+  pub reader_kept : (error : CliError) → IsOfOptions command error → IsErrOf r error → new ≡ old
 
 -- options that are refused are refused so
 refused_so : {R : Type 0} (command : Command) (r : Result ℕ CliError) (old new : R) → SaysOfOptions command r old new → (refusal : CliError) → RefusesOptions command refusal → IsErrOf r refusal
@@ -46,7 +46,7 @@ refused_so command r old new says refusal refuses = (says.options refusal (is_of
 -- and one that is of the options comes of them, with nothing read
 of_options : {R : Type 0} (command : Command) (r : Result ℕ CliError) (old new : R) → SaysOfOptions command r old new → (e : CliError) → IsErrOf r e → IsOfOptions command e
     → RefusesOptions command e × (new ≡ old)
-of_options command r old new says e is of = ((says.options e of).0 is, says.unread e of is)
+of_options command r old new says e is of = ((says.options e of).0 is, says.reader_kept e of is)
 
 the_same : (e refusal : CliError) → ◌≡◌ {A = Result ℕ CliError} (Err e) (Err refusal) → e ≡ refusal
 the_same e refusal both = cc
@@ -73,12 +73,12 @@ pub record Ends {R W : Type 0} (arguments : List Text) (input rest before after 
     (r : Result ℕ Refusal) : Type 0 where
   pub done : IfOk r (λ status. IsCommandDone arguments input before after status ⊎ IsConductedTo arguments input rest before after status)
   pub refused : (error : Error) → IsErrOf r (Refusals.Arguments error) → IsRefused arguments error
-  pub unread : (error : Error) → IsErrOf r (Refusals.Arguments error) → reader_new ≡ reader_old
+  pub reader_kept : (error : Error) → IsErrOf r (Refusals.Arguments error) → reader_new ≡ reader_old
   pub unwritten : (error : Error) → IsErrOf r (Refusals.Arguments error) → writer_new ≡ writer_old
   pub failed : (error : CliError) → IsErrOf r (Refusals.Command error) → IsFailed arguments input reader_old reader_new error
   pub failed_unwritten : (error : CliError) → IsErrOf r (Refusals.Command error) → error ≢ Write → writer_new ≡ writer_old
   pub unscheduled : (error : CliError) → IsErrOf r (Refusals.Schedule error) → HasNoSteps arguments error
-  pub unscheduled_unread : (error : CliError) → IsErrOf r (Refusals.Schedule error) → reader_new ≡ reader_old
+  pub unscheduled_reader_kept : (error : CliError) → IsErrOf r (Refusals.Schedule error) → reader_new ≡ reader_old
   pub unscheduled_unwritten : (error : CliError) → IsErrOf r (Refusals.Schedule error) → writer_new ≡ writer_old
   pub unfinished : (error : DriveError) → IsErrOf r (Refusals.Test error)
       → IsUnfinished arguments input rest before after reader_old reader_new writer_old writer_new error
@@ -98,30 +98,30 @@ the_test x y e = cc
 
 module _ {R W : Type 0} (arguments : List Text) (input rest before after : Option (List ℕ)) (ro rn : R) (wo wn : W) where
   pub refused_ends : (error : Error) → IsRefused arguments error → rn ≡ ro → wn ≡ wo → Ends arguments input rest before after ro rn wo wn (Err (Refusals.Arguments error))
-  refused_ends error refused unread unwritten = record {
+  refused_ends error refused reader_kept unwritten = record {
     done = tt;
     refused = λ other is. subst (IsRefused arguments) (the_arguments error other is) refused;
-    unread = λ other is. unread;
+    reader_kept = λ other is. reader_kept;
     unwritten = λ other is. unwritten;
     failed = λ other is. absurd (let bad : Err (Refusals.Arguments error) ≡ Err (Refusals.Command other) = is in cc);
     failed_unwritten = λ other is. absurd (let bad : Err (Refusals.Arguments error) ≡ Err (Refusals.Command other) = is in cc);
     unscheduled = λ other is. absurd (let bad : Err (Refusals.Arguments error) ≡ Err (Refusals.Schedule other) = is in cc);
-    unscheduled_unread = λ other is. absurd (let bad : Err (Refusals.Arguments error) ≡ Err (Refusals.Schedule other) = is in cc);
+    unscheduled_reader_kept = λ other is. absurd (let bad : Err (Refusals.Arguments error) ≡ Err (Refusals.Schedule other) = is in cc);
     unscheduled_unwritten = λ other is. absurd (let bad : Err (Refusals.Arguments error) ≡ Err (Refusals.Schedule other) = is in cc);
     unfinished = λ other is. absurd (let bad : Err (Refusals.Arguments error) ≡ Err (Refusals.Test other) = is in cc);
   }
 
   -- the steps of a page can't be had
   pub unscheduled_ends : (error : CliError) → HasNoSteps arguments error → rn ≡ ro → wn ≡ wo → Ends arguments input rest before after ro rn wo wn (Err (Refusals.Schedule error))
-  unscheduled_ends error none unread unwritten = record {
+  unscheduled_ends error none reader_kept unwritten = record {
     done = tt;
     refused = λ other is. absurd (let bad : Err (Refusals.Schedule error) ≡ Err (Refusals.Arguments other) = is in cc);
-    unread = λ other is. absurd (let bad : Err (Refusals.Schedule error) ≡ Err (Refusals.Arguments other) = is in cc);
+    reader_kept = λ other is. absurd (let bad : Err (Refusals.Schedule error) ≡ Err (Refusals.Arguments other) = is in cc);
     unwritten = λ other is. absurd (let bad : Err (Refusals.Schedule error) ≡ Err (Refusals.Arguments other) = is in cc);
     failed = λ other is. absurd (let bad : Err (Refusals.Schedule error) ≡ Err (Refusals.Command other) = is in cc);
     failed_unwritten = λ other is. absurd (let bad : Err (Refusals.Schedule error) ≡ Err (Refusals.Command other) = is in cc);
     unscheduled = λ other is. subst (HasNoSteps arguments) (the_schedule error other is) none;
-    unscheduled_unread = λ other is. unread;
+    unscheduled_reader_kept = λ other is. reader_kept;
     unscheduled_unwritten = λ other is. unwritten;
     unfinished = λ other is. absurd (let bad : Err (Refusals.Schedule error) ≡ Err (Refusals.Test other) = is in cc);
   }
@@ -134,24 +134,24 @@ module _ {R W : Type 0} (arguments : List Text) (input rest before after : Optio
   command_ends command steps (Ok status) asked says written refused unwritten = record {
     done = inl (record { command = command; steps = steps; asked = asked; options = options_taken command status ro rn says; written = written });
     refused = λ other is. absurd (let bad : Ok status ≡ Err (Refusals.Arguments other) = is in cc);
-    unread = λ other is. absurd (let bad : Ok status ≡ Err (Refusals.Arguments other) = is in cc);
+    reader_kept = λ other is. absurd (let bad : Ok status ≡ Err (Refusals.Arguments other) = is in cc);
     unwritten = λ other is. absurd (let bad : Ok status ≡ Err (Refusals.Arguments other) = is in cc);
     failed = λ other is. absurd (let bad : Ok status ≡ Err (Refusals.Command other) = is in cc);
     failed_unwritten = λ other is. absurd (let bad : Ok status ≡ Err (Refusals.Command other) = is in cc);
     unscheduled = λ other is. absurd (let bad : Ok status ≡ Err (Refusals.Schedule other) = is in cc);
-    unscheduled_unread = λ other is. absurd (let bad : Ok status ≡ Err (Refusals.Schedule other) = is in cc);
+    unscheduled_reader_kept = λ other is. absurd (let bad : Ok status ≡ Err (Refusals.Schedule other) = is in cc);
     unscheduled_unwritten = λ other is. absurd (let bad : Ok status ≡ Err (Refusals.Schedule other) = is in cc);
     unfinished = λ other is. absurd (let bad : Ok status ≡ Err (Refusals.Test other) = is in cc);
   }
   command_ends command steps (Err error) asked says written refused unwritten = record {
     done = tt;
     refused = λ other is. absurd (let bad : Err (Refusals.Command error) ≡ Err (Refusals.Arguments other) = is in cc);
-    unread = λ other is. absurd (let bad : Err (Refusals.Command error) ≡ Err (Refusals.Arguments other) = is in cc);
+    reader_kept = λ other is. absurd (let bad : Err (Refusals.Command error) ≡ Err (Refusals.Arguments other) = is in cc);
     unwritten = λ other is. absurd (let bad : Err (Refusals.Command error) ≡ Err (Refusals.Arguments other) = is in cc);
     failed = λ other is. subst (IsFailed arguments input ro rn) (the_command error other is) (ended_so arguments command input ro rn error steps asked says refused);
     failed_unwritten = λ other is differs. unwritten (λ same. differs (sym (the_command error other is) ∙ same));
     unscheduled = λ other is. absurd (let bad : Err (Refusals.Command error) ≡ Err (Refusals.Schedule other) = is in cc);
-    unscheduled_unread = λ other is. absurd (let bad : Err (Refusals.Command error) ≡ Err (Refusals.Schedule other) = is in cc);
+    unscheduled_reader_kept = λ other is. absurd (let bad : Err (Refusals.Command error) ≡ Err (Refusals.Schedule other) = is in cc);
     unscheduled_unwritten = λ other is. absurd (let bad : Err (Refusals.Command error) ≡ Err (Refusals.Schedule other) = is in cc);
     unfinished = λ other is. absurd (let bad : Err (Refusals.Command error) ≡ Err (Refusals.Test other) = is in cc);
   }
@@ -161,15 +161,15 @@ module _ {R W : Type 0} (arguments : List Text) (input rest before after : Optio
       → (IsErrAnd r IsFileUnread × (rn ≡ ro) × (wn ≡ wo)) ⊎ ((settings : List ℕ) × IsDriven settings input rest before after r)
       → ((error : SettingsError) → IsErrOf r (Settings error) → (rn ≡ ro) × (wn ≡ wo))
       → Ends arguments input rest before after ro rn wo wn (of_test r)
-  test_ends path (Ok status) asked ended unread = record {
+  test_ends path (Ok status) asked ended streams_kept = record {
     done = inr (conducted ended);
     refused = λ other is. absurd (let bad : Ok status ≡ Err (Refusals.Arguments other) = is in cc);
-    unread = λ other is. absurd (let bad : Ok status ≡ Err (Refusals.Arguments other) = is in cc);
+    reader_kept = λ other is. absurd (let bad : Ok status ≡ Err (Refusals.Arguments other) = is in cc);
     unwritten = λ other is. absurd (let bad : Ok status ≡ Err (Refusals.Arguments other) = is in cc);
     failed = λ other is. absurd (let bad : Ok status ≡ Err (Refusals.Command other) = is in cc);
     failed_unwritten = λ other is. absurd (let bad : Ok status ≡ Err (Refusals.Command other) = is in cc);
     unscheduled = λ other is. absurd (let bad : Ok status ≡ Err (Refusals.Schedule other) = is in cc);
-    unscheduled_unread = λ other is. absurd (let bad : Ok status ≡ Err (Refusals.Schedule other) = is in cc);
+    unscheduled_reader_kept = λ other is. absurd (let bad : Ok status ≡ Err (Refusals.Schedule other) = is in cc);
     unscheduled_unwritten = λ other is. absurd (let bad : Ok status ≡ Err (Refusals.Schedule other) = is in cc);
     unfinished = λ other is. absurd (let bad : Ok status ≡ Err (Refusals.Test other) = is in cc);
   }
@@ -177,18 +177,18 @@ module _ {R W : Type 0} (arguments : List Text) (input rest before after : Optio
       conducted : (⊥ × (rn ≡ ro) × (wn ≡ wo)) ⊎ ((settings : List ℕ) × IsDriven settings input rest before after (Ok status)) → IsConductedTo arguments input rest before after status
       conducted (inl none) = absurd none.0
       conducted (inr (settings, driven)) = record { path = path; asked = asked; settings = settings; driven = driven }
-  test_ends path (Err error) asked ended unread = record {
+  test_ends path (Err error) asked ended streams_kept = record {
     done = tt;
     refused = λ other is. absurd (let bad : Err (Refusals.Test error) ≡ Err (Refusals.Arguments other) = is in cc);
-    unread = λ other is. absurd (let bad : Err (Refusals.Test error) ≡ Err (Refusals.Arguments other) = is in cc);
+    reader_kept = λ other is. absurd (let bad : Err (Refusals.Test error) ≡ Err (Refusals.Arguments other) = is in cc);
     unwritten = λ other is. absurd (let bad : Err (Refusals.Test error) ≡ Err (Refusals.Arguments other) = is in cc);
     failed = λ other is. absurd (let bad : Err (Refusals.Test error) ≡ Err (Refusals.Command other) = is in cc);
     failed_unwritten = λ other is. absurd (let bad : Err (Refusals.Test error) ≡ Err (Refusals.Command other) = is in cc);
     unscheduled = λ other is. absurd (let bad : Err (Refusals.Test error) ≡ Err (Refusals.Schedule other) = is in cc);
-    unscheduled_unread = λ other is. absurd (let bad : Err (Refusals.Test error) ≡ Err (Refusals.Schedule other) = is in cc);
+    unscheduled_reader_kept = λ other is. absurd (let bad : Err (Refusals.Test error) ≡ Err (Refusals.Schedule other) = is in cc);
     unscheduled_unwritten = λ other is. absurd (let bad : Err (Refusals.Test error) ≡ Err (Refusals.Schedule other) = is in cc);
     unfinished = λ other is. subst (IsUnfinished arguments input rest before after ro rn wo wn) (the_test error other is)
-        (record { path = path; asked = asked; why = ended; unread = λ settings is_so. unread settings (ap Err is_so) });
+        (record { path = path; asked = asked; why = ended; streams_kept = λ settings is_so. streams_kept settings (ap Err is_so) });
   }
 
 -- a test whose settings are refused leaves all as it was

@@ -27,11 +27,11 @@ check_options question r initial model OnlyForRegister of = initial
 check_options question r initial model OnlyForListAppend of = model
 check_options question r initial model _ of = absurd of
 
-pub check_unread : {R : Type 0} (question : CheckQuestion) (r : Result ℕ CliError) (old new : R) → (IsErrOf r OnlyForRegister → new ≡ old) → (IsErrOf r OnlyForListAppend → new ≡ old)
+pub check_reader_kept : {R : Type 0} (question : CheckQuestion) (r : Result ℕ CliError) (old new : R) → (IsErrOf r OnlyForRegister → new ≡ old) → (IsErrOf r OnlyForListAppend → new ≡ old)
     → (e : CliError) → IsOfOptions (Check question) e → IsErrOf r e → new ≡ old
-check_unread question r old new initial model OnlyForRegister of = initial
-check_unread question r old new initial model OnlyForListAppend of = model
-check_unread question r old new initial model _ of = absurd of
+check_reader_kept question r old new initial model OnlyForRegister of = initial
+check_reader_kept question r old new initial model OnlyForListAppend of = model
+check_reader_kept question r old new initial model _ of = absurd of
 
 pub timeline_options : (question : TimelineQuestion) (r : Result ℕ CliError) → IsErrOf r OnlyForRegister ↔ RefusesJudgingOptions question.judging OnlyForRegister
     → IsErrOf r OnlyForListAppend ↔ RefusesJudgingOptions question.judging OnlyForListAppend
@@ -40,18 +40,18 @@ timeline_options question r initial model OnlyForRegister of = initial
 timeline_options question r initial model OnlyForListAppend of = model
 timeline_options question r initial model _ of = absurd of
 
-pub timeline_unread : {R : Type 0} (question : TimelineQuestion) (r : Result ℕ CliError) (old new : R) → (IsErrOf r OnlyForRegister → new ≡ old) → (IsErrOf r OnlyForListAppend → new ≡ old)
+pub timeline_reader_kept : {R : Type 0} (question : TimelineQuestion) (r : Result ℕ CliError) (old new : R) → (IsErrOf r OnlyForRegister → new ≡ old) → (IsErrOf r OnlyForListAppend → new ≡ old)
     → (e : CliError) → IsOfOptions (Timeline question) e → IsErrOf r e → new ≡ old
-timeline_unread question r old new initial model OnlyForRegister of = initial
-timeline_unread question r old new initial model OnlyForListAppend of = model
-timeline_unread question r old new initial model _ of = absurd of
+timeline_reader_kept question r old new initial model OnlyForRegister of = initial
+timeline_reader_kept question r old new initial model OnlyForListAppend of = model
+timeline_reader_kept question r old new initial model _ of = absurd of
 
 pub search_options : (question : SearchQuestion) (r : Result ℕ CliError) → IsErrOf r BadPalette ↔ (question.palette ≡ None)
     → (e : CliError) → IsOfOptions (Search question) e → IsErrOf r e ↔ RefusesOptions (Search question) e
 search_options question r palette BadPalette of = palette
 search_options question r palette _ of = absurd of
 
-pub search_unread : {R : Type 0} (question : SearchQuestion) (r : Result ℕ CliError) (old new : R) → (IsErrOf r BadPalette → new ≡ old)
+pub search_reader_kept : {R : Type 0} (question : SearchQuestion) (r : Result ℕ CliError) (old new : R) → (IsErrOf r BadPalette → new ≡ old)
     → (e : CliError) → IsOfOptions (Search question) e → IsErrOf r e → new ≡ old
-search_unread question r old new palette BadPalette of = palette
-search_unread question r old new palette _ of = absurd of
+search_reader_kept question r old new palette BadPalette of = palette
+search_reader_kept question r old new palette _ of = absurd of

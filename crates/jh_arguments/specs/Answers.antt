@@ -121,5 +121,5 @@ pub record IsUnfinished {R W : Type 0} (arguments : List Text)
   pub asked : ArgumentsAskForTest arguments path
   pub why : (IsFileUnread e × (reader_new ≡ reader_old) × (writer_new ≡ writer_old))
       ⊎ ((settings : List ℕ) × IsDriven settings input rest before after (Err e))
-  pub unread : (error : SettingsError) → e ≡ Settings error
+  pub streams_kept : (error : SettingsError) → e ≡ Settings error
       → (reader_new ≡ reader_old) × (writer_new ≡ writer_old)

@@ -76,7 +76,7 @@ where
         ⊎ ((settings : List ℕ) × IsDriven settings
         (R.remaining streams.old.reader) (R.remaining streams.new.reader)
         (W.contents streams.old.writer) (W.contents streams.new.writer) result) }
-    ensures unread { (error : SettingsError) → IsErrOf result (DriveErrors.Settings error)
+    ensures streams_kept { (error : SettingsError) → IsErrOf result (DriveErrors.Settings error)
         → (streams.new.reader ≡ streams.old.reader) × (streams.new.writer ≡ streams.old.writer) }
 {
     let settings = match fs::read(rt, path) {
@@ -176,7 +176,7 @@ where
         (W.contents streams.old.writer) (W.contents streams.new.writer) status) }
     ensures refused { (error : Error) → IsErrOf result (Refusals.Arguments error)
         → IsRefused (map S.text arguments.now) error }
-    ensures unread { (error : Error) → IsErrOf result (Refusals.Arguments error)
+    ensures reader_kept { (error : Error) → IsErrOf result (Refusals.Arguments error)
         → streams.new.reader ≡ streams.old.reader }
     ensures unwritten { (error : Error) → IsErrOf result (Refusals.Arguments error)
         → streams.new.writer ≡ streams.old.writer }
@@ -186,8 +186,8 @@ where
         → error ≢ CliErrors.Write → streams.new.writer ≡ streams.old.writer }
     ensures unscheduled { (error : CliErrorData) → IsErrOf result (Refusals.Schedule error)
         → HasNoSteps (map S.text arguments.now) error }
-    ensures unscheduled_unread { (error : CliErrorData) → IsErrOf result (Refusals.Schedule error)
-        → streams.new.reader ≡ streams.old.reader }
+    ensures unscheduled_reader_kept { (error : CliErrorData)
+        → IsErrOf result (Refusals.Schedule error) → streams.new.reader ≡ streams.old.reader }
     ensures unscheduled_unwritten { (error : CliErrorData)
         → IsErrOf result (Refusals.Schedule error) → streams.new.writer ≡ streams.old.writer }
     ensures unfinished { (error : DriveErrorData) → IsErrOf result (Refusals.Test error)

@@ -364,7 +364,7 @@ where
         (IsOutputOf command (views steps.now)) status (W.contents writer.old) (W.contents writer.new)) }
     ensures options { (error : CliErrorData) → IsOfOptions command error
         → IsErrOf result error ↔ RefusesOptions command error }
-    ensures unread { (error : CliErrorData) → IsOfOptions command error → IsErrOf result error
+    ensures reader_kept { (error : CliErrorData) → IsOfOptions command error → IsErrOf result error
         → reader.new ≡ reader.old }
     ensures refused { IfErr result (λ e. OnInput (R.remaining reader.old)
         (λ input. RefusesCommand command (views steps.now) input e)) }

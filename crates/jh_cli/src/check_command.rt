@@ -33,19 +33,20 @@ use std::thread::Threads;
 #[derive(Clone, Copy, Debug, PartialEq, Eq)]
 pub struct CheckQuestion {
     pub judging: Judging,
-    /// Whether each key is judged by itself.
+    /// Whether each key of independent operations is judged by itself.
     pub independent: bool,
     /// By how many threads keys are judged, from 1 to 16.
     pub threads: u32,
     /// A history with fewer operations that ended `:ok` is not called valid; counted are those of
     /// clients, of the functions that the checker judges, in all keys. None: any number is enough.
     pub at_least: Option<usize>,
-    /// Whether keys that no checker reads are left out where they can't be read.
+    /// Whether pairs of an operation's map that no checker reads are left out where they can't be
+    /// read.
     pub skips_unread: bool,
 }
 
 /// Reads a history as `jh_histories::read_history_and_rest` does, also out of what `run` or `drive`
-/// printed, without its unread keys where that is asked for, judges it as
+/// printed, without its unread pairs where that is asked for, judges it as
 /// `jh_checkers::check_history` does, and writes one line with what is found. The answer is the exit
 /// status: 0 where the history is valid, 1 where it is not, 2 where that is not known. All is read
 /// and judged before the first byte is written.
@@ -76,10 +77,11 @@ pub fn check_run<T: Threads + Wait + Sync, R: Read, W: Write, O: HistoryObserver
         (IsCheckTextOf question) status (W.contents writer.old) (W.contents writer.new)) }
     ensures asked { IsErrOf result CliError.OnlyForRegister
         ↔ RefusesJudgingOptions (Some question.judging) CliError.OnlyForRegister }
-    ensures unread { IsErrOf result CliError.OnlyForRegister → reader.new ≡ reader.old }
+    ensures reader_kept { IsErrOf result CliError.OnlyForRegister → reader.new ≡ reader.old }
     ensures asked_model { IsErrOf result CliError.OnlyForListAppend
         ↔ RefusesJudgingOptions (Some question.judging) CliError.OnlyForListAppend }
-    ensures unread_model { IsErrOf result CliError.OnlyForListAppend → reader.new ≡ reader.old }
+    ensures reader_kept_model { IsErrOf result CliError.OnlyForListAppend
+        → reader.new ≡ reader.old }
     ensures refused { IfErr result (λ e. OnInput (R.remaining reader.old)
         (λ input. RefusesCheck question input e)) }
     ensures unwritten { IfErr result (λ e. e ≢ CliError.Write → writer.new ≡ writer.old) }

@@ -100,7 +100,7 @@ pub fn search_run<T: Threads + Wait + Sync, R: Read, W: Write, O: SearchObserver
     ensures written { IfOk result (λ status. WritesOutput (R.remaining reader.old)
         (IsSearchTextOf question) status (W.contents writer.old) (W.contents writer.new)) }
     ensures asked { IsErrOf result CliError.BadPalette ↔ (question.palette ≡ None) }
-    ensures unread { IsErrOf result CliError.BadPalette → reader.new ≡ reader.old }
+    ensures reader_kept { IsErrOf result CliError.BadPalette → reader.new ≡ reader.old }
     ensures refused { IfErr result (λ e. OnInput (R.remaining reader.old)
         (λ input. RefusesSearch question input e)) }
     ensures unwritten { IfErr result (λ e. e ≢ CliError.Write → writer.new ≡ writer.old) }

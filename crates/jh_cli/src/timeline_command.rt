@@ -92,10 +92,11 @@ pub fn timeline_run<R: Read, W: Write>(
         (IsTimelineTextOf question (views steps.now)) status (W.contents writer.old) (W.contents writer.new)) }
     ensures asked { IsErrOf result CliError.OnlyForRegister
         ↔ RefusesJudgingOptions question.judging CliError.OnlyForRegister }
-    ensures unread { IsErrOf result CliError.OnlyForRegister → reader.new ≡ reader.old }
+    ensures reader_kept { IsErrOf result CliError.OnlyForRegister → reader.new ≡ reader.old }
     ensures asked_model { IsErrOf result CliError.OnlyForListAppend
         ↔ RefusesJudgingOptions question.judging CliError.OnlyForListAppend }
-    ensures unread_model { IsErrOf result CliError.OnlyForListAppend → reader.new ≡ reader.old }
+    ensures reader_kept_model { IsErrOf result CliError.OnlyForListAppend
+        → reader.new ≡ reader.old }
     ensures refused { IfErr result (λ e. OnInput (R.remaining reader.old)
         (λ input. RefusesTimeline question (views steps.now) input e)) }
     ensures unwritten { IfErr result (λ e. e ≢ CliError.Write → writer.new ≡ writer.old) }

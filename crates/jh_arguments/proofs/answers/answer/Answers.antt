@@ -14,10 +14,10 @@ returns-in-Err-clause-refused g c =
     (refused_ends (map g.S.AsStr.text c.args.arguments.now) (g.R.Read.remaining c.args.streams.now.reader) None None None c.args.streams.now.reader c.args.streams.now.reader c.args.streams.now.writer c.args.streams.now.writer
     c.in-Err.error c.in-Err.ensures.refused refl refl).refused
 
-pub returns-in-Err-clause-unread : goal.returns-in-Err-clause-unread
-returns-in-Err-clause-unread g c =
+pub returns-in-Err-clause-reader_kept : goal.returns-in-Err-clause-reader_kept
+returns-in-Err-clause-reader_kept g c =
     (refused_ends (map g.S.AsStr.text c.args.arguments.now) (g.R.Read.remaining c.args.streams.now.reader) None None None c.args.streams.now.reader c.args.streams.now.reader c.args.streams.now.writer c.args.streams.now.writer
-    c.in-Err.error c.in-Err.ensures.refused refl refl).unread
+    c.in-Err.error c.in-Err.ensures.refused refl refl).reader_kept
 
 pub returns-in-Err-clause-unwritten : goal.returns-in-Err-clause-unwritten
 returns-in-Err-clause-unwritten g c =
@@ -39,10 +39,10 @@ returns-in-Err-clause-unscheduled g c =
     (refused_ends (map g.S.AsStr.text c.args.arguments.now) (g.R.Read.remaining c.args.streams.now.reader) None None None c.args.streams.now.reader c.args.streams.now.reader c.args.streams.now.writer c.args.streams.now.writer
     c.in-Err.error c.in-Err.ensures.refused refl refl).unscheduled
 
-pub returns-in-Err-clause-unscheduled_unread : goal.returns-in-Err-clause-unscheduled_unread
-returns-in-Err-clause-unscheduled_unread g c =
+pub returns-in-Err-clause-unscheduled_reader_kept : goal.returns-in-Err-clause-unscheduled_reader_kept
+returns-in-Err-clause-unscheduled_reader_kept g c =
     (refused_ends (map g.S.AsStr.text c.args.arguments.now) (g.R.Read.remaining c.args.streams.now.reader) None None None c.args.streams.now.reader c.args.streams.now.reader c.args.streams.now.writer c.args.streams.now.writer
-    c.in-Err.error c.in-Err.ensures.refused refl refl).unscheduled_unread
+    c.in-Err.error c.in-Err.ensures.refused refl refl).unscheduled_reader_kept
 
 pub returns-in-Err-clause-unscheduled_unwritten : goal.returns-in-Err-clause-unscheduled_unwritten
 returns-in-Err-clause-unscheduled_unwritten g c =
@@ -62,7 +62,7 @@ tested : (g : given.Over) (c : goal.Joined-matches g)
 tested g c =
     let asked = asked_test_by _ c.in-Ok.matches c.in-Some.path.now c.in-Ok.ensures.found c.in-Some.ensures.parsed in
     let ends = test_ends _ (g.R.Read.remaining c.args.streams.now.reader) (g.R.Read.remaining c.conduct_file.new.streams.reader) (g.W.Write.contents c.args.streams.now.writer) (g.W.Write.contents c.conduct_file.new.streams.writer)
-    c.args.streams.now.reader c.conduct_file.new.streams.reader c.args.streams.now.writer c.conduct_file.new.streams.writer c.in-Some.path.now c.conduct_file.result asked c.conduct_file.ensures.ended c.conduct_file.ensures.unread in
+    c.args.streams.now.reader c.conduct_file.new.streams.reader c.args.streams.now.writer c.conduct_file.new.streams.writer c.in-Some.path.now c.conduct_file.result asked c.conduct_file.ensures.ended c.conduct_file.ensures.streams_kept in
     subst (Ends (map g.S.AsStr.text c.args.arguments.now) (g.R.Read.remaining c.args.streams.now.reader) (g.R.Read.remaining c.conduct_file.new.streams.reader) (g.W.Write.contents c.args.streams.now.writer)
     (g.W.Write.contents c.conduct_file.new.streams.writer) c.args.streams.now.reader c.conduct_file.new.streams.reader c.args.streams.now.writer c.conduct_file.new.streams.writer) (sym c.of_test.ensures) ends
 
@@ -72,8 +72,8 @@ returns-in-Some-clause-done g c = (tested g c).done
 pub returns-in-Some-clause-refused : goal.returns-in-Some-clause-refused
 returns-in-Some-clause-refused g c = (tested g c).refused
 
-pub returns-in-Some-clause-unread : goal.returns-in-Some-clause-unread
-returns-in-Some-clause-unread g c = (tested g c).unread
+pub returns-in-Some-clause-reader_kept : goal.returns-in-Some-clause-reader_kept
+returns-in-Some-clause-reader_kept g c = (tested g c).reader_kept
 
 pub returns-in-Some-clause-unwritten : goal.returns-in-Some-clause-unwritten
 returns-in-Some-clause-unwritten g c = (tested g c).unwritten
@@ -87,8 +87,8 @@ returns-in-Some-clause-failed_unwritten g c = (tested g c).failed_unwritten
 pub returns-in-Some-clause-unscheduled : goal.returns-in-Some-clause-unscheduled
 returns-in-Some-clause-unscheduled g c = (tested g c).unscheduled
 
-pub returns-in-Some-clause-unscheduled_unread : goal.returns-in-Some-clause-unscheduled_unread
-returns-in-Some-clause-unscheduled_unread g c = (tested g c).unscheduled_unread
+pub returns-in-Some-clause-unscheduled_reader_kept : goal.returns-in-Some-clause-unscheduled_reader_kept
+returns-in-Some-clause-unscheduled_reader_kept g c = (tested g c).unscheduled_reader_kept
 
 pub returns-in-Some-clause-unscheduled_unwritten : goal.returns-in-Some-clause-unscheduled_unwritten
 returns-in-Some-clause-unscheduled_unwritten g c = (tested g c).unscheduled_unwritten
@@ -122,7 +122,7 @@ commanded g c =
     let asked = asked_by _ c.in-Ok.matches c.in-Some-command_of.command steps c.in-Ok.ensures.found c.in-Some-command_of.ensures.parsed gives in
     let ends = command_ends _ (g.R.Read.remaining c.args.streams.now.reader) (g.R.Read.remaining c.do_command.new.reader) (g.W.Write.contents c.args.streams.now.writer) (g.W.Write.contents c.do_command.new.writer)
     c.args.streams.now.reader c.do_command.new.reader c.args.streams.now.writer c.do_command.new.writer c.in-Some-command_of.command steps c.do_command.result asked
-    (record { options = says.options; unread = says.unread }) says.written says.refused says.unwritten in
+    (record { options = says.options; reader_kept = says.reader_kept }) says.written says.refused says.unwritten in
     subst (Ends (map g.S.AsStr.text c.args.arguments.now) (g.R.Read.remaining c.args.streams.now.reader) (g.R.Read.remaining c.do_command.new.reader) (g.W.Write.contents c.args.streams.now.writer)
     (g.W.Write.contents c.do_command.new.writer) c.args.streams.now.reader c.do_command.new.reader c.args.streams.now.writer c.do_command.new.writer) (sym c.of_command.ensures) ends
 
@@ -132,8 +132,8 @@ returns-clause-done g c = (commanded g c).done
 pub returns-clause-refused : goal.returns-clause-refused
 returns-clause-refused g c = (commanded g c).refused
 
-pub returns-clause-unread : goal.returns-clause-unread
-returns-clause-unread g c = (commanded g c).unread
+pub returns-clause-reader_kept : goal.returns-clause-reader_kept
+returns-clause-reader_kept g c = (commanded g c).reader_kept
 
 pub returns-clause-unwritten : goal.returns-clause-unwritten
 returns-clause-unwritten g c = (commanded g c).unwritten
@@ -147,8 +147,8 @@ returns-clause-failed_unwritten g c = (commanded g c).failed_unwritten
 pub returns-clause-unscheduled : goal.returns-clause-unscheduled
 returns-clause-unscheduled g c = (commanded g c).unscheduled
 
-pub returns-clause-unscheduled_unread : goal.returns-clause-unscheduled_unread
-returns-clause-unscheduled_unread g c = (commanded g c).unscheduled_unread
+pub returns-clause-unscheduled_reader_kept : goal.returns-clause-unscheduled_reader_kept
+returns-clause-unscheduled_reader_kept g c = (commanded g c).unscheduled_reader_kept
 
 pub returns-clause-unscheduled_unwritten : goal.returns-clause-unscheduled_unwritten
 returns-clause-unscheduled_unwritten g c = (commanded g c).unscheduled_unwritten

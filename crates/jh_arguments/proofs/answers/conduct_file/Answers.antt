@@ -2,7 +2,7 @@ use Rattle.std.proofs.Common.{ap}
 use Rattle.jh_arguments.proofs.AnswerLemmas.{left_so}
 use Rattle.jh_arguments.proofs.answers.conduct_file.Goals as goal
 
-pub returns-clause-unread : goal.returns-clause-unread
-returns-clause-unread g c = λ error is.
+pub returns-clause-streams_kept : goal.returns-clause-streams_kept
+returns-clause-streams_kept g c = λ error is.
     let same = left_so c.drive_observed.result c.args.streams.now c.drive_observed.new.streams c.drive_observed.ensures.unread error is in
     (ap (λ s. s.reader) same, ap (λ s. s.writer) same)

@@ -5,7 +5,7 @@ use Rattle.jh_cli.specs.Outputs.{WritesOutput}
 use Rattle.jh_cli.specs.declared.error.CliError.{CliError}
 use Rattle.jh_arguments.specs.Commands.{IsOfOptions, IsOutputOf, RefusesOptions}
 use Rattle.jh_arguments.specs.declared.commands.Command.{Command}
-use Rattle.jh_arguments.proofs.OptionRefusals.{check_options, check_unread, search_options, search_unread, timeline_options, timeline_unread}
+use Rattle.jh_arguments.proofs.OptionRefusals.{check_options, check_reader_kept, search_options, search_reader_kept, timeline_options, timeline_reader_kept}
 use Rattle.jh_arguments.proofs.commands.do_command.Goals as goal
 
 pub returns-in-Timeline-clause-written : goal.returns-in-Timeline-clause-written
@@ -21,32 +21,32 @@ pub returns-in-Env-clause-options : goal.returns-in-Env-clause-options
 returns-in-Env-clause-options g c =
     subst (λ (command : Command). (e : CliError) → IsOfOptions command e → IsErrOf c.env_run.result e ↔ RefusesOptions command e) (sym c.in-Env.is) (λ e of. absurd of)
 
-pub returns-in-Env-clause-unread : goal.returns-in-Env-clause-unread
-returns-in-Env-clause-unread g c =
+pub returns-in-Env-clause-reader_kept : goal.returns-in-Env-clause-reader_kept
+returns-in-Env-clause-reader_kept g c =
     subst (λ (command : Command). (e : CliError) → IsOfOptions command e → IsErrOf c.env_run.result e → c.env_run.new.reader ≡ c.args.reader.now) (sym c.in-Env.is) (λ e of. absurd of)
 
 pub returns-in-Run-clause-options : goal.returns-in-Run-clause-options
 returns-in-Run-clause-options g c =
     subst (λ (command : Command). (e : CliError) → IsOfOptions command e → IsErrOf c.run_run.result e ↔ RefusesOptions command e) (sym c.in-Run.is) (λ e of. absurd of)
 
-pub returns-in-Run-clause-unread : goal.returns-in-Run-clause-unread
-returns-in-Run-clause-unread g c =
+pub returns-in-Run-clause-reader_kept : goal.returns-in-Run-clause-reader_kept
+returns-in-Run-clause-reader_kept g c =
     subst (λ (command : Command). (e : CliError) → IsOfOptions command e → IsErrOf c.run_run.result e → c.run_run.new.reader ≡ c.args.reader.now) (sym c.in-Run.is) (λ e of. absurd of)
 
 pub returns-in-Shrink-clause-options : goal.returns-in-Shrink-clause-options
 returns-in-Shrink-clause-options g c =
     subst (λ (command : Command). (e : CliError) → IsOfOptions command e → IsErrOf c.shrink_run_observed.result e ↔ RefusesOptions command e) (sym c.in-Shrink.is) (λ e of. absurd of)
 
-pub returns-in-Shrink-clause-unread : goal.returns-in-Shrink-clause-unread
-returns-in-Shrink-clause-unread g c =
+pub returns-in-Shrink-clause-reader_kept : goal.returns-in-Shrink-clause-reader_kept
+returns-in-Shrink-clause-reader_kept g c =
     subst (λ (command : Command). (e : CliError) → IsOfOptions command e → IsErrOf c.shrink_run_observed.result e → c.shrink_run_observed.new.reader ≡ c.args.reader.now) (sym c.in-Shrink.is) (λ e of. absurd of)
 
 pub returns-in-Plot-clause-options : goal.returns-in-Plot-clause-options
 returns-in-Plot-clause-options g c =
     subst (λ (command : Command). (e : CliError) → IsOfOptions command e → IsErrOf c.plot_run.result e ↔ RefusesOptions command e) (sym c.in-Plot.is) (λ e of. absurd of)
 
-pub returns-in-Plot-clause-unread : goal.returns-in-Plot-clause-unread
-returns-in-Plot-clause-unread g c =
+pub returns-in-Plot-clause-reader_kept : goal.returns-in-Plot-clause-reader_kept
+returns-in-Plot-clause-reader_kept g c =
     subst (λ (command : Command). (e : CliError) → IsOfOptions command e → IsErrOf c.plot_run.result e → c.plot_run.new.reader ≡ c.args.reader.now) (sym c.in-Plot.is) (λ e of. absurd of)
 
 pub returns-in-Check-clause-options : goal.returns-in-Check-clause-options
@@ -54,27 +54,27 @@ returns-in-Check-clause-options g c =
     subst (λ (command : Command). (e : CliError) → IsOfOptions command e → IsErrOf c.check_run.result e ↔ RefusesOptions command e) (sym c.in-Check.is)
     (check_options c.in-Check.question c.check_run.result c.check_run.ensures.asked c.check_run.ensures.asked_model)
 
-pub returns-in-Check-clause-unread : goal.returns-in-Check-clause-unread
-returns-in-Check-clause-unread g c =
+pub returns-in-Check-clause-reader_kept : goal.returns-in-Check-clause-reader_kept
+returns-in-Check-clause-reader_kept g c =
     subst (λ (command : Command). (e : CliError) → IsOfOptions command e → IsErrOf c.check_run.result e → c.check_run.new.reader ≡ c.args.reader.now) (sym c.in-Check.is)
-    (check_unread c.in-Check.question c.check_run.result c.args.reader.now c.check_run.new.reader c.check_run.ensures.unread c.check_run.ensures.unread_model)
+    (check_reader_kept c.in-Check.question c.check_run.result c.args.reader.now c.check_run.new.reader c.check_run.ensures.reader_kept c.check_run.ensures.reader_kept_model)
 
 pub returns-in-Timeline-clause-options : goal.returns-in-Timeline-clause-options
 returns-in-Timeline-clause-options g c =
     subst (λ (command : Command). (e : CliError) → IsOfOptions command e → IsErrOf c.timeline_run.result e ↔ RefusesOptions command e) (sym c.in-Timeline.is)
     (timeline_options c.in-Timeline.question c.timeline_run.result c.timeline_run.ensures.asked c.timeline_run.ensures.asked_model)
 
-pub returns-in-Timeline-clause-unread : goal.returns-in-Timeline-clause-unread
-returns-in-Timeline-clause-unread g c =
+pub returns-in-Timeline-clause-reader_kept : goal.returns-in-Timeline-clause-reader_kept
+returns-in-Timeline-clause-reader_kept g c =
     subst (λ (command : Command). (e : CliError) → IsOfOptions command e → IsErrOf c.timeline_run.result e → c.timeline_run.new.reader ≡ c.args.reader.now) (sym c.in-Timeline.is)
-    (timeline_unread c.in-Timeline.question c.timeline_run.result c.args.reader.now c.timeline_run.new.reader c.timeline_run.ensures.unread c.timeline_run.ensures.unread_model)
+    (timeline_reader_kept c.in-Timeline.question c.timeline_run.result c.args.reader.now c.timeline_run.new.reader c.timeline_run.ensures.reader_kept c.timeline_run.ensures.reader_kept_model)
 
 pub returns-in-Search-clause-options : goal.returns-in-Search-clause-options
 returns-in-Search-clause-options g c =
     subst (λ (command : Command). (e : CliError) → IsOfOptions command e → IsErrOf c.search_run.result e ↔ RefusesOptions command e) (sym c.in-Search.is)
     (search_options c.in-Search.question c.search_run.result c.search_run.ensures.asked)
 
-pub returns-in-Search-clause-unread : goal.returns-in-Search-clause-unread
-returns-in-Search-clause-unread g c =
+pub returns-in-Search-clause-reader_kept : goal.returns-in-Search-clause-reader_kept
+returns-in-Search-clause-reader_kept g c =
     subst (λ (command : Command). (e : CliError) → IsOfOptions command e → IsErrOf c.search_run.result e → c.search_run.new.reader ≡ c.args.reader.now) (sym c.in-Search.is)
-    (search_unread c.in-Search.question c.search_run.result c.args.reader.now c.search_run.new.reader c.search_run.ensures.unread)
+    (search_reader_kept c.in-Search.question c.search_run.result c.args.reader.now c.search_run.new.reader c.search_run.ensures.reader_kept)
