@@ -9,13 +9,13 @@ use Rattle.jh_env.specs.TextErrors as env
 use Rattle.jh_env.specs.declared.texts.EnvTextError.TheVariants as EnvTextError
 use Rattle.jh_cli.specs.Status.{environment_error}
 use Rattle.jh_env.specs.Cells.{Table}
-use Rattle.jh_env.specs.TextCells.{IsTextOf}
+use Rattle.jh_env.specs.TextCells.{SpellsEnv}
 use Rattle.jh_cli.specs.EnvRefusals.{RefusesSteps, RefusesEnvValues}
 use Rattle.jh_cli.specs.declared.error.CliError.{CliError}
 use Rattle.jh_cli.specs.declared.error.CliError.TheVariants.{TimeMissing, Input, EnvironmentMissing, Environment, Element, History, Check, Settings, Run, HistoryFull, Mismatch, Thread, OnlyForRegister, OnlyForListAppend, BadPalette, Unwritable, SettingsRead, Read, Write, OutOfMemory}
 
 -- a first value that is no environment
-refuses_environment : (first : Edn) (others : List Edn) (error : EnvTextError.the_data) → env.RefusesEnvText first error
+refuses_environment : (first : Edn) (others : List Edn) (error : EnvTextError.the_data) → env.RefusesSpelledEnv first error
     → RefusesEnvValues (first ∷ others) (environment_error error)
 refuses_environment first others EnvTextError.NotMap refused = (refl, (first, others, refl, refused))
 refuses_environment first others EnvTextError.UnknownKey refused = (refl, (first, others, refl, refused))
@@ -41,13 +41,13 @@ parts_of (v ∷ vs) first some is =
 
 -- values of which the first is no environment
 pub first_refused : (values : List Value) (first : Value) (error : EnvTextError.the_data) (e : CliError) → 0 < length values → first ≡ get_or values 0 first
-    → env.RefusesEnvText (view first) error → e ≡ environment_error error → RefusesEnvValues (views values) e
+    → env.RefusesSpelledEnv (view first) error → e ≡ environment_error error → RefusesEnvValues (views values) e
 first_refused [] first error e some is refused named = absurd (omega arith)
 first_refused (v ∷ vs) first error e some is refused named = rw (named, ← is) (refuses_environment (view first) (views vs) error refused)
 
 -- values of which the first is an environment, and one of the others no step
 pub others_refused : (values others : List Edn) (first : Edn) (names : List (List ℕ)) (start : Table) (e : CliError) → values ≡ first ∷ others
-    → IsTextOf first names start → RefusesSteps names others e → RefusesEnvValues values e
+    → SpellsEnv first names start → RefusesSteps names others e → RefusesEnvValues values e
 others_refused values others first names start (Element number error) parts text refused = (first, others, names, start, parts, text, refused)
 others_refused values others first names start OutOfMemory parts text refused = tt
 others_refused values others first names start (Input error) parts text refused = absurd refused

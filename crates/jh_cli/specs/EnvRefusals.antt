@@ -5,7 +5,7 @@ use Rattle.std.specs.Prelude.{◌≡◌, ℕ, ◌+◌, List, [], ◌∷◌, ◌+
 use Rattle.jh_edn.specs.Edn.{Edn}
 use Rattle.jh_edn.specs.Refused as edn
 use Rattle.jh_env.specs.Cells.{Table}
-use Rattle.jh_env.specs.TextCells.{IsTextOf}
+use Rattle.jh_env.specs.TextCells.{SpellsEnv}
 use Rattle.jh_env.specs.TextErrors as env
 use Rattle.jh_histories.specs.Histories.{AreValuesOf}
 use Rattle.jh_step_texts.specs.StepText.{parsed_step}
@@ -46,11 +46,11 @@ RefusesEnvValues values EnvironmentMissing = values ≡ []
 RefusesEnvValues values (Environment error) =
     IsEnvironmentError error
     × ((first : Edn) × (others : List Edn) × (values ≡ first ∷ others)
-    × env.RefusesEnvText first error)
+    × env.RefusesSpelledEnv first error)
 RefusesEnvValues values (Element number error) =
     (first : Edn) × (others : List Edn) × (names : List (List ℕ)) × (start : Table)
     × (values ≡ first ∷ others)
-    × IsTextOf first names start × HasStepError names others number error
+    × SpellsEnv first names start × HasStepError names others number error
 RefusesEnvValues values OutOfMemory = Unit {0}
 RefusesEnvValues values _ = ⊥
 

@@ -4,7 +4,7 @@ use Rattle.std.specs.Prelude.{◌≡◌, ℕ, List, [], ◌∷◌, ◌++◌, map
 use Rattle.std.specs.List.{flat_map}
 use Rattle.jh_edn.specs.Edn.{Edn}
 use Rattle.jh_env.specs.Overlay.{EnvValue, StandsFor}
-use Rattle.jh_env.specs.TextCells.{IsTextOf}
+use Rattle.jh_env.specs.TextCells.{SpellsEnv}
 use Rattle.jh_histories.specs.Histories.{AreValuesOf}
 use Rattle.jh_nemesis.specs.State.{State, first_state}
 use Rattle.jh_nemesis.specs.Steps.{answers_of, state_after_all}
@@ -32,7 +32,7 @@ pub record IsEnvWithSteps (values : List Edn) (env : EnvValue) (steps : List Ste
   pub first : Edn
   pub others : List Edn
   pub parts : values ≡ first ∷ others
-  pub environment : IsTextOf first env.names env.start
+  pub environment : SpellsEnv first env.names env.start
   pub at_start : StandsFor env []
   pub steps_parsed : map (parsed_step env.names) others ≡ map Ok steps
 

@@ -11,8 +11,8 @@ use Rattle.jh_env.specs.declared.texts.EnvTextError.{EnvTextError}
 use Rattle.jh_env.specs.declared.texts.EnvTextError.TheVariants.{NotMap, UnknownKey, MissingNodes, BadEntry, NoNodes, TooManyNodes, BadName, DuplicateName, UnknownNode, SelfLink, BadAmount, RepeatedEntry, OutOfMemory}
 use Rattle.jh_env.specs.Names.{AreNodeNames, AreFew, RefusesNames}
 use Rattle.jh_env.specs.Text.{sections, Shape, shape_of, text_keys}
-use Rattle.jh_env.specs.TextErrors.{AreSound, HasEntryError, HasShape, RefusesEntry, RefusesTextNames, RefusesEnvText}
-use Rattle.jh_env.specs.TextCells.{link_after, node_after, AreCellsOf, IsTextOf}
+use Rattle.jh_env.specs.TextErrors.{AreSound, HasEntryError, HasShape, RefusesEntry, RefusesTextNames, RefusesSpelledEnv}
+use Rattle.jh_env.specs.TextCells.{link_after, node_after, AreCellsOf, SpellsEnv}
 use Rattle.jh_env.specs.TextLaws.{CanStart, AreSameCells}
 use Rattle.jh_env.specs.TextWritten.{entries_written, edn_of_env}
 use Rattle.jh_env.proofs.TextReadBackLemmas.{fold_written-link, fold_written-node}
@@ -62,7 +62,7 @@ parsed_node env a starts =
     ] refl
 
 -- the text that is written of an environment that can start means its cells
-pub text_reads_back : (env : EnvValue) → CanStart env → IsTextOf (edn_of_env env) env.names (cells_of env)
+pub text_reads_back : (env : EnvValue) → CanStart env → SpellsEnv (edn_of_env env) env.names (cells_of env)
 unfolding is_pair
 text_reads_back env starts =
     let parsed : AreCellsOf env.names (flat_map (entries_written env) sections) (cells_of env) = record {
@@ -94,11 +94,11 @@ refused_names : (value : Edn) (shape : Shape) (e : NodesError) → HasShape valu
 refused_names value shape e has refused = subst (λ s. RefusesNames s.names e) (same_shape value refused.0 shape refused.1 has) refused.2
 
 -- a text of an environment is refused only as out of memory
-pub text_accepted : (value : Edn) (names : List (List ℕ)) (cells : Table) (e : EnvTextError) → IsTextOf value names cells → RefusesEnvText value e → e ≡ OutOfMemory
+pub text_accepted : (value : Edn) (names : List (List ℕ)) (cells : Table) (e : EnvTextError) → SpellsEnv value names cells → RefusesSpelledEnv value e → e ≡ OutOfMemory
 text_accepted value names cells e text refused =
     by_error e (subst AreFew (sym text.2) text.3) (subst AreNodeNames (sym text.2) text.4) (subst (λ ns. AreSound ns text.0.entries) (sym text.2) text.5) refused
   where
-    by_error : (f : EnvTextError) → AreFew text.0.names → AreNodeNames text.0.names → AreSound text.0.names text.0.entries → RefusesEnvText value f → f ≡ OutOfMemory
+    by_error : (f : EnvTextError) → AreFew text.0.names → AreNodeNames text.0.names → AreSound text.0.names text.0.entries → RefusesSpelledEnv value f → f ≡ OutOfMemory
     by_error NotMap few named sound r = absurd (no_keys value text.0 NotMap text.1 r)
     by_error UnknownKey few named sound r = absurd (no_keys value text.0 UnknownKey text.1 r)
     by_error MissingNodes few named sound r = absurd (no_keys value text.0 MissingNodes text.1 r)
@@ -126,7 +126,7 @@ text_accepted value names cells e text refused =
     by_error OutOfMemory few named sound r = refl
 
 -- a text means the cells of one environment
-pub text_means_one : (value : Edn) (names others : List (List ℕ)) (cells more : Table) → IsTextOf value names cells → IsTextOf value others more
+pub text_means_one : (value : Edn) (names others : List (List ℕ)) (cells more : Table) → SpellsEnv value names cells → SpellsEnv value others more
     → (others ≡ names) × AreSameCells cells more
 text_means_one value names others cells more first second =
     let same = same_shape value first.0 second.0 first.1 second.1 in

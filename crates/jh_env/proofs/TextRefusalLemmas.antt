@@ -9,7 +9,7 @@ use Rattle.jh_env.specs.declared.texts.EnvTextError.{EnvTextError}
 use Rattle.jh_env.specs.declared.texts.EnvTextError.TheVariants.{UnknownNode, SelfLink, BadAmount, RepeatedEntry}
 use Rattle.jh_env.specs.Names.{AreNodeNames, AreFew, RefusesNames}
 use Rattle.jh_env.specs.Text.{Entry, Shape}
-use Rattle.jh_env.specs.TextErrors.{names_nodes, links_itself, is_amount, repeats, entry_error_after, entry_error_at, HasEntryError, HasShape, RefusesEnvText}
+use Rattle.jh_env.specs.TextErrors.{names_nodes, links_itself, is_amount, repeats, entry_error_after, entry_error_at, HasEntryError, HasShape, RefusesSpelledEnv}
 use Rattle.jh_env.specs.TextInside.{nodes_error}
 
 -- the faults that an entry may have
@@ -39,7 +39,7 @@ kind_at names entries place error is =
     ] is
 
 refused_for : (value : Edn) (shape : Shape) (error : EnvTextError) → HasShape value shape → AreFew shape.names → AreNodeNames shape.names
-    → HasEntryError shape.names shape.entries error → IsEntryError error → RefusesEnvText value error
+    → HasEntryError shape.names shape.entries error → IsEntryError error → RefusesSpelledEnv value error
 unfolding IsEntryError
 refused_for value shape UnknownNode has few named wrong kind = (shape, has, few, named, wrong)
 refused_for value shape SelfLink has few named wrong kind = (shape, has, few, named, wrong)
@@ -49,12 +49,12 @@ refused_for value shape _ has few named wrong kind = absurd kind
 
 -- a text with an entry in error is refused
 pub entry_refused : (value : Edn) (shape : Shape) (error : EnvTextError) → HasShape value shape → AreFew shape.names → AreNodeNames shape.names
-    → HasEntryError shape.names shape.entries error → RefusesEnvText value error
+    → HasEntryError shape.names shape.entries error → RefusesSpelledEnv value error
 entry_refused value shape error has few named wrong =
     refused_for value shape error has few named wrong (kind_at shape.names shape.entries wrong.0 error wrong.1)
 
 -- a text with names that are refused is refused
-pub names_refused : (value : Edn) (shape : Shape) (error : NodesError) → HasShape value shape → RefusesNames shape.names error → RefusesEnvText value (nodes_error error)
+pub names_refused : (value : Edn) (shape : Shape) (error : NodesError) → HasShape value shape → RefusesNames shape.names error → RefusesSpelledEnv value (nodes_error error)
 names_refused value shape NodesError.NoNodes has refused = (shape, has, refused)
 names_refused value shape NodesError.TooManyNodes has refused = (shape, has, refused)
 names_refused value shape NodesError.BadName has refused = (shape, has, refused)

@@ -52,10 +52,10 @@ pub record AreCellsOf (names : List (List ℕ)) (entries : List Entry) (cells : 
       ≡ (if nat_lt a (length names) then Some (fold (node_after names a) running_node entries)
       else None)
 
--- the text is of a good shape, has good names and no entry in error, and these are its names and
--- its cells
-abbrev pub IsTextOf : Edn → List (List ℕ) → Table → Type 0
-IsTextOf value names cells =
+-- The value spells an environment: it is of a good shape, has good names and no entry in error, and
+-- these are its names and its cells.
+abbrev pub SpellsEnv : Edn → List (List ℕ) → Table → Type 0
+SpellsEnv value names cells =
     (shape : Shape) × HasShape value shape × (shape.names ≡ names) × AreFew names
     × AreNodeNames names
     × AreSound names shape.entries × AreCellsOf names shape.entries cells

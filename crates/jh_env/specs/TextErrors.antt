@@ -122,18 +122,18 @@ RefusesEntry value error =
     (shape : Shape) × HasShape value shape × AreFew shape.names × AreNodeNames shape.names
     × HasEntryError shape.names shape.entries error
 
--- Why a text is refused. Memory is needed only once its keys are good.
-abbrev pub RefusesEnvText : Edn → EnvTextError → Type 0
-RefusesEnvText value NotMap = text_keys value ≡ Err NotMap
-RefusesEnvText value UnknownKey = text_keys value ≡ Err UnknownKey
-RefusesEnvText value MissingNodes = text_keys value ≡ Err MissingNodes
-RefusesEnvText value BadEntry = (keys : Keys) × (text_keys value ≡ Ok keys) × (shape_of keys ≡ None)
-RefusesEnvText value NoNodes = RefusesTextNames value NodesError.NoNodes
-RefusesEnvText value TooManyNodes = RefusesTextNames value NodesError.TooManyNodes
-RefusesEnvText value BadName = RefusesTextNames value NodesError.BadName
-RefusesEnvText value DuplicateName = RefusesTextNames value NodesError.DuplicateName
-RefusesEnvText value UnknownNode = RefusesEntry value UnknownNode
-RefusesEnvText value SelfLink = RefusesEntry value SelfLink
-RefusesEnvText value BadAmount = RefusesEntry value BadAmount
-RefusesEnvText value RepeatedEntry = RefusesEntry value RepeatedEntry
-RefusesEnvText value OutOfMemory = (keys : Keys) × (text_keys value ≡ Ok keys)
+-- Why a value spells no environment. Memory is needed only once its keys are good.
+abbrev pub RefusesSpelledEnv : Edn → EnvTextError → Type 0
+RefusesSpelledEnv value NotMap = text_keys value ≡ Err NotMap
+RefusesSpelledEnv value UnknownKey = text_keys value ≡ Err UnknownKey
+RefusesSpelledEnv value MissingNodes = text_keys value ≡ Err MissingNodes
+RefusesSpelledEnv value BadEntry = (keys : Keys) × (text_keys value ≡ Ok keys) × (shape_of keys ≡ None)
+RefusesSpelledEnv value NoNodes = RefusesTextNames value NodesError.NoNodes
+RefusesSpelledEnv value TooManyNodes = RefusesTextNames value NodesError.TooManyNodes
+RefusesSpelledEnv value BadName = RefusesTextNames value NodesError.BadName
+RefusesSpelledEnv value DuplicateName = RefusesTextNames value NodesError.DuplicateName
+RefusesSpelledEnv value UnknownNode = RefusesEntry value UnknownNode
+RefusesSpelledEnv value SelfLink = RefusesEntry value SelfLink
+RefusesSpelledEnv value BadAmount = RefusesEntry value BadAmount
+RefusesSpelledEnv value RepeatedEntry = RefusesEntry value RepeatedEntry
+RefusesSpelledEnv value OutOfMemory = (keys : Keys) × (text_keys value ≡ Ok keys)

@@ -7,8 +7,8 @@
 ghost use Rattle.std.specs.Prelude.{◌≡◌, [], MatchResult, IfOk};
 ghost use Rattle.jh_edn.specs.View.{view};
 ghost use Rattle.jh_env.specs.Overlay.{StandsFor, work_of};
-ghost use Rattle.jh_env.specs.TextCells.{IsTextOf};
-ghost use Rattle.jh_env.specs.TextErrors.{RefusesEnvText};
+ghost use Rattle.jh_env.specs.TextCells.{SpellsEnv};
+ghost use Rattle.jh_env.specs.TextErrors.{RefusesSpelledEnv};
 ghost use Rattle.jh_env.specs.TextWritten.{edn_of_env};
 
 mod entries;
@@ -119,9 +119,9 @@ impl From<StartError> for EnvTextError {
 /// nodes have at most 12,224.
 pub fn env_of_value(alloc: Global, value: &Value) -> Result<Env, EnvTextError>
     ensures { MatchResult result
-        (λ env. StandsFor env [] × IsTextOf (view value.now) env.names env.start
+        (λ env. StandsFor env [] × SpellsEnv (view value.now) env.names env.start
         × (work_of env ≡ 0))
-        (RefusesEnvText (view value.now)) }
+        (RefusesSpelledEnv (view value.now)) }
 {
     let (nodes, pairs) = reading::keys_of(value)?;
     let names = reading::names_of(alloc, nodes)?;

@@ -8,7 +8,7 @@ use Rattle.jh_env.specs.Cells.{Table}
 use Rattle.jh_env.specs.Faults.{FaultValue, FitsCount, IsFault, is_self_link}
 use Rattle.jh_env.specs.Faults.{Cut, Slow, Loss, Fix, Pause, Kill, Bump}
 pub use Rattle.jh_step_texts.specs.StepWritten.{step_in_order}
-use Rattle.jh_env.specs.TextCells.{IsTextOf}
+use Rattle.jh_env.specs.TextCells.{SpellsEnv}
 use Rattle.jh_step_texts.specs.FaultText.{FaultSpelling, fault_spelling, parsed_fault}
 use Rattle.jh_step_texts.specs.StepText.{parsed_step}
 use Rattle.jh_nemesis.specs.declared.steps.Step.{Step}
@@ -57,5 +57,5 @@ pub record AreBytesOf (names : List (List ℕ)) (cells : Table) (steps : List St
   pub first : Edn
   pub others : List Edn
   pub spelled : SpellsAll (first ∷ others) bytes
-  pub environment : IsTextOf first names cells
+  pub environment : SpellsEnv first names cells
   pub parsed : map (parsed_step names) others ≡ map Ok steps

@@ -6,7 +6,7 @@ ghost use Rattle.jh_edn.specs.Print.{print};
 ghost use Rattle.jh_edn.specs.Printable.{IsPrintable};
 ghost use Rattle.jh_edn.specs.Spelling.{depth_limit, SpellsAll};
 ghost use Rattle.jh_env.specs.Overlay.{EnvValue, cells_of};
-ghost use Rattle.jh_env.specs.TextCells.{IsTextOf};
+ghost use Rattle.jh_env.specs.TextCells.{SpellsEnv};
 ghost use Rattle.jh_env.specs.TextLaws.{CanStart, AreSameCells};
 ghost use Rattle.jh_env.specs.TextWritten.{edn_of_env};
 ghost use Rattle.jh_laws.specs.Lines.{ReadsBack};
@@ -23,7 +23,7 @@ pub fn environment_lines_read_back()
         → ReadsBack (edn_of_env env ∷ []) (print (edn_of_env env)) }
     ensures bytes { (env : EnvValue) (value : Edn) → CanStart env
         → SpellsAll (value ∷ []) (print (edn_of_env env))
-        → IsTextOf value env.names (cells_of env) }
+        → SpellsEnv value env.names (cells_of env) }
     ensures one { (env other : EnvValue) → CanStart env → CanStart other
         → print (edn_of_env env) ≡ print (edn_of_env other)
         → (other.names ≡ env.names) × AreSameCells (cells_of env) (cells_of other) }

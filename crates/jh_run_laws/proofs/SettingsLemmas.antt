@@ -6,7 +6,7 @@ use Rattle.toml.specs.Data.{Data, array, Items, no_items, item, Members}
 use Rattle.jh_edn.specs.Edn.{Edn}
 use Rattle.jh_env.specs.Cells.{Table}
 use Rattle.jh_env.specs.Overlay.{EnvValue}
-use Rattle.jh_env.specs.TextCells.{IsTextOf}
+use Rattle.jh_env.specs.TextCells.{SpellsEnv}
 use Rattle.jh_env.specs.TextLaws.{AreSameCells}
 use Rattle.jh_gen.specs.Generator.{Generator}
 use Rattle.jh_gen.specs.GeneratorText.{parsed_generator}
@@ -24,7 +24,7 @@ use Rattle.jh_run_laws.proofs.StartLemmas.{serial_with, with_env}
 
 -- a text means one environment, cell by cell
 abbrev pub TellsOne : Type 0
-TellsOne = (value : Edn) (names others : List (List ℕ)) (cells more : Table) → IsTextOf value names cells → IsTextOf value others more → (others ≡ names) × AreSameCells cells more
+TellsOne = (value : Edn) (names others : List (List ℕ)) (cells more : Table) → SpellsEnv value names cells → SpellsEnv value others more → (others ≡ names) × AreSameCells cells more
 
 one_document : (bytes : List ℕ) (d e : Members) → IsDocument bytes d → IsDocument bytes e → e ≡ d
 one_document bytes d e h k = same_Some e d (sym k.1 ∙ h.1)
@@ -32,7 +32,7 @@ one_document bytes d e h k = same_Some e d (sym k.1 ∙ h.1)
 one_start : TellsOne → (d : Members) (env other : EnvValue) → IsParsedStart d env → IsParsedStart d other → (other.names ≡ env.names) × AreSameCells env.start other.start
 one_start decides d env other h k =
     let same : k.0 ≡ h.0 = held_once Key.Start d k.0 h.0 k.1 h.1 in
-    decides h.0 env.names other.names env.start other.start h.2 (subst (λ (x : Edn). IsTextOf x other.names other.start) same k.2)
+    decides h.0 env.names other.names env.start other.start h.2 (subst (λ (x : Edn). SpellsEnv x other.names other.start) same k.2)
 
 one_generator : (d : Members) (g f : Generator) → IsParsedGenerator d g → IsParsedGenerator d f → g ≡ f
 one_generator d g f h k =
@@ -60,10 +60,10 @@ one_schedule names (Some value) es fs h k = absurd h
 -- two plans of one document are one, but for how their start is kept
 one_plan : (d : Members) (p q : PlanValue) (mode other : Mode) (budget another : ℕ) → AreSettings d p mode budget → AreSettings d q other another → q.env.names ≡ p.env.names → with_env p q.env ≡ q
 one_plan d p q mode other budget another a b named =
-    let store = same_Some p.settings.store q.settings.store (sym a.store ∙ b.store) in
-    let volatile = same_Some p.settings.volatile q.settings.volatile (sym a.volatile ∙ b.volatile) in
-    let workload = same_Some p.settings.workload q.settings.workload (sym a.workload ∙ b.workload) in
-    let initial = same_Some p.settings.initial q.settings.initial (sym a.initial ∙ b.initial) in
+    let store = same_Some p.database.store q.database.store (sym a.store ∙ b.store) in
+    let volatile = same_Some p.database.volatile q.database.volatile (sym a.volatile ∙ b.volatile) in
+    let workload = same_Some p.database.workload q.database.workload (sym a.workload ∙ b.workload) in
+    let initial = same_Some p.database.initial q.database.initial (sym a.initial ∙ b.initial) in
     let clients = same_Some p.clients q.clients (sym a.clients ∙ b.clients) in
     let ops = same_Some p.ops q.ops (sym a.ops ∙ b.ops) in
     let generator = one_generator d p.generator q.generator a.generator b.generator in
@@ -73,7 +73,7 @@ one_plan d p q mode other budget another a b named =
     let seed = same_Some p.seed q.seed (sym a.seed ∙ b.seed) in
     λ i. record {
       env = q.env;
-      settings = record { store = store i; volatile = volatile i; workload = workload i; initial = initial i };
+      database = record { store = store i; volatile = volatile i; workload = workload i; initial = initial i };
       clients = clients i;
       ops = ops i;
       generator = generator i;

@@ -7,7 +7,7 @@ use Rattle.std.specs.Str.{bytes_eq}
 use Rattle.toml.specs.Data.{Data, array, Items, no_items, item, Members, as_bool, as_integer}
 use Rattle.jh_edn.specs.Edn.{Edn, int, elements_of}
 use Rattle.jh_env.specs.Overlay.{EnvValue, StandsFor}
-use Rattle.jh_env.specs.TextCells.{IsTextOf}
+use Rattle.jh_env.specs.TextCells.{SpellsEnv}
 use Rattle.jh_step_texts.specs.StepText.{parsed_step}
 use Rattle.jh_nemesis.specs.declared.steps.Step.{Step}
 use Rattle.jh_ops.specs.declared.call.Workload.{Workload}
@@ -17,7 +17,7 @@ use Rattle.jh_gen.specs.GeneratorText.{parsed_generator}
 use Rattle.jh_ops.specs.Requests.{workload_named, max_calls_of}
 use Rattle.jh_simnode.specs.Limits.{max_entries, max_rows}
 use Rattle.jh_simnode.specs.StoreNames.{store_named}
-use Rattle.jh_simnode.specs.declared.settings.Store.{Store}
+use Rattle.jh_simnode.specs.declared.database.Store.{Store}
 use Rattle.jh_simnode.specs.declared.schedule.Entry.{Entry}
 use Rattle.jh_settings.specs.declared.keys.Key.{Key}
 use Rattle.jh_settings.specs.declared.choices.Mode.{Mode}
@@ -29,7 +29,7 @@ use Rattle.jh_settings.specs.Kinds.{whole_number_in, IsElement, HoldsElement}
 -- an environment on which no fault is laid
 abbrev pub IsParsedStart : Members → EnvValue → Type 0
 IsParsedStart document env =
-    (x : Edn) × HoldsElement Key.Start document x × IsTextOf x env.names env.start
+    (x : Edn) × HoldsElement Key.Start document x × SpellsEnv x env.names env.start
     × StandsFor env []
 
 abbrev pub parsed_store : Members → Option Store

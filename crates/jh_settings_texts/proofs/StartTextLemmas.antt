@@ -5,7 +5,7 @@ use Rattle.std.proofs.Math.Nat.{add-zero}
 use Rattle.jh_env.specs.Cells.{Table, Running, Paused, Killed, Link, NodeCell, link_at, node_at}
 use Rattle.jh_env.specs.Overlay.{EnvValue, StandsFor, IsOverlay, link_over, node_over, cells_of}
 use Rattle.jh_env.specs.Text.{Entry}
-use Rattle.jh_env.specs.TextCells.{AreCellsOf, IsTextOf}
+use Rattle.jh_env.specs.TextCells.{AreCellsOf, SpellsEnv}
 use Rattle.jh_env.specs.TextLaws.{CanStart}
 use Rattle.jh_env.specs.TextWritten.{edn_of_env}
 use Rattle.jh_env.proofs.TextLawLemmas.{text_reads_back}
@@ -35,7 +35,7 @@ start_cells names entries start cells over are = record {
   nodes = λ a. sym (over.nodes a ∙ map_same (node_over [] a) (node_at start a) (node_same a)) ∙ are.nodes a;
 }
 
-pub start_text : (env : EnvValue) → CanStart env → StandsFor env [] → IsTextOf (edn_of_env env) env.names env.start
+pub start_text : (env : EnvValue) → CanStart env → StandsFor env [] → SpellsEnv (edn_of_env env) env.names env.start
 start_text env starts calm =
     let (shape, has, names, few, named, sound, cells) = text_reads_back env starts in
     (shape, has, names, few, named, sound, start_cells env.names shape.entries env.start (cells_of env) calm.cells cells)

@@ -2,7 +2,7 @@ use Rattle.std.proofs.Common.{◌≡◌, ◌∷◌, map, Ok, ap, sym, subst, ◌
 use Rattle.std.proofs.lemmas.List.Elements.{All-cons}
 use Rattle.jh_edn.specs.Printable.{IsPrintable}
 use Rattle.jh_edn.specs.Spelling.{depth_limit}
-use Rattle.jh_env.specs.TextCells.{IsTextOf}
+use Rattle.jh_env.specs.TextCells.{SpellsEnv}
 use Rattle.jh_env.specs.TextWritten.{edn_of_env}
 use Rattle.jh_step_texts.specs.StepText.{parsed_step}
 use Rattle.jh_step_texts.specs.StepWritten.{edn_of_step}
@@ -25,7 +25,7 @@ returns-clause-written c = λ env steps starts all.
 pub returns-clause-one : goal.returns-clause-one
 returns-clause-one c = λ bytes names others cells more steps those one other.
     let same = c.spelled_once.ensures bytes (other.first ∷ other.others) (one.first ∷ one.others) other.spelled one.spelled in
-    let environment = subst (λ value. IsTextOf value others more) (ap first_in same) other.environment in
+    let environment = subst (λ value. SpellsEnv value others more) (ap first_in same) other.environment in
     let alike = c.environments_read_back.ensures.means_one one.first names others cells more one.environment environment in
     let parsed = subst (λ names. map (parsed_step names) other.others ≡ map Ok those) alike.0 other.parsed in
     (alike.0, alike.1, one_list steps those (sym parsed ∙ ap (λ values. map (parsed_step names) (rest_in values)) same ∙ one.parsed))
