@@ -127,7 +127,8 @@ abbrev pub RefusesSpelledEnv : Edn → EnvTextError → Type 0
 RefusesSpelledEnv value NotMap = text_keys value ≡ Err NotMap
 RefusesSpelledEnv value UnknownKey = text_keys value ≡ Err UnknownKey
 RefusesSpelledEnv value MissingNodes = text_keys value ≡ Err MissingNodes
-RefusesSpelledEnv value BadEntry = (keys : Keys) × (text_keys value ≡ Ok keys) × (shape_of keys ≡ None)
+RefusesSpelledEnv value BadEntry =
+    (keys : Keys) × (text_keys value ≡ Ok keys) × (shape_of keys ≡ None)
 RefusesSpelledEnv value NoNodes = RefusesTextNames value NodesError.NoNodes
 RefusesSpelledEnv value TooManyNodes = RefusesTextNames value NodesError.TooManyNodes
 RefusesSpelledEnv value BadName = RefusesTextNames value NodesError.BadName
