@@ -177,7 +177,7 @@ fn judge_recorded(
 ) -> Result<Finding, CliError>
     ensures { MatchResult result
         (IsFinding (run_judging plan.now budget) (operations history.now))
-        (RefusesRecorded (checker_of plan.now.settings.workload) (operations history.now)) }
+        (RefusesRecorded (checker_of plan.now.database.workload) (operations history.now)) }
 {
     match check_history(alloc, history, run_judging(plan, budget)) {
         Ok(finding) => Ok(finding),

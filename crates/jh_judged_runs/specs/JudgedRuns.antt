@@ -18,8 +18,8 @@ use Rattle.jh_simnode.specs.declared.events.Event.{Event}
 abbrev pub run_judging : PlanValue → ℕ → Judging
 run_judging p budget =
     record {
-      checker = checker_of p.settings.workload;
-      initial = p.settings.initial;
+      checker = checker_of p.database.workload;
+      initial = p.database.initial;
       budget = budget;
       explain = false;
       model = None;

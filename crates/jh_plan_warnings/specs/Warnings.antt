@@ -22,7 +22,7 @@ has_reads workload = true
 -- the generator never asks for a read, and the checker judges by reads
 abbrev pub of_generator : PlanValue → List Warning
 of_generator plan =
-    if has_reads plan.settings.workload && never_reads plan.generator then NeverReads ∷ [] else []
+    if has_reads plan.database.workload && never_reads plan.generator then NeverReads ∷ [] else []
 
 -- a step begins a fault under this id
 abbrev pub begins : ℕ → Step → Bool

@@ -51,9 +51,9 @@ some_client p fit = omega (arith, fit.clients.0)
 
 pub own_formed : OwnHistoryIsFormed
 own_formed p journal history fit run =
-    subst IsWellFormed (sym run.is_history) (is_formed p.settings.workload p.clients (some_client p fit) journal (run_fits p fit run.turns journal run.reached.run))
+    subst IsWellFormed (sym run.is_history) (is_formed p.database.workload p.clients (some_client p fit) journal (run_fits p fit run.turns journal run.reached.run))
 
 pub own_judged : OwnHistoryIsJudged
 own_judged p journal history fit run e refused =
-    never_refused p.settings.workload p.clients (some_client p fit) journal (run_fits p fit run.turns journal run.reached.run) (replies_fit (setup_of p) journal run.reached.legal) e
-    (subst (λ (h : List Operation). RefusesChecking (checker_of p.settings.workload) h e) run.is_history refused)
+    never_refused p.database.workload p.clients (some_client p fit) journal (run_fits p fit run.turns journal run.reached.run) (replies_fit (setup_of p) journal run.reached.legal) e
+    (subst (λ (h : List Operation). RefusesChecking (checker_of p.database.workload) h e) run.is_history refused)

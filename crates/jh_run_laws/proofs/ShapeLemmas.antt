@@ -18,9 +18,9 @@ use Rattle.jh_simnode.specs.declared.replicas.Got.{Got}
 use Rattle.jh_simnode.specs.declared.replicas.Replica.{Replica}
 use Rattle.jh_simnode.specs.declared.replicas.Recency.TheVariants.{Version, Stamp}
 use Rattle.jh_simnode.specs.declared.replicas.Reply.TheVariants as reply_of
-use Rattle.jh_simnode.specs.declared.settings.Database.{Database}
-use Rattle.jh_simnode.specs.declared.settings.Store.{Store}
-use Rattle.jh_simnode.specs.declared.settings.Store.TheVariants.{Quorum, Lww, Local}
+use Rattle.jh_simnode.specs.declared.database.Database.{Database}
+use Rattle.jh_simnode.specs.declared.database.Store.{Store}
+use Rattle.jh_simnode.specs.declared.database.Store.TheVariants.{Quorum, Lww, Local}
 use Rattle.jh_simnode.specs.Replicas.{blank_replica, contents_of, replica_at, first_replica, got_of, version}
 use Rattle.jh_simnode.specs.Effects.{add_change, cas_change, generate_change, effect, is_small}
 use Rattle.jh_env.specs.Names.{node_places}
@@ -274,22 +274,22 @@ forgotten_shaped s c before after all t =
 
 -- ---- a legal journal
 
-replies_from : (u : Setup) (m : Moment) (es : List Event) → AreShaped u.settings.workload (length u.names) m.replicas → AreDue u m es → RepliesFit u.settings.workload es
+replies_from : (u : Setup) (m : Moment) (es : List Event) → AreShaped u.database.workload (length u.names) m.replicas → AreDue u m es → RepliesFit u.database.workload es
 replies_from u m [] t h = tt
 replies_from u m (Event.Call process node request draw reply ∷ es) t h =
-    let s = serve_fits u.settings (length u.names) (env_of m.faults) m.replicas m.number node request draw h.0.0 t in
-    (subst (ReplyFits u.settings.workload request) (sym h.0.1) s.1, replies_from u (moment_after u m (Event.Call process node request draw reply)) es s.0 h.1)
+    let s = serve_fits u.database (length u.names) (env_of m.faults) m.replicas m.number node request draw h.0.0 t in
+    (subst (ReplyFits u.database.workload request) (sym h.0.1) s.1, replies_from u (moment_after u m (Event.Call process node request draw reply)) es s.0 h.1)
 replies_from u m (Event.Step step answer ∷ es) t h =
-    replies_from u (moment_after u m (Event.Step step answer)) es (forgotten_shaped u.settings (length u.names) _ (env_of (state_after m.faults step)) m.replicas t) h.1
+    replies_from u (moment_after u m (Event.Step step answer)) es (forgotten_shaped u.database (length u.names) _ (env_of (state_after m.faults step)) m.replicas t) h.1
 replies_from u m (Event.Tick ∷ es) t h =
-    replies_from u (moment_after u m Event.Tick) es (ticked_shaped u.settings.store u.settings.workload (length u.names) (env_of m.faults) m.replicas t) h.1
+    replies_from u (moment_after u m Event.Tick) es (ticked_shaped u.database.store u.database.workload (length u.names) (env_of m.faults) m.replicas t) h.1
 
-pub replies_fit : (u : Setup) (journal : List Event) → IsLegal u journal → RepliesFit u.settings.workload journal
+pub replies_fit : (u : Setup) (journal : List Event) → IsLegal u journal → RepliesFit u.database.workload journal
 replies_fit u journal legal =
     let n = length u.names in
-    let first = first_replica u.settings in
+    let first = first_replica u.database in
     replies_from u (opening u) journal (record {
       sized = length-replicate n first;
       each = λ p below. let short : p < n = rw (length-replicate n first) at below in
-          rw (get_or-replicate n p first blank_replica short) (first_shaped u.settings.workload u.settings.initial);
+          rw (get_or-replicate n p first blank_replica short) (first_shaped u.database.workload u.database.initial);
     }) legal

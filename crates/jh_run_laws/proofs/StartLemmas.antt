@@ -65,7 +65,7 @@ abbrev restarted_moment : Table → Moment → Moment
 restarted_moment start m = record { number = m.number; faults = restarted start m.faults; replicas = m.replicas }
 
 abbrev founded : Table → Setup → Setup
-founded start u = record { names = u.names; start = start; settings = u.settings }
+founded start u = record { names = u.names; start = start; database = u.database }
 
 start_kept : (s : State) (e : Event) → (faults_after s e).start ≡ s.start
 start_kept s (Event.Call process node request draw reply) = refl
@@ -82,20 +82,20 @@ still_same start s e same = subst (λ (t : Table). AreSameCells t start) (sym (s
 next_restarted : (u : Setup) (start : Table) (m : Moment) (e : Event) → AreSameCells m.faults.start start → moment_after (founded start u) (restarted_moment start m) e ≡ restarted_moment start (moment_after u m e)
 next_restarted u start m (Event.Call process node request draw reply) same =
     let env = env_same start m.faults same in
-    λ i. record { number = m.number + 1; faults = restarted start m.faults; replicas = (reply_to u.settings (env i) m.replicas m.number node request draw).replicas }
+    λ i. record { number = m.number + 1; faults = restarted start m.faults; replicas = (reply_to u.database (env i) m.replicas m.number node request draw).replicas }
 next_restarted u start m (Event.Step step answer) same =
     let env = env_same start m.faults same in
     let faults = step_restarted start m.faults step in
     let after : env_of (state_after (restarted start m.faults) step) ≡ env_of (state_after m.faults step) =
     ap env_of faults ∙ env_same start (state_after m.faults step) (still_same start m.faults (Event.Step step answer) same) in
-    λ i. record { number = m.number + 1; faults = faults i; replicas = replicas_after_kills u.settings (killed_flags (env i) (length u.names)) (after i) m.replicas }
+    λ i. record { number = m.number + 1; faults = faults i; replicas = replicas_after_kills u.database (killed_flags (env i) (length u.names)) (after i) m.replicas }
 next_restarted u start m Event.Tick same =
     let env = env_same start m.faults same in
-    λ i. record { number = m.number + 1; faults = restarted start m.faults; replicas = replicas_after_tick u.settings.store (env i) m.replicas }
+    λ i. record { number = m.number + 1; faults = restarted start m.faults; replicas = replicas_after_tick u.database.store (env i) m.replicas }
 
 due_restarted : (u : Setup) (start : Table) (m : Moment) (e : Event) → AreSameCells m.faults.start start → IsDue u m e → IsDue (founded start u) (restarted_moment start m) e
 due_restarted u start m (Event.Call process node request draw reply) same h =
-    (h.0, subst (λ (env : EnvCells). reply ≡ (reply_to u.settings env m.replicas m.number node request draw).reply) (sym (env_same start m.faults same)) h.1)
+    (h.0, subst (λ (env : EnvCells). reply ≡ (reply_to u.database env m.replicas m.number node request draw).reply) (sym (env_same start m.faults same)) h.1)
 due_restarted u start m (Event.Step step answer) same h = (h.0, h.1 ∙ sym (answer_restarted start m.faults step))
 due_restarted u start m Event.Tick same h = tt
 
@@ -115,7 +115,7 @@ legal_founded u start journal same h = all_due u start (opening u) journal same 
 abbrev pub with_env : PlanValue → EnvValue → PlanValue
 with_env p env = record {
   env = env;
-  settings = p.settings;
+  database = p.database;
   clients = p.clients;
   ops = p.ops;
   generator = p.generator;
@@ -140,7 +140,7 @@ reaches_with p env named (suc n) r journal h =
 
 legal_with : (p : PlanValue) (env : EnvValue) → env.names ≡ p.env.names → AreSameCells p.env.start env.start → (journal : List Event) → IsLegal (setup_of p) journal → IsLegal (setup_of (with_env p env)) journal
 legal_with p env named same journal h =
-    subst (λ (names : List (List ℕ)). IsLegal (record { names = names; start = env.start; settings = p.settings }) journal) (sym named) (legal_founded (setup_of p) env.start journal same h)
+    subst (λ (names : List (List ℕ)). IsLegal (record { names = names; start = env.start; database = p.database }) journal) (sym named) (legal_founded (setup_of p) env.start journal same h)
 
 -- a serial run of a plan is one of the plan with this environment
 pub serial_with : (p : PlanValue) (env : EnvValue) → env.names ≡ p.env.names → AreSameCells p.env.start env.start → (journal : List Event) (history : List Operation) → IsSerialRun p journal history → IsSerialRun (with_env p env) journal history

@@ -101,7 +101,7 @@ abbrev pub OwnHistoryIsJudged : Type 0
 OwnHistoryIsJudged =
     (p : PlanValue) (journal : List Event) (history : List Operation) → IsFit p
     → IsSerialRun p journal history
-    → (e : CheckError) → RefusesChecking (checker_of p.settings.workload) history e → e ≡ OutOfMemory
+    → (e : CheckError) → RefusesChecking (checker_of p.database.workload) history e → e ≡ OutOfMemory
 
 -- each operation of the history can be printed
 abbrev pub OwnHistoryIsPrintable : Type 0

@@ -68,7 +68,7 @@ pub record AreParsedLimits (document : Members) (limits : Limits) : Type 0 where
 abbrev pub data_of_parts : Cluster → Load → Limits → List Entry → PlanData
 data_of_parts cluster load limits schedule = record {
   environment = cluster.environment;
-  settings = record {
+  database = record {
     store = cluster.store;
     volatile = load.volatile;
     workload = cluster.workload;

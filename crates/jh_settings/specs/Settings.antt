@@ -23,14 +23,14 @@ pub record AreSettings (document : Members) (plan : PlanValue) (run_mode : Mode)
     (limit : ℕ) : Type 0 where
   pub known : HasKnownKeys run_keys document
   pub start : IsParsedStart document plan.env
-  pub store : parsed_store document ≡ Some plan.settings.store
-  pub workload : parsed_workload document ≡ Some plan.settings.workload
+  pub store : parsed_store document ≡ Some plan.database.store
+  pub workload : parsed_workload document ≡ Some plan.database.workload
   pub generator : IsParsedGenerator document plan.generator
   pub clients : parsed_clients document ≡ Some plan.clients
   pub ops : parsed_ops document ≡ Some plan.ops
   pub mode : parsed_mode document ≡ Some run_mode
-  pub volatile : parsed_volatile document ≡ Some plan.settings.volatile
-  pub initial : parsed_initial document ≡ Some plan.settings.initial
+  pub volatile : parsed_volatile document ≡ Some plan.database.volatile
+  pub initial : parsed_initial document ≡ Some plan.database.initial
   pub tick_every : parsed_tick_every document ≡ Some plan.tick_every
   pub rows : parsed_rows document ≡ Some plan.rows
   pub seed : parsed_seed document ≡ Some plan.seed

@@ -137,7 +137,7 @@ fn data_of(cluster: Cluster, load: Load, limits: Limits, schedule: Schedule) -> 
     } = cluster;
     PlanData {
         environment,
-        settings: Database {
+        database: Database {
             store,
             volatile: load.volatile,
             workload,

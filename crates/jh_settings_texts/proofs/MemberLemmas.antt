@@ -8,7 +8,7 @@ use Rattle.jh_ops.specs.declared.call.Workload.{Workload}
 use Rattle.jh_ops.specs.Requests.{workload_name, workload_named, max_calls_of}
 use Rattle.jh_gen_texts.specs.GeneratorWritten.{edn_of_generator}
 use Rattle.jh_simnode.specs.StoreNames.{store_name, store_named}
-use Rattle.jh_simnode.specs.declared.settings.Store.{Store}
+use Rattle.jh_simnode.specs.declared.database.Store.{Store}
 use Rattle.jh_simnode.specs.declared.schedule.Entry.{Entry}
 use Rattle.jh_simnode.specs.Plans.{PlanValue}
 use Rattle.jh_settings.specs.declared.keys.Key.{Key}
@@ -54,7 +54,7 @@ module _ (p : PlanValue) (budget : ℕ) where
   start_with None = refl
   start_with (Some z) = refl
 
-  store_with : (o : Option ℤ) → data_under Key.Store (document_with p budget o) ≡ Some (string (store_name p.settings.store))
+  store_with : (o : Option ℤ) → data_under Key.Store (document_with p budget o) ≡ Some (string (store_name p.database.store))
   store_with None = refl
   store_with (Some z) = refl
 
@@ -62,11 +62,11 @@ module _ (p : PlanValue) (budget : ℕ) where
   tick_every_with None = refl
   tick_every_with (Some z) = refl
 
-  volatile_with : (o : Option ℤ) → data_under Key.Volatile (document_with p budget o) ≡ Some (boolean p.settings.volatile)
+  volatile_with : (o : Option ℤ) → data_under Key.Volatile (document_with p budget o) ≡ Some (boolean p.database.volatile)
   volatile_with None = refl
   volatile_with (Some z) = refl
 
-  workload_with : (o : Option ℤ) → data_under Key.Workload (document_with p budget o) ≡ Some (string (workload_name p.settings.workload))
+  workload_with : (o : Option ℤ) → data_under Key.Workload (document_with p budget o) ≡ Some (string (workload_name p.database.workload))
   workload_with None = refl
   workload_with (Some z) = refl
 
@@ -79,13 +79,13 @@ module _ (p : PlanValue) (budget : ℕ) where
   -- ---- what is found in the document itself
 
   pub known_keys : HasKnownKeys run_keys (document_of p budget)
-  known_keys = known_with p.settings.initial
+  known_keys = known_with p.database.initial
 
   pub schedule_there : data_under Key.Schedule (document_of p budget) ≡ Some (array (schedule_texts p.env.names p.schedule))
-  schedule_there = schedule_with p.settings.initial
+  schedule_there = schedule_with p.database.initial
 
   pub start_there : data_under Key.Start (document_of p budget) ≡ Some (printed_text (edn_of_env p.env))
-  start_there = start_with p.settings.initial
+  start_there = start_with p.database.initial
 
   pub generator_there : data_under Key.Generator (document_of p budget) ≡ Some (printed_text (edn_of_generator p.generator))
   generator_there = refl
@@ -117,45 +117,45 @@ module _ (p : PlanValue) (budget : ℕ) where
   initial_back w None h = ap (initial_of (is_register w)) (no_initial p budget) ∙ initial_none w
   initial_back w (Some z) h = ap (initial_of (is_register w)) (some_initial p budget z) ∙ ap (λ v. initial_of (is_register v) (Some (integer z))) h
 
-  pub store_parsed : parsed_store (document_of p budget) ≡ Some p.settings.store
-  store_parsed = ap (λ d. option_and_then store_named (option_and_then as_str d)) (store_with p budget p.settings.initial) ∙ store_back p.settings.store
+  pub store_parsed : parsed_store (document_of p budget) ≡ Some p.database.store
+  store_parsed = ap (λ d. option_and_then store_named (option_and_then as_str d)) (store_with p budget p.database.initial) ∙ store_back p.database.store
 
-  pub workload_parsed : parsed_workload (document_of p budget) ≡ Some p.settings.workload
-  workload_parsed = ap (λ d. option_and_then workload_named (option_and_then as_str d)) (workload_with p budget p.settings.initial) ∙ workload_back p.settings.workload
+  pub workload_parsed : parsed_workload (document_of p budget) ≡ Some p.database.workload
+  workload_parsed = ap (λ d. option_and_then workload_named (option_and_then as_str d)) (workload_with p budget p.database.initial) ∙ workload_back p.database.workload
 
   pub clients_parsed : 1 ≤ p.clients → p.clients ≤ 16 → parsed_clients (document_of p budget) ≡ Some p.clients
   clients_parsed low high = whole_back 1 16 p.clients low high
 
-  pub ops_parsed : 1 ≤ p.ops → p.ops ≤ max_calls_of p.settings.workload → parsed_ops (document_of p budget) ≡ Some p.ops
+  pub ops_parsed : 1 ≤ p.ops → p.ops ≤ max_calls_of p.database.workload → parsed_ops (document_of p budget) ≡ Some p.ops
   ops_parsed low high =
       ap (option_and_then (λ w. needed_value (whole_number_in 1 (max_calls_of w)) Key.Ops (document_of p budget))) workload_parsed
-      ∙ ap (option_and_then (whole_number_in 1 (max_calls_of p.settings.workload))) (ops_with p budget p.settings.initial)
-      ∙ whole_back 1 (max_calls_of p.settings.workload) p.ops low high
+      ∙ ap (option_and_then (whole_number_in 1 (max_calls_of p.database.workload))) (ops_with p budget p.database.initial)
+      ∙ whole_back 1 (max_calls_of p.database.workload) p.ops low high
 
   pub mode_parsed : parsed_mode (document_of p budget) ≡ Some Mode.Serial
-  mode_parsed = ap (λ d. option_map_or (choice_in mode_of) d (Some Mode.Threads)) (mode_with p budget p.settings.initial)
+  mode_parsed = ap (λ d. option_map_or (choice_in mode_of) d (Some Mode.Threads)) (mode_with p budget p.database.initial)
 
-  pub volatile_parsed : parsed_volatile (document_of p budget) ≡ Some p.settings.volatile
-  volatile_parsed = ap (λ d. option_map_or as_bool d (Some false)) (volatile_with p budget p.settings.initial)
+  pub volatile_parsed : parsed_volatile (document_of p budget) ≡ Some p.database.volatile
+  volatile_parsed = ap (λ d. option_map_or as_bool d (Some false)) (volatile_with p budget p.database.initial)
 
-  pub initial_parsed : IfSome p.settings.initial (λ _. p.settings.workload ≡ Workload.Register) → parsed_initial (document_of p budget) ≡ Some p.settings.initial
+  pub initial_parsed : IfSome p.database.initial (λ _. p.database.workload ≡ Workload.Register) → parsed_initial (document_of p budget) ≡ Some p.database.initial
   initial_parsed h =
       ap (option_and_then (λ w. initial_of (is_register w) (data_under Key.Initial (document_of p budget)))) workload_parsed
-      ∙ initial_back p.settings.workload p.settings.initial h
+      ∙ initial_back p.database.workload p.database.initial h
 
   pub tick_every_parsed : p.tick_every ≤ max_tick_every → parsed_tick_every (document_of p budget) ≡ Some p.tick_every
   tick_every_parsed h =
-      ap (λ d. option_map_or (whole_number_in 0 max_tick_every) d (Some 0)) (tick_every_with p budget p.settings.initial)
+      ap (λ d. option_map_or (whole_number_in 0 max_tick_every) d (Some 0)) (tick_every_with p budget p.database.initial)
       ∙ whole_back 0 max_tick_every p.tick_every (omega arith) h
 
   pub rows_parsed : 1 ≤ p.rows → p.rows ≤ 65536 → parsed_rows (document_of p budget) ≡ Some p.rows
   rows_parsed low high =
-      ap (λ d. option_map_or (whole_number_in 1 65536) d (Some 4096)) (rows_with p budget p.settings.initial)
+      ap (λ d. option_map_or (whole_number_in 1 65536) d (Some 4096)) (rows_with p budget p.database.initial)
       ∙ whole_back 1 65536 p.rows low high
 
   pub seed_parsed : p.seed < 2 ^ 63 → parsed_seed (document_of p budget) ≡ Some p.seed
   seed_parsed h =
-      ap (λ d. option_map_or (whole_number_in 0 9223372036854775807) d (Some 0)) (seed_with p budget p.settings.initial)
+      ap (λ d. option_map_or (whole_number_in 0 9223372036854775807) d (Some 0)) (seed_with p budget p.database.initial)
       ∙ whole_back 0 9223372036854775807 p.seed (omega arith) (omega (arith, h))
 
   pub budget_parsed : budget ≤ max_budget → parsed_budget (document_of p budget) ≡ Some budget
@@ -185,11 +185,11 @@ module _ (p : PlanValue) (budget : ℕ) where
   depth_with (Some z) = rw (texts_depth p.env.names None p.schedule) refl
 
   pub shallow_document : members_depth (document_of p budget) ≤ 80
-  shallow_document = subst (λ d. d ≤ 80) (sym (depth_with p.settings.initial)) (omega arith)
+  shallow_document = subst (λ d. d ≤ 80) (sym (depth_with p.database.initial)) (omega arith)
 
   dates_with : (o : Option ℤ) → members_have_valid_dates (document_with p budget o) ≡ true
   dates_with None = rw (texts_dates p.env.names None p.schedule) refl
   dates_with (Some z) = rw (texts_dates p.env.names None p.schedule) refl
 
   pub document_dates : members_have_valid_dates (document_of p budget) ≡ true
-  document_dates = dates_with p.settings.initial
+  document_dates = dates_with p.database.initial

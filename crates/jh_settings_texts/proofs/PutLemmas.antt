@@ -36,7 +36,7 @@ inserted_members k v (e ∷ es) = put_at (string_cmp k e.0) k v e es (inserted_m
 -- what is put before `initial`
 abbrev put_before : PlanValue → Members
 put_before p =
-    put_key Key.Volatile (boolean p.settings.volatile)
+    put_key Key.Volatile (boolean p.database.volatile)
     (put_key Key.Mode (string (codes "serial")) (put_key Key.Ops (whole_number p.ops) (put_key Key.Clients (whole_number p.clients) (put_cluster p no_members))))
 
 put_with : (p : PlanValue) (budget : ℕ) (o : Option ℤ) → put_schedule p (put_limits p budget (put_initial o (put_before p))) ≡ document_with p budget o
@@ -45,7 +45,7 @@ put_with p budget (Some z) = refl
 
 -- all groups together make the document
 pub put_all : (p : PlanValue) (budget : ℕ) → put_schedule p (put_limits p budget (put_load p (put_cluster p no_members))) ≡ document_of p budget
-put_all p budget = put_with p budget p.settings.initial
+put_all p budget = put_with p budget p.database.initial
 
 -- ---- the schedule
 

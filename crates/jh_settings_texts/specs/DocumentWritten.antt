@@ -77,17 +77,17 @@ members_behind_initial p =
     ∷ (Key.Schedule, array (schedule_texts p.env.names p.schedule))
     ∷ (Key.Seed, whole_number p.seed)
     ∷ (Key.Start, printed_text (edn_of_env p.env))
-    ∷ (Key.Store, string (store_name p.settings.store))
+    ∷ (Key.Store, string (store_name p.database.store))
     ∷ (Key.TickEvery, whole_number p.tick_every)
-    ∷ (Key.Volatile, boolean p.settings.volatile)
-    ∷ (Key.Workload, string (workload_name p.settings.workload)) ∷ []
+    ∷ (Key.Volatile, boolean p.database.volatile)
+    ∷ (Key.Workload, string (workload_name p.database.workload)) ∷ []
 
 -- the document of a plan that is run serially, whose judge reaches at most so many configurations
 abbrev pub document_of : PlanValue → ℕ → Members
 document_of p budget =
     keyed_members
     (members_before_initial p budget
-    ++ (initial_member p.settings.initial ++ members_behind_initial p))
+    ++ (initial_member p.database.initial ++ members_behind_initial p))
 
 -- the document of a schedule alone
 abbrev pub schedule_document : List (List ℕ) → Option Spread → List Entry → Members

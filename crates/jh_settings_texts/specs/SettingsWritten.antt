@@ -32,7 +32,7 @@ pub record CanBeWritten (p : PlanValue) : Type 0 where
   pub links : (a b : ℕ) (link : Link) → link_of p.env a b ≡ Some link → IsStartingLink link
   pub nodes : (a : ℕ) (cell : NodeCell) → node_of p.env a ≡ Some cell → IsStartingNode cell
   pub generator : IsPrintable depth_limit (edn_of_generator p.generator)
-  pub initial : IfSome p.settings.initial (λ _. p.settings.workload ≡ Workload.Register)
+  pub initial : IfSome p.database.initial (λ _. p.database.workload ≡ Workload.Register)
   pub tick_every : p.tick_every ≤ max_tick_every
   pub seed : p.seed < 2 ^ 63
   pub due : All (λ entry. entry.at ≤ max_due_at) p.schedule

@@ -37,8 +37,8 @@ put_key key value others = put_member (key_name key) value others
 -- the members with those of the database and what is asked of it
 abbrev pub put_cluster : PlanValue → Members → Members
 put_cluster p others =
-    put_key Key.Workload (string (workload_name p.settings.workload))
-    (put_key Key.Store (string (store_name p.settings.store))
+    put_key Key.Workload (string (workload_name p.database.workload))
+    (put_key Key.Store (string (store_name p.database.store))
     (put_key Key.Generator (printed_text (edn_of_generator p.generator))
     (put_key Key.Start (printed_text (edn_of_env p.env)) others)))
 
@@ -50,8 +50,8 @@ put_initial (Some z) others = put_key Key.Initial (integer z) others
 -- the members with those of how much is asked and how
 abbrev pub put_load : PlanValue → Members → Members
 put_load p others =
-    put_initial p.settings.initial
-    (put_key Key.Volatile (boolean p.settings.volatile)
+    put_initial p.database.initial
+    (put_key Key.Volatile (boolean p.database.volatile)
     (put_key Key.Mode (string (codes "serial"))
     (put_key Key.Ops (whole_number p.ops)
     (put_key Key.Clients (whole_number p.clients) others))))
@@ -78,7 +78,7 @@ pub record IsWhollyKnown (p : PlanValue) : Type 0 where
 
 -- only a register holds something at first, and numbers are in the ranges of their keys
 pub record HasWritableNumbers (p : PlanValue) : Type 0 where
-  pub initial : IfSome p.settings.initial (λ _. p.settings.workload ≡ Workload.Register)
+  pub initial : IfSome p.database.initial (λ _. p.database.workload ≡ Workload.Register)
   pub tick_every : p.tick_every ≤ max_tick_every
   pub seed : p.seed < 2 ^ 63
 

@@ -225,7 +225,7 @@ events_suffice p r journal kept reached =
     let few = k.few in
     let steps = k.steps in
     let ops = kept.fit.ops.1 in
-    let most = ops_few p.settings.workload in
+    let most = ops_few p.database.workload in
     let entries = kept.few in
     omega (arith, events, calls, few, steps, ops, most, entries)
 

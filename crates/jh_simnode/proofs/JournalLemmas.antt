@@ -13,7 +13,7 @@ use Rattle.jh_nemesis.specs.declared.steps.StepAnswer.{StepAnswer}
 use Rattle.jh_nemesis.proofs.StepLemmas.{state_after_names, state_after_start}
 use Rattle.jh_simnode.specs.declared.replicas.Reply.{Reply}
 use Rattle.jh_ops.specs.declared.call.Request.{Request}
-use Rattle.jh_simnode.specs.declared.settings.Database.{Database}
+use Rattle.jh_simnode.specs.declared.database.Database.{Database}
 use Rattle.jh_simnode.specs.Inside.{world_setup}
 use Rattle.jh_simnode.specs.Stores.{reply_to, replicas_after_tick, killed_flags, replicas_after_kills}
 use Rattle.jh_simnode.proofs.VersionLemmas.{serve_tidy, ticked_tidy, forgotten_tidy}
@@ -69,43 +69,43 @@ goes_on u s t all new es e w few due tidy =
     }
 
 -- a world goes on by a call, by what the environment shows
-pub call_goes_on : (s : State) (settings : Database) (all new : List Replica) (es : List Event) (env : EnvValue) (number process node : ℕ) (request : Request) (draw : ℕ) (reply : Reply)
-    → IsWorldOf (world_setup s settings) s all es → length es < 65536 → StandsFor env (faults_in s.active) → env.start ≡ s.start → number ≡ length es → node < length s.names
-    → (let due = reply_to settings (env_cells env) all number node request draw in (reply ≡ due.reply) × (new ≡ due.replicas))
-    → IsWorldOf (world_setup s settings) s new (es ++ Event.Call process node request draw reply ∷ [])
-call_goes_on s settings all new es env number process node request draw reply w few stands start at known given =
+pub call_goes_on : (s : State) (database : Database) (all new : List Replica) (es : List Event) (env : EnvValue) (number process node : ℕ) (request : Request) (draw : ℕ) (reply : Reply)
+    → IsWorldOf (world_setup s database) s all es → length es < 65536 → StandsFor env (faults_in s.active) → env.start ≡ s.start → number ≡ length es → node < length s.names
+    → (let due = reply_to database (env_cells env) all number node request draw in (reply ≡ due.reply) × (new ≡ due.replicas))
+    → IsWorldOf (world_setup s database) s new (es ++ Event.Call process node request draw reply ∷ [])
+call_goes_on s database all new es env number process node request draw reply w few stands start at known given =
     let cells = cells_are env s stands start in
-    let Got : EnvCells → ℕ → Type 0 = λ env k. reply ≡ (reply_to settings env all k node request draw).reply in
-    let Left : EnvCells → ℕ → Type 0 = λ env k. new ≡ (reply_to settings env all k node request draw).replicas in
+    let Got : EnvCells → ℕ → Type 0 = λ env k. reply ≡ (reply_to database env all k node request draw).reply in
+    let Left : EnvCells → ℕ → Type 0 = λ env k. new ≡ (reply_to database env all k node request draw).replicas in
     let got : Got (env_of s) (length es) = subst (Got (env_of s)) at (subst (λ env. Got env number) cells given.0) in
     let left : Left (env_of s) (length es) = subst (Left (env_of s)) at (subst (λ env. Left env number) cells given.1) in
-    goes_on (world_setup s settings) s s all new es (Event.Call process node request draw reply) w few ((known, got), refl, left)
-    (rw left (serve_tidy settings (env_of s) (length s.names) (length es) all node request draw w.tidy))
+    goes_on (world_setup s database) s s all new es (Event.Call process node request draw reply) w few ((known, got), refl, left)
+    (rw left (serve_tidy database (env_of s) (length s.names) (length es) all node request draw w.tidy))
 
-pub tick_goes_on : (s : State) (settings : Database) (all new : List Replica) (es : List Event) (env : EnvValue)
-    → IsWorldOf (world_setup s settings) s all es → length es < 65536 → StandsFor env (faults_in s.active) → env.start ≡ s.start
-    → new ≡ replicas_after_tick settings.store (env_cells env) all
-    → IsWorldOf (world_setup s settings) s new (es ++ Event.Tick ∷ [])
-tick_goes_on s settings all new es env w few stands start given =
-    let Left : EnvCells → Type 0 = λ env. new ≡ replicas_after_tick settings.store env all in
+pub tick_goes_on : (s : State) (database : Database) (all new : List Replica) (es : List Event) (env : EnvValue)
+    → IsWorldOf (world_setup s database) s all es → length es < 65536 → StandsFor env (faults_in s.active) → env.start ≡ s.start
+    → new ≡ replicas_after_tick database.store (env_cells env) all
+    → IsWorldOf (world_setup s database) s new (es ++ Event.Tick ∷ [])
+tick_goes_on s database all new es env w few stands start given =
+    let Left : EnvCells → Type 0 = λ env. new ≡ replicas_after_tick database.store env all in
     let left : Left (env_of s) = subst Left (cells_are env s stands start) given in
-    goes_on (world_setup s settings) s s all new es Event.Tick w few (tt, refl, left)
-    (rw left (ticked_tidy settings.store (env_of s) (length s.names) (length es) all w.tidy))
+    goes_on (world_setup s database) s s all new es Event.Tick w few (tt, refl, left)
+    (rw left (ticked_tidy database.store (env_of s) (length s.names) (length es) all w.tidy))
 
--- a step keeps the nodes, their starting cells and the settings
-pub same_setup : (s t : State) (settings : Database) (step : Step) → t ≡ state_after s step → world_setup t settings ≡ world_setup s settings
-same_setup s t settings step e = rw (e, state_after_names s step, state_after_start s step) refl
+-- a step keeps the nodes, their starting cells and the database
+pub same_setup : (s t : State) (database : Database) (step : Step) → t ≡ state_after s step → world_setup t database ≡ world_setup s database
+same_setup s t database step e = rw (e, state_after_names s step, state_after_start s step) refl
 
-pub step_goes_on : (s t : State) (settings : Database) (all new : List Replica) (es : List Event) (before after : EnvValue) (step : Step) (answer : StepAnswer)
-    → IsWorldOf (world_setup s settings) s all es → length es < 65536 → StandsFor before (faults_in s.active) → before.start ≡ s.start → FitsNodes (length s.names) step
+pub step_goes_on : (s t : State) (database : Database) (all new : List Replica) (es : List Event) (before after : EnvValue) (step : Step) (answer : StepAnswer)
+    → IsWorldOf (world_setup s database) s all es → length es < 65536 → StandsFor before (faults_in s.active) → before.start ≡ s.start → FitsNodes (length s.names) step
     → answer ≡ answer_of s step → t ≡ state_after s step → StandsFor after (faults_in t.active) → after.start ≡ t.start
-    → new ≡ replicas_after_kills settings (killed_flags (env_cells before) (length s.names)) (env_cells after) all
-    → IsWorldOf (world_setup t settings) t new (es ++ Event.Step step answer ∷ [])
-step_goes_on s t settings all new es before after step answer w few stands start fits given moved stands' start' forgot =
-    let u = world_setup s settings in
-    let Left : EnvCells → EnvCells → Type 0 = λ was is. new ≡ replicas_after_kills settings (killed_flags was (length s.names)) is all in
+    → new ≡ replicas_after_kills database (killed_flags (env_cells before) (length s.names)) (env_cells after) all
+    → IsWorldOf (world_setup t database) t new (es ++ Event.Step step answer ∷ [])
+step_goes_on s t database all new es before after step answer w few stands start fits given moved stands' start' forgot =
+    let u = world_setup s database in
+    let Left : EnvCells → EnvCells → Type 0 = λ was is. new ≡ replicas_after_kills database (killed_flags was (length s.names)) is all in
     let at_t : Left (env_of s) (env_of t) = subst (Left (env_of s)) (cells_are after t stands' start') (subst (λ was. Left was (env_cells after)) (cells_are before s stands start) forgot) in
     let left : Left (env_of s) (env_of (state_after s step)) = subst (λ (r : State). Left (env_of s) (env_of r)) moved at_t in
-    rw (same_setup s t settings step moved)
+    rw (same_setup s t database step moved)
     (goes_on u s t all new es (Event.Step step answer) w few ((fits, given), moved, left)
-    (rw left (forgotten_tidy settings (killed_flags (env_of s) (length s.names)) (env_of (state_after s step)) (length s.names) (length es) all w.tidy)))
+    (rw left (forgotten_tidy database (killed_flags (env_of s) (length s.names)) (env_of (state_after s step)) (length s.names) (length es) all w.tidy)))

@@ -9,9 +9,9 @@ use Rattle.jh_env.specs.Cells.{Running, Paused, Killed}
 use Rattle.jh_env.specs.Cells.{NodeCell}
 use Rattle.jh_simnode.specs.declared.replicas.Replica.{Replica}
 use Rattle.jh_simnode.specs.declared.replicas.Recency.TheVariants.{Version, Stamp}
-use Rattle.jh_simnode.specs.declared.settings.Database.{Database}
-use Rattle.jh_simnode.specs.declared.settings.Store.{Store}
-use Rattle.jh_simnode.specs.declared.settings.Store.TheVariants.{Quorum, Lww, Local}
+use Rattle.jh_simnode.specs.declared.database.Database.{Database}
+use Rattle.jh_simnode.specs.declared.database.Store.{Store}
+use Rattle.jh_simnode.specs.declared.database.Store.TheVariants.{Quorum, Lww, Local}
 use Rattle.jh_ops.specs.declared.call.Request.{Request}
 use Rattle.jh_ops.specs.Requests.{is_request_of}
 use Rattle.jh_simnode.specs.Requests.{is_read_request}

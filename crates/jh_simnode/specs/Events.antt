@@ -5,7 +5,7 @@ use Rattle.jh_env.specs.Cells.{Table}
 use Rattle.jh_env.specs.Overlay.{EnvValue, work_of}
 use Rattle.jh_nemesis.specs.State.{State, faults_in}
 use Rattle.jh_nemesis.specs.Steps.{answer_of, state_after, FitsNodes}
-use Rattle.jh_simnode.specs.declared.settings.Database.{Database}
+use Rattle.jh_simnode.specs.declared.database.Database.{Database}
 use Rattle.jh_simnode.specs.declared.replicas.Replica.{Replica}
 use Rattle.jh_simnode.specs.declared.events.Event.{Event}
 use Rattle.jh_simnode.specs.declared.events.WorldError.{WorldError}
@@ -17,11 +17,11 @@ use Rattle.jh_simnode.specs.Reach.{EnvCells, cells_over}
 use Rattle.jh_simnode.specs.Stores.{reply_to, replicas_after_tick, killed_flags}
 use Rattle.jh_simnode.specs.Stores.{replicas_after_kills, version_at}
 
--- what a world keeps for good: the nodes, their starting cells, and the settings
+-- what a world keeps for good: the nodes, their starting cells, and the database
 pub record Setup : Type 0 where
   pub names : List (List ℕ)
   pub start : Table
-  pub settings : Database
+  pub database : Database
 
 -- where a world stands: the number of events so far, the faults with their past and future, and the
 -- replicas
@@ -39,7 +39,7 @@ abbrev pub opening : Setup → Moment
 opening u = record {
   number = 0;
   faults = faultless_state u;
-  replicas = replicate (length u.names) (first_replica u.settings);
+  replicas = replicate (length u.names) (first_replica u.database);
 }
 
 -- the environment: what the active faults make of the starting one
@@ -55,12 +55,12 @@ faults_after s Event.Tick = s
 -- the replicas after an event
 abbrev pub replicas_after : Setup → Moment → Event → List Replica
 replicas_after u m (Event.Call process node request draw reply) =
-    (reply_to u.settings (env_of m.faults) m.replicas m.number node request draw).replicas
+    (reply_to u.database (env_of m.faults) m.replicas m.number node request draw).replicas
 replicas_after u m (Event.Step step answer) =
-    replicas_after_kills u.settings (killed_flags (env_of m.faults) (length u.names))
+    replicas_after_kills u.database (killed_flags (env_of m.faults) (length u.names))
     (env_of (state_after m.faults step))
     m.replicas
-replicas_after u m Event.Tick = replicas_after_tick u.settings.store (env_of m.faults) m.replicas
+replicas_after u m Event.Tick = replicas_after_tick u.database.store (env_of m.faults) m.replicas
 
 -- the moment after an event
 abbrev pub moment_after : Setup → Moment → Event → Moment
@@ -85,7 +85,7 @@ moment_at u journal = moment_after_all u (opening u) journal
 abbrev pub IsDue : Setup → Moment → Event → Type 0
 IsDue u m (Event.Call process node request draw reply) =
     (node < length u.names)
-    × (reply ≡ (reply_to u.settings
+    × (reply ≡ (reply_to u.database
     (env_of m.faults) m.replicas m.number node request draw).reply)
 IsDue u m (Event.Step step answer) =
     FitsNodes (length u.names) step × (answer ≡ answer_of m.faults step)
@@ -112,7 +112,7 @@ pub record IsNewWorld (env : EnvValue) (chosen : Database) (new : WorldValue) : 
   pub journal : new.journal ≡ []
   pub names : new.setup.names ≡ env.names
   pub start : new.setup.start ≡ env.start
-  pub settings : new.setup.settings ≡ chosen
+  pub database : new.setup.database ≡ chosen
   pub work : new.work ≡ work_of env
 
 -- a replica for each of so many nodes, and no version above a number

@@ -7,7 +7,7 @@ use Rattle.jh_gen.specs.Generator.{Generator}
 use Rattle.jh_gen.specs.Suits.{suits}
 use Rattle.jh_gen.specs.View.{generator_of}
 use Rattle.jh_ops.specs.Requests.{max_calls_of}
-use Rattle.jh_simnode.specs.declared.settings.Database.{Database}
+use Rattle.jh_simnode.specs.declared.database.Database.{Database}
 use Rattle.jh_simnode.specs.declared.schedule.Entry.{Entry}
 use Rattle.jh_simnode.specs.Limits.{max_entries, max_rows}
 use Rattle.jh_simnode.specs.declared.plan.PlanData.{PlanData}
@@ -20,7 +20,7 @@ use Rattle.jh_simnode.specs.declared.plan.PlanError.TheVariants.{BadGenerator, B
 -- the rows of the log of a run on threads, and the seed of the random numbers
 pub record PlanValue : Type 0 where
   pub env : EnvValue
-  pub settings : Database
+  pub database : Database
   pub clients : ℕ
   pub ops : ℕ
   pub generator : Generator
@@ -34,7 +34,7 @@ abbrev pub plan_of_data : PlanData → PlanValue
 plan_of_data fields =
     record {
       env = fields.environment;
-      settings = fields.settings;
+      database = fields.database;
       clients = fields.clients;
       ops = fields.ops;
       generator = generator_of fields.generator;
@@ -58,7 +58,7 @@ HasClients p = (1 ≤ p.clients) × (p.clients ≤ max_clients)
 
 -- how many calls are allowed
 abbrev pub HasOps : PlanValue → Type 0
-HasOps p = (1 ≤ p.ops) × (p.ops ≤ max_calls_of p.settings.workload)
+HasOps p = (1 ≤ p.ops) × (p.ops ≤ max_calls_of p.database.workload)
 
 -- how many rows are allowed
 abbrev pub HasRows : PlanValue → Type 0
@@ -70,7 +70,7 @@ HasSteps p = All (λ entry. FitsNodes (length p.env.names) entry.step) p.schedul
 
 -- the generator's calls are requests of the workload, and none is the nemesis's
 abbrev pub HasGenerator : PlanValue → Type 0
-HasGenerator p = suits p.settings.workload p.clients p.generator ≡ true
+HasGenerator p = suits p.database.workload p.clients p.generator ≡ true
 
 -- a plan that can be run
 pub record IsFit (p : PlanValue) : Type 0 where

@@ -5,7 +5,7 @@ use Rattle.std.specs.Prelude.{None, nat_lt, int_lt, slice_index_or}
 use Rattle.std.specs.Ordering.{int_eq}
 use Rattle.jh_ops.specs.declared.call.Workload.{Workload}
 use Rattle.jh_ops.specs.declared.call.Workload.TheVariants.{Register, Counter, Set, Ids}
-use Rattle.jh_simnode.specs.declared.settings.Database.{Database}
+use Rattle.jh_simnode.specs.declared.database.Database.{Database}
 use Rattle.jh_simnode.specs.declared.replicas.Contents.{Contents}
 use Rattle.jh_simnode.specs.declared.replicas.Contents.TheVariants.{One, Many}
 use Rattle.jh_simnode.specs.declared.replicas.Got.{Got}
@@ -20,7 +20,7 @@ contents_of Counter initial = One (Some (pos 0))
 contents_of Set initial = Many []
 contents_of Ids initial = One (Some (pos 0))
 
--- the contents of each replica at first, by the settings
+-- the contents of each replica at first, of this database
 abbrev pub first_contents : Database → Contents
 first_contents s = contents_of s.workload s.initial
 

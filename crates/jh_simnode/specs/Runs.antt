@@ -31,7 +31,7 @@ use Rattle.jh_simnode.specs.Plans.{PlanValue}
 
 -- the world of a plan
 abbrev pub setup_of : PlanValue → Setup
-setup_of p = record { names = p.env.names; start = p.env.start; settings = p.settings }
+setup_of p = record { names = p.env.names; start = p.env.start; database = p.database }
 
 -- the generator of a run: so many calls of the plan's generator, for clients alone
 abbrev pub run_generator : PlanValue → Generator

@@ -1,7 +1,7 @@
 -- The names of stores (this project's own).
 use Rattle.std.specs.Prelude.{ℕ, List, [], ◌∷◌, codes, Option, find}
 use Rattle.std.specs.Str.{bytes_eq}
-use Rattle.jh_simnode.specs.declared.settings.Store.{Store}
+use Rattle.jh_simnode.specs.declared.database.Store.{Store}
 
 abbrev pub all_stores : List Store
 all_stores = Store.Quorum ∷ Store.Lww ∷ Store.Local ∷ []

@@ -10,9 +10,9 @@ use Rattle.jh_env.specs.Cells.{NodeCell}
 use Rattle.jh_env.specs.Names.{node_places}
 use Rattle.jh_grudge.specs.Grudges.{majority}
 use Rattle.jh_ops.specs.declared.call.Request.{Request}
-use Rattle.jh_simnode.specs.declared.settings.Database.{Database}
-use Rattle.jh_simnode.specs.declared.settings.Store.{Store}
-use Rattle.jh_simnode.specs.declared.settings.Store.TheVariants.{Quorum, Lww, Local}
+use Rattle.jh_simnode.specs.declared.database.Database.{Database}
+use Rattle.jh_simnode.specs.declared.database.Store.{Store}
+use Rattle.jh_simnode.specs.declared.database.Store.TheVariants.{Quorum, Lww, Local}
 use Rattle.jh_simnode.specs.declared.replicas.Recency.{Recency}
 use Rattle.jh_simnode.specs.declared.replicas.Recency.TheVariants.{Version, Stamp}
 use Rattle.jh_simnode.specs.declared.replicas.Replica.{Replica}

@@ -3,6 +3,7 @@
 //! where its journal leads to.
 #![tactic(auto)]
 
+mod database;
 mod effects;
 mod events;
 mod history;
@@ -15,11 +16,11 @@ mod replicas;
 mod requests;
 mod schedule;
 mod serial;
-mod settings;
 mod stores;
 mod turns;
 mod world;
 
+pub use database::{Database, Store};
 pub use events::{Event, MAX_EVENTS, WorldError};
 pub use history::{
     completion, completion_kind, entry_completion, entry_invocation, invocation, push_indexed,
@@ -30,6 +31,5 @@ pub use replay::nemesis_after;
 pub use replicas::{Contents, Got, Numbers, Recency, Replica, Reply};
 pub use schedule::{Entry, MAX_ENTRIES, Schedule, TooLong};
 pub use serial::{RunError, one_run, run_serial, world_of};
-pub use settings::{Database, Store};
 pub use turns::{driver_of, node_of, reply_ending, ticks_at};
 pub use world::World;

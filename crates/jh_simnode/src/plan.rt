@@ -9,9 +9,9 @@ ghost use Rattle.jh_simnode.specs.Plans as rule;
 ghost use Rattle.jh_simnode.specs.Plans.{IsFit, IsKeptPlan, RefusesPlan, RefusesSchedule};
 ghost use Rattle.jh_simnode.specs.declared.plan.PlanError.TheVariants.{OutOfMemory};
 
+use crate::database::{Database, Store};
 use crate::events::fits;
 use crate::schedule::{Entry, Schedule};
-use crate::settings::{Database, Store};
 use jh_env::Env;
 use jh_gen::{Gen, Inner, MAX_CLIENTS};
 use jh_ops::Workload;
@@ -27,7 +27,7 @@ pub const MAX_ROWS: u32 = 65_536;
 #[derive(Debug, Drop)]
 pub struct Plan {
     environment: Env,
-    settings: Database,
+    database: Database,
     clients: u32,
     ops: u32,
     generator: Inner,
@@ -105,7 +105,7 @@ fn all_fit(schedule: &[Entry], environment: &Env) -> bool
 pub struct PlanData {
     /// The environment, on which no fault is laid.
     pub environment: Env,
-    pub settings: Database,
+    pub database: Database,
     /// How many client threads make calls: 1 to 16.
     pub clients: u32,
     /// How many calls are made: 1 to `Workload::max_calls`.
@@ -139,7 +139,7 @@ impl Plan {
         Plan::judge(&fields)?;
         let PlanData {
             environment,
-            settings,
+            database,
             clients,
             ops,
             generator,
@@ -151,7 +151,7 @@ impl Plan {
         let generator = Inner::of(alloc, generator)?;
         let plan = Plan {
             environment,
-            settings,
+            database,
             clients,
             ops,
             generator,
@@ -172,7 +172,7 @@ impl Plan {
         if fields.clients < 1 || fields.clients > MAX_CLIENTS {
             return Err(PlanError::BadClients);
         }
-        if fields.ops < 1 || fields.ops > fields.settings.workload.max_calls() {
+        if fields.ops < 1 || fields.ops > fields.database.workload.max_calls() {
             return Err(PlanError::BadOps);
         }
         if fields.rows < 1 || fields.rows > MAX_ROWS {
@@ -180,7 +180,7 @@ impl Plan {
         }
         if !fields
             .generator
-            .suits(fields.settings.workload, fields.clients)
+            .suits(fields.database.workload, fields.clients)
         {
             return Err(PlanError::BadGenerator);
         }
@@ -205,7 +205,7 @@ impl Plan {
         let generator = self.generator.as_gen().copy(alloc)?;
         Ok(Plan {
             environment: self.environment.copy(alloc)?,
-            settings: self.settings,
+            database: self.database,
             clients: self.clients,
             ops: self.ops,
             generator: Inner::of(alloc, generator)?,
@@ -233,30 +233,30 @@ impl Plan {
 
     /// How the nodes keep their replicas together.
     pub fn store(&self) -> Store
-        ensures { result ≡ self.now.settings.store }
+        ensures { result ≡ self.now.database.store }
     {
-        self.settings.store
+        self.database.store
     }
 
     /// Whether a node that is killed loses its replica.
     pub fn volatile(&self) -> bool
-        ensures { result ≡ self.now.settings.volatile }
+        ensures { result ≡ self.now.database.volatile }
     {
-        self.settings.volatile
+        self.database.volatile
     }
 
     /// What the run asks the database to be.
     pub fn workload(&self) -> Workload
-        ensures { result ≡ self.now.settings.workload }
+        ensures { result ≡ self.now.database.workload }
     {
-        self.settings.workload
+        self.database.workload
     }
 
     /// What a register holds at first.
     pub fn initial(&self) -> Option<i64>
-        ensures { result ≡ self.now.settings.initial }
+        ensures { result ≡ self.now.database.initial }
     {
-        self.settings.initial
+        self.database.initial
     }
 
     /// The number of client threads, from 1 to 16, of a plan that can be run, as every plan.

@@ -5,7 +5,7 @@ ghost use Rattle.std.specs.Prelude.{◌≡◌, List, [], IfOk, replicate};
 ghost use Rattle.jh_simnode.specs.Replicas.{first_contents, first_replica, is_lower, version};
 ghost use Rattle.jh_simnode.specs.Replicas.{got_of};
 
-use crate::settings::Database;
+use crate::database::Database;
 use jh_ops::Workload;
 use std::alloc::{AllocError, Global};
 use std::marker::Model;
@@ -113,11 +113,11 @@ impl Numbers {
 
 impl Contents {
     /// What a replica holds at first.
-    pub(crate) fn first(alloc: Global, settings: &Database) -> Contents
-        ensures { result ≡ first_contents settings.now }
+    pub(crate) fn first(alloc: Global, database: &Database) -> Contents
+        ensures { result ≡ first_contents database.now }
     {
-        match settings.workload {
-            Workload::Register => Contents::One(settings.initial),
+        match database.workload {
+            Workload::Register => Contents::One(database.initial),
             Workload::Counter => Contents::One(Some(0)),
             Workload::Set => Contents::Many(Numbers::new(alloc)),
             Workload::Ids => Contents::One(Some(0)),
@@ -198,12 +198,12 @@ impl Recency {
 
 impl Replica {
     /// A node's replica at first.
-    pub(crate) fn first(alloc: Global, settings: &Database) -> Replica
-        ensures { result ≡ first_replica settings.now }
+    pub(crate) fn first(alloc: Global, database: &Database) -> Replica
+        ensures { result ≡ first_replica database.now }
     {
         Replica {
             recency: Recency::First,
-            contents: Contents::first(alloc, settings),
+            contents: Contents::first(alloc, database),
         }
     }
 
@@ -221,14 +221,14 @@ impl Replica {
 /// So many replicas as they are at first.
 pub(crate) fn first_replicas(
     alloc: Global,
-    settings: &Database,
+    database: &Database,
     count: usize,
 ) -> Result<Vec<Replica>, AllocError>
-    ensures { IfOk result (λ all. all.items ≡ replicate count (first_replica settings.now)) }
+    ensures { IfOk result (λ all. all.items ≡ replicate count (first_replica database.now)) }
 {
     let mut all = Vec::new(alloc);
     for _place in 0..count {
-        all.push(Replica::first(alloc, settings))?;
+        all.push(Replica::first(alloc, database))?;
     }
     Ok(all)
 }

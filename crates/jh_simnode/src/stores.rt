@@ -16,13 +16,13 @@ ghost use Rattle.jh_simnode.specs.Stores.{replicas_after_sending, replicas_after
 ghost use Rattle.jh_simnode.specs.Stores.{replicas_after_spread, is_uncut, replicas_after_kills};
 ghost use Rattle.jh_simnode.specs.Stores.{reply_to};
 
+use crate::database::{Database, Store};
 use crate::effects::effect;
 use crate::reach::{
     SomeNodes, is_node_killed, is_node_running, is_open, reached_nodes, responding_nodes,
 };
 use crate::replicas::{Recency, Replica, Reply};
 use crate::requests::{is_read_request, only_asks};
-use crate::settings::{Database, Store};
 use arrayvec::ArrayVec;
 use jh_env::{Env, Life, Node};
 use jh_ops::Request;
@@ -60,11 +60,11 @@ pub(crate) fn killed_nodes(env: &Env) -> Flags
 }
 
 /// Makes the replica of each node that is killed now and wasn't before as it is at first, where the
-/// settings say so.
+/// database is volatile.
 #[tactic(auto, unfolding(crate::specs::Stores::replicas_after_kills))]
 pub(crate) fn forget(
     alloc: Global,
-    settings: &Database,
+    database: &Database,
     before: &[bool],
     env: &Env,
     replicas: &mut [Replica],
@@ -72,15 +72,15 @@ pub(crate) fn forget(
     requires before { length before.now ≡ length env.now.names }
     requires sized { length replicas.old ≡ length env.now.names }
     ensures { replicas.new
-        ≡ replicas_after_kills settings.now before.now (env_cells env.now) replicas.old }
+        ≡ replicas_after_kills database.now before.now (env_cells env.now) replicas.old }
 {
-    if !settings.volatile {
+    if !database.volatile {
         return;
     }
     for node in env.nodes().all().as_slice() {
         let place = node.place() as usize;
         if is_node_killed(env, *node) && !before[place] {
-            replicas[place] = Replica::first(alloc, settings);
+            replicas[place] = Replica::first(alloc, database);
         }
     }
 }
@@ -449,7 +449,7 @@ fn serve_quorum(
 #[tactic(auto, unfolding(crate::specs::Stores::reply_to))]
 pub(crate) fn serve(
     alloc: Global,
-    settings: &Database,
+    database: &Database,
     env: &Env,
     replicas: &[Replica],
     number: u64,
@@ -463,9 +463,9 @@ pub(crate) fn serve(
     requires few { number < max_events }
     ensures { IfOk result
         (λ served. GivesReply replicas.now served
-        (reply_to settings.now (env_cells env.now) replicas.now number node request draw)) }
+        (reply_to database.now (env_cells env.now) replicas.now number node request draw)) }
 {
-    if !request.is_of(settings.workload) {
+    if !request.is_of(database.workload) {
         return Ok(unchanged(alloc, Reply::Fail));
     }
     let Some(cell) = env.node(node) else {
@@ -475,7 +475,7 @@ pub(crate) fn serve(
         Life::Killed => Ok(unchanged(alloc, Reply::Fail)),
         Life::Paused if only_asks(request) => Ok(unchanged(alloc, Reply::Fail)),
         Life::Paused => Ok(unchanged(alloc, Reply::Info)),
-        Life::Running => match settings.store {
+        Life::Running => match database.store {
             Store::Quorum => serve_quorum(alloc, env, replicas, node, request, draw),
             Store::Lww => {
                 let at = stamp_time(number, cell.clock);

@@ -10,9 +10,9 @@ ghost use Rattle.jh_simnode.specs.Events.{AddsEvent, Refuses, IsLegal, IsNewWorl
 ghost use Rattle.jh_simnode.specs.Limits.{max_events};
 ghost use Rattle.jh_simnode.specs.declared.events.Event.TheVariants as Event;
 
+use crate::database::{Database, Store};
 use crate::events::{Event, MAX_EVENTS, WorldError, fits};
 use crate::replicas::{Replica, Reply, first_replicas};
-use crate::settings::{Database, Store};
 use crate::stores::{forget, killed_nodes, serve, take_over, tick_replicas};
 use jh_env::{Env, Node};
 use jh_nemesis::{Nemesis, Step, StepAnswer};
@@ -21,12 +21,12 @@ use std::alloc::{AllocError, Global};
 use std::marker::Model;
 
 /// An environment under faults, the replicas of a database on its nodes, and a journal of all that
-/// happened. A contract sees what the world keeps for good, its names, starting cells and settings,
+/// happened. A contract sees what the world keeps for good, its names, starting cells and database,
 /// and the journal.
 #[derive(Debug, Drop)]
 pub struct World {
     alloc: Global,
-    settings: Database,
+    database: Database,
     nemesis: Nemesis,
     replicas: Vec<Replica>,
     journal: Vec<Event>,
@@ -64,16 +64,16 @@ impl World {
               initial = initial;
             })) }
     {
-        let settings = Database {
+        let database = Database {
             store,
             volatile,
             workload,
             initial,
         };
-        let replicas = first_replicas(alloc, &settings, env.nodes().len())?;
+        let replicas = first_replicas(alloc, &database, env.nodes().len())?;
         Ok(World {
             alloc,
-            settings,
+            database,
             nemesis: Nemesis::new(alloc, env),
             replicas,
             journal: Vec::new(alloc),
@@ -137,7 +137,7 @@ impl World {
         self.journal.reserve(1)?;
         let served = serve(
             self.alloc,
-            &self.settings,
+            &self.database,
             self.nemesis.env(),
             &self.replicas,
             number,
@@ -158,8 +158,8 @@ impl World {
     }
 
     /// A step of the nemesis. Answers the number of the event and the answer of the nemesis; a step
-    /// that it refuses is an event too. Where the settings say so, a node that is killed by it
-    /// loses its replica. A step back or forth takes memory for its event only.
+    /// that it refuses is an event too. Where the database is volatile, a node that is killed by
+    /// it loses its replica. A step back or forth takes memory for its event only.
     ///
     /// Errors, which change nothing: `UnknownNode` where the fault of a begin names one;
     /// `TooManyEvents` after 65,536 events; `OutOfMemory`.
@@ -184,7 +184,7 @@ impl World {
         let answer = self.nemesis.apply(step)?;
         forget(
             self.alloc,
-            &self.settings,
+            &self.database,
             before.as_slice(),
             self.nemesis.env(),
             &mut self.replicas,
@@ -211,7 +211,7 @@ impl World {
         self.journal.reserve(1)?;
         let taken = tick_replicas(
             self.alloc,
-            self.settings.store,
+            self.database.store,
             self.nemesis.env(),
             &self.replicas,
         )?;

@@ -159,7 +159,7 @@ fn data_over(map: &Value, environment: Env, generator: Gen, schedule: Schedule) 
 {
     PlanData {
         environment,
-        settings: database_of(map),
+        database: database_of(map),
         clients: number(map, "clients", 1),
         ops: number(map, "ops", 1),
         generator,

@@ -58,13 +58,13 @@ fn database_of(workload: &str, initial: &str) -> Option<Database> {
 }
 
 /// The plan of these parts.
-fn plan_of(alloc: Global, settings: Database, numbers: [u64; 4]) -> Option<Plan> {
+fn plan_of(alloc: Global, database: Database, numbers: [u64; 4]) -> Option<Plan> {
     let [tick_every, seed, at, levels] = numbers;
     let generator = nested(alloc, levels)?;
     let schedule = undone_at(alloc, at)?;
     let fields = PlanData {
         environment: two_nodes(alloc)?,
-        settings,
+        database,
         clients: 1,
         ops: 1,
         generator,

@@ -11,5 +11,5 @@ invariant_of-self-2 c =
     let known : c.args.node < length i.nemesis.state.names = search rules in
     let given = rw c.deref.ensures.value at c.in_ok-served.ensures in
     rw (c.push_reserved.ensures.items, c.reserve.ensures.items, c.take_over.ensures)
-    (call_goes_on i.nemesis.state i.settings i.replicas.items (replicas_with_all i.replicas.items c.in_ok-served.served.taken.items) i.journal.items c.env.result.now c.len-number.result c.args.process c.args.node c.args.request c.args.draw c.in_ok-served.served.reply
+    (call_goes_on i.nemesis.state i.database i.replicas.items (replicas_with_all i.replicas.items c.in_ok-served.served.taken.items) i.journal.items c.env.result.now c.len-number.result c.args.process c.args.node c.args.request c.args.draw c.in_ok-served.served.reply
     c.self.invariant few c.env.ensures.overlay c.env.ensures.start number known (given.reply, given.replicas.replicas))

@@ -44,7 +44,7 @@ invariant_of-self-2 c =
     let flags : c.killed_nodes-before.result.items ≡ killed_flags (env_cells c.env-2.result.now) (length i.nemesis.state.names) = rw c.env-2.ensures.names at c.killed_nodes-before.ensures in
     let forgot = rw (c.as_slice.ensures.value, flags, c.deref_mut.ensures.value) at c.forget.ensures in
     let size : length c.forget.new.replicas ≡ i.replicas.len =
-    ap length forgot ∙ (forgotten_tidy i.settings (killed_flags (env_cells c.env-2.result.now) (length i.nemesis.state.names)) (env_cells c.env-3.result.now) (length i.nemesis.state.names) (length i.journal.items) i.replicas.items c.self.invariant.tidy).sized ∙ sym c.self.invariant.tidy.sized ∙ sym i.replicas.ok.0 in
+    ap length forgot ∙ (forgotten_tidy i.database (killed_flags (env_cells c.env-2.result.now) (length i.nemesis.state.names)) (env_cells c.env-3.result.now) (length i.nemesis.state.names) (length i.journal.items) i.replicas.items c.self.invariant.tidy).sized ∙ sym c.self.invariant.tidy.sized ∙ sym i.replicas.ok.0 in
     rw (c.push_reserved.ensures.items, c.reserve.ensures.items, c.in_ok-kept.ensures, written i.replicas.len c.forget.new.replicas i.replicas.items size)
-    (step_goes_on i.nemesis.state c.apply.new.self.state i.settings i.replicas.items c.forget.new.replicas i.journal.items c.env-2.result.now c.env-3.result.now c.args.step c.in_ok-answer.answer
+    (step_goes_on i.nemesis.state c.apply.new.self.state i.database i.replicas.items c.forget.new.replicas i.journal.items c.env-2.result.now c.env-3.result.now c.args.step c.in_ok-answer.answer
     c.self.invariant few c.env-2.ensures.overlay c.env-2.ensures.start fits c.in_ok-answer.ensures.answer.0 c.in_ok-answer.ensures.answer.1 c.env-3.ensures.overlay c.env-3.ensures.start forgot)
