@@ -1,4 +1,5 @@
--- NamedGrudge faults and the grudges that name them (Jepsen's page on nemeses). Nodes are their places.
+-- Faults that are named by a grudge, and these grudges (Jepsen's page on nemeses). Nodes are their
+-- places.
 use Rattle.std.specs.Prelude.{ℕ, ◌<◌, List, [], ◌∷◌, IsPermutation}
 use Rattle.jh_grudge.specs.Lists.{first_half, second_half, split_of}
 use Rattle.jh_grudge.specs.Grudges.{CutsExactly, CompleteDrops, BridgeDrops, RingDrops}
