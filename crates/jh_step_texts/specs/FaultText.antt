@@ -72,17 +72,17 @@ spelled_grudge name v =
 
 -- a kind and what a fault of it is about, without an amount; or, where the keyword is no kind's, a
 -- cut of a grudge
-abbrev pub spelled_plainly : Option FaultKind → List ℕ → Edn → Option FaultSpelling
-spelled_plainly (Some FaultKind.Cut) name v = option_map (Links GivenLinkFault.Cut) (links_in v)
-spelled_plainly (Some FaultKind.Pause) name v = option_map (Nodes NodeFault.Pause) (nodes_in v)
-spelled_plainly (Some FaultKind.Kill) name v = option_map (Nodes NodeFault.Kill) (nodes_in v)
-spelled_plainly (Some FaultKind.Bump) name v = option_map Bumps (bumps_in v)
-spelled_plainly (Some kind) name v = None
-spelled_plainly None name v = spelled_grudge name v
+abbrev pub spelled_unmeasured : Option FaultKind → List ℕ → Edn → Option FaultSpelling
+spelled_unmeasured (Some FaultKind.Cut) name v = option_map (Links GivenLinkFault.Cut) (links_in v)
+spelled_unmeasured (Some FaultKind.Pause) name v = option_map (Nodes NodeFault.Pause) (nodes_in v)
+spelled_unmeasured (Some FaultKind.Kill) name v = option_map (Nodes NodeFault.Kill) (nodes_in v)
+spelled_unmeasured (Some FaultKind.Bump) name v = option_map Bumps (bumps_in v)
+spelled_unmeasured (Some kind) name v = None
+spelled_unmeasured None name v = spelled_grudge name v
 
--- a keyword and what it is about
-abbrev pub plain_fault : List ℕ → Edn → Option FaultSpelling
-plain_fault name v = spelled_plainly (fault_kind_named name) name v
+-- a keyword and what it is about, without an amount
+abbrev pub unmeasured_fault : List ℕ → Edn → Option FaultSpelling
+unmeasured_fault name v = spelled_unmeasured (fault_kind_named name) name v
 
 -- what a fault of this kind does to its links with an amount, if it has one
 abbrev pub measured : FaultKind → ℤ → Option GivenLinkFault
@@ -99,7 +99,7 @@ measured_fault name z v =
 
 abbrev pub spelling_in : List Edn → Option FaultSpelling
 spelling_in (keyword name ∷ []) = spelled_by_keyword name
-spelling_in (keyword name ∷ v ∷ []) = plain_fault name v
+spelling_in (keyword name ∷ v ∷ []) = unmeasured_fault name v
 spelling_in (keyword name ∷ int z ∷ v ∷ []) = measured_fault name z v
 spelling_in _ = None
 

@@ -155,9 +155,9 @@ fn spelled_grudge<'a>(name: &str, value: &'a Value) -> Option<SpelledFault<'a>>
     }
 }
 
-/// The fault that a keyword and a value spell, if they do.
-fn plain_fault<'a>(name: &str, value: &'a Value) -> Option<SpelledFault<'a>>
-    ensures { option_map spelling_of result ≡ rule.plain_fault name.now (view value.now) }
+/// The fault that a keyword and a value spell, without an amount, if they do.
+fn unmeasured_fault<'a>(name: &str, value: &'a Value) -> Option<SpelledFault<'a>>
+    ensures { option_map spelling_of result ≡ rule.unmeasured_fault name.now (view value.now) }
 {
     match FaultKind::named(name) {
         Some(FaultKind::Cut) => Some(SpelledFault::Links(GivenLinkFault::Cut, links_in(value)?)),
@@ -197,7 +197,7 @@ fn spelling_in(elements: &[Value]) -> Option<SpelledFault<'_>>
 {
     match elements {
         [Value::Keyword(name)] => spelled_by_keyword(name.as_str()),
-        [Value::Keyword(name), value] => plain_fault(name.as_str(), value),
+        [Value::Keyword(name), value] => unmeasured_fault(name.as_str(), value),
         [Value::Keyword(name), Value::Int(amount), value] => {
             measured_fault(name.as_str(), *amount, value)
         }
