@@ -2,7 +2,8 @@
 //!
 //! `specs/Text.antt` says which value spells which names and entries, `specs/TextErrors.antt` which
 //! are refused, `specs/TextCells.antt` what entries make of the cells, and `specs/TextWritten.antt`
-//! what is written. A key is added there, and in `texts/entries.rt`.
+//! what is written. A key is added there, in `texts/entries.rt`, and among the keys that
+//! `texts/reading.rt` knows.
 
 ghost use Rattle.std.specs.Prelude.{◌≡◌, [], MatchResult, IfOk};
 ghost use Rattle.jh_edn.specs.View.{view};

@@ -14,7 +14,7 @@ use super::entries::{Entry, SECTIONS, Section};
 use jh_edn::{Value, value_under};
 use std::alloc::Global;
 
-/// Whether one of the six keys has this name.
+/// Whether one of the six keys has this name: `nodes`, or that of a section.
 fn is_known_keyword(name: &str) -> bool
     ensures { result ≡ list_any (bytes_eq name.now) (nodes_keyword ∷ map text.keyword_of sections) }
 {
