@@ -5,8 +5,8 @@ use Rattle.jh_env.specs.Overlay.{EnvValue}
 use Rattle.jh_env.specs.declared.environment.Env.TheInside.{Inside}
 
 -- the names, and all that is seen of the tables
-abbrev pub env_value : Inside → EnvValue
-env_value a = record {
+abbrev pub view_env : Inside → EnvValue
+view_env a = record {
   names = a.names;
   start = a.tables.start;
   cells = a.tables.cells;

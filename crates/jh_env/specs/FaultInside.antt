@@ -4,8 +4,8 @@ use Rattle.jh_tables.specs.Plain.{fault_of}
 use Rattle.jh_env.specs.declared.faults.Fault.TheInside.{Inside}
 
 -- the fault of the fields
-abbrev pub fault_value : Inside → FaultValue
-fault_value a = fault_of a.fault
+abbrev pub view_fault : Inside → FaultValue
+view_fault a = fault_of a.fault
 
 -- each link and node stands once, and amounts are in their ranges
 abbrev pub IsWellMade : Inside → Type 0

@@ -8,8 +8,8 @@ use Rattle.jh_env.specs.Starting.{StartValue, IsStartingLink, IsStartingNode}
 use Rattle.jh_env.specs.declared.starting.Start.TheInside.{Inside}
 
 -- the names and the cells
-abbrev pub start_value : Inside → StartValue
-start_value a = record {
+abbrev pub view_start : Inside → StartValue
+view_start a = record {
   names = a.names;
   cells = record { links = a.link_cells.items; nodes = a.node_cells.items };
 }

@@ -41,9 +41,9 @@ impl Model for Env {
 
     ghost Value = { EnvValue };
 
-    ghost use Rattle.jh_env.specs.EnvInside.{env_value, IsWholeEnv};
+    ghost use Rattle.jh_env.specs.EnvInside.{view_env, IsWholeEnv};
 
-    ghost view = { env_value };
+    ghost view = { view_env };
 
     ghost invariant = { IsWholeEnv };
 }

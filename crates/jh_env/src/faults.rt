@@ -46,9 +46,9 @@ impl Model for Fault {
 
     ghost Value = { FaultValue };
 
-    ghost use Rattle.jh_env.specs.FaultInside.{fault_value, IsWellMade};
+    ghost use Rattle.jh_env.specs.FaultInside.{view_fault, IsWellMade};
 
-    ghost view = { fault_value };
+    ghost view = { view_fault };
 
     ghost invariant = { IsWellMade };
 }

@@ -33,9 +33,9 @@ impl Model for Start {
 
     ghost Value = { StartValue };
 
-    ghost use Rattle.jh_env.specs.StartInside.{start_value, IsSetUp};
+    ghost use Rattle.jh_env.specs.StartInside.{view_start, IsSetUp};
 
-    ghost view = { start_value };
+    ghost view = { view_start };
 
     ghost invariant = { IsSetUp };
 }

@@ -9,8 +9,8 @@ use Rattle.jh_tables.specs.Limits.{max_laid, max_nodes}
 use Rattle.jh_tables.specs.declared.tables.Tables.TheInside.{Inside}
 
 -- the cells that are read off the tallies, and how many faults are put
-abbrev pub tables_value : Inside → TablesValue
-tables_value a = record {
+abbrev pub view_tables : Inside → TablesValue
+view_tables a = record {
   start = cells_at_start a.counted;
   cells = cells_now a.counted;
   tallies = a.counted;

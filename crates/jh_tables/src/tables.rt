@@ -37,9 +37,9 @@ impl Model for Tables {
 
     ghost Value = { TablesValue };
 
-    ghost use Rattle.jh_tables.specs.TablesInside.{tables_value, IsWhole};
+    ghost use Rattle.jh_tables.specs.TablesInside.{view_tables, IsWhole};
 
-    ghost view = { tables_value };
+    ghost view = { view_tables };
 
     ghost invariant = { IsWhole };
 }
