@@ -116,18 +116,18 @@ fn record_invocation<B: OfLog, P: Port>(
 fn record_completion<B: OfLog, P: Port>(
     shared: &Shared<'_, B, P>,
     log_seat: &mut LogSeat<B>,
-    number: u64,
+    event_number: u64,
     process: u64,
     request: Request,
     reply: &Reply,
 ) -> Result<(), RunError>
-    requires { number < 2 ^ 63 }
+    requires { event_number < 2 ^ 63 }
     ensures { OnOk result (Publishes log_seat.old.seat.knows.seen
-        (rule.completion number process request reply.now) log_seat.new.seat.knows.seen) }
+        (rule.completion event_number process request reply.now) log_seat.new.seat.knows.seen) }
 {
     let rows = rows_written(request, reply);
     let claim = log_seat.claim(shared.slots, rows)?;
-    let made = completion(shared.alloc, number, process, request, reply);
+    let made = completion(shared.alloc, event_number, process, request, reply);
     publish(shared, log_seat, claim, rows, made)
 }
 
@@ -135,15 +135,15 @@ fn record_completion<B: OfLog, P: Port>(
 fn record_begin<B: OfLog, P: Port>(
     shared: &Shared<'_, B, P>,
     log_seat: &mut LogSeat<B>,
-    entry: u64,
+    entry_place: u64,
 ) -> Result<(), RunError>
-    requires { entry < 2 ^ 63 }
+    requires { entry_place < 2 ^ 63 }
     ensures { OnOk result
-        (Publishes log_seat.old.seat.knows.seen (rule.entry_invocation entry)
+        (Publishes log_seat.old.seat.knows.seen (rule.entry_invocation entry_place)
         log_seat.new.seat.knows.seen) }
 {
     let claim = log_seat.claim(shared.slots, 1)?;
-    let made = entry_invocation(shared.alloc, entry);
+    let made = entry_invocation(shared.alloc, entry_place);
     publish(shared, log_seat, claim, 1, made)
 }
 
@@ -151,17 +151,17 @@ fn record_begin<B: OfLog, P: Port>(
 fn record_end<B: OfLog, P: Port>(
     shared: &Shared<'_, B, P>,
     log_seat: &mut LogSeat<B>,
-    number: u64,
-    entry: u64,
+    event_number: u64,
+    entry_place: u64,
     answer: StepAnswer,
 ) -> Result<(), RunError>
-    requires number { number < 2 ^ 63 }
-    requires entry { entry < 2 ^ 63 }
+    requires event { event_number < 2 ^ 63 }
+    requires entry { entry_place < 2 ^ 63 }
     ensures { OnOk result (Publishes log_seat.old.seat.knows.seen
-        (rule.entry_completion number entry answer) log_seat.new.seat.knows.seen) }
+        (rule.entry_completion event_number entry_place answer) log_seat.new.seat.knows.seen) }
 {
     let claim = log_seat.claim(shared.slots, 1)?;
-    let made = entry_completion(shared.alloc, number, entry, answer);
+    let made = entry_completion(shared.alloc, event_number, entry_place, answer);
     publish(shared, log_seat, claim, 1, made)
 }
 
@@ -215,19 +215,19 @@ fn apply_entry<B: OfLog, P: Port, R: Wait>(
     rt: &R,
     shared: &Shared<'_, B, P>,
     worker: &mut Worker<B, P::Share>,
-    number: u64,
+    entry_place: u64,
     entry: &Entry,
 ) -> Result<(), RunError>
-    requires { number < 2 ^ 63 }
+    requires { entry_place < 2 ^ 63 }
     ensures called { OnOk result (P.Share.total worker.new.share ≡ P.Share.total worker.old.share + 1) }
     ensures recorded { OnOk result ((answer : StepAnswer) × (event : ℕ)
-        × PublishesBoth worker.old.log_seat.seat.knows.seen (rule.entry_invocation number)
-        (rule.entry_completion event number answer) worker.new.log_seat.seat.knows.seen) }
+        × PublishesBoth worker.old.log_seat.seat.knows.seen (rule.entry_invocation entry_place)
+        (rule.entry_completion event entry_place answer) worker.new.log_seat.seat.knows.seen) }
 {
     let step = entry.step.copy(shared.alloc)?;
-    record_begin(shared, &mut worker.log_seat, number)?;
+    record_begin(shared, &mut worker.log_seat, entry_place)?;
     let (event, answer) = shared.port.step(rt, &mut worker.share, step)?;
-    record_end(shared, &mut worker.log_seat, event, number, answer)?;
+    record_end(shared, &mut worker.log_seat, event, entry_place, answer)?;
     Ok(())
 }
 
@@ -255,13 +255,14 @@ fn work_as_client<B: OfLog, P: Port, R: Wait>(
     thread: u32,
     worker: &mut Worker<B, P::Share>,
 ) -> Result<(), RunError> {
-    // Each thread has a stream of its own, and the serial run stream 0.
+    // Each thread has a stream of its own, from 1 on, and the serial run has stream 0.
     let stream = u128::from(thread) + 1;
     let mut numbers = Lcg128Xsl64::new(u128::from(shared.plan.seed()), stream);
     let mut calls: u32 = 0;
     monitor.enter(rt);
     for _ in rt.forever() {
         match monitor.next_assignment(rt, thread, &mut numbers) {
+            // `next_assignment` never gives `Waits`.
             Assignment::Ends | Assignment::Waits => return Ok(()),
             Assignment::Calls(process, request) => {
                 let asked = ClientCall {
