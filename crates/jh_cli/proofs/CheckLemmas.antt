@@ -9,7 +9,7 @@ use Rattle.jh_independent.specs.declared.error.KeysError.{KeysError}
 use Rattle.jh_independent.specs.declared.error.KeysError.TheVariants as KeysErrors
 use Rattle.jh_ops.specs.Operation.{Operation}
 use Rattle.jh_ops.specs.declared.history.HistoryError.TheVariants as history_errors
-use Rattle.jh_histories.specs.HistoryAndRest.{RefusesHistoryAndRest}
+use Rattle.jh_histories.specs.HistoryAndBelow.{RefusesHistoryAndBelow}
 use Rattle.jh_cli.specs.HistoryInput.{IsHistoryInput, RefusesHistoryInput}
 use Rattle.jh_cli.specs.CheckRefusals.{RefusesBy, RefusesCheck, RefusesJudging}
 use Rattle.jh_cli.specs.Status.{check_error, keys_error, reading_error}
@@ -20,7 +20,7 @@ use Rattle.jh_cli.specs.declared.error.CliError.TheVariants.{TimeMissing, Input,
 -- ---- no history is read
 
 -- reading writes nothing
-pub nothing_written : (input : List ℕ) → RefusesHistoryAndRest input (reading.Text edn.Write) → ⊥
+pub nothing_written : (input : List ℕ) → RefusesHistoryAndBelow input (reading.Text edn.Write) → ⊥
 nothing_written input refused =
     elim refused [
       | inl bytes ↦ bytes.0

@@ -45,8 +45,8 @@ pub struct CheckQuestion {
     pub skips_unread: bool,
 }
 
-/// Reads a history as `jh_histories::read_history_and_rest` does, also out of what `run` or `drive`
-/// printed, without its unread pairs where that is asked for, judges it as
+/// Reads a history as `jh_histories::read_history_and_below` does, also out of what `run` or
+/// `drive` printed, without its unread pairs where that is asked for, judges it as
 /// `jh_checkers::check_history` does, and writes one line with what is found. The answer is the exit
 /// status: 0 where the history is valid, 1 where it is not, 2 where that is not known. All is read
 /// and judged before the first byte is written.

@@ -20,7 +20,7 @@ use jh_reports::{DONE, Output};
 use std::alloc::{AllocError, Global};
 use std::io::{Read, Write};
 
-/// Reads a history as `jh_histories::read_history_and_rest` does, also out of what `run` or
+/// Reads a history as `jh_histories::read_history_and_below` does, also out of what `run` or
 /// `drive` printed, without its unread keys where `skips_unread` asks for that, and writes a page in
 /// HTML with the latency of each call, percentiles of the latencies and rates over time, as
 /// `jh_plots::plot_of` places them. The times of faults are there where the records of the nemesis

@@ -24,7 +24,7 @@ use crate::notice::notice_of;
 use crate::output::finish;
 use jh_checkers::{Finding, Judging, check_history};
 use jh_edn::Value;
-use jh_histories::HistoryAndRest;
+use jh_histories::HistoryAndBelow;
 use jh_independent::{check_keys_serial, verdict_of_all};
 use jh_ops::Op;
 use jh_reports::{DONE, Output, finding_text, keys_text};
@@ -58,9 +58,9 @@ struct Shown {
     sections: Vec<Section>,
 }
 
-/// Reads a history as `jh_histories::read_history_and_rest` does, or all that `run` printed, without its
-/// unread keys where that is asked for, judges
-/// it by the checker of the workload, if there is one, and writes a page in HTML that shows the
+/// Reads a history as `jh_histories::read_history_and_below` does, or all that `run` printed,
+/// without its unread keys where that is asked for, judges it by the checker of the workload, if
+/// there is one, and writes a page in HTML that shows the
 /// history: what was found in one sentence on top, as `jh_timeline_sections::title_of` says it,
 /// with the line of the checker folded below, and a notice where the input says another verdict;
 /// the history as `jh_timeline_sections::section_of` shows it; and below it what `run` printed
@@ -320,7 +320,7 @@ fn page_text(
 /// The page of what was read.
 fn page_of(
     alloc: Global,
-    parts: HistoryAndRest,
+    parts: HistoryAndBelow,
     question: TimelineQuestion,
     steps: &[Value],
 ) -> Result<Output, CliError>
@@ -330,7 +330,7 @@ fn page_of(
         output.status output.text.items)
         (RefusesPage question (operations parts.history.items)) }
 {
-    let HistoryAndRest { history, below } = parts;
+    let HistoryAndBelow { history, below } = parts;
     let Shown {
         status,
         title,

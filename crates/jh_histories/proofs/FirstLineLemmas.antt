@@ -13,7 +13,7 @@ use Rattle.jh_ops.specs.HistoryText.{parsed_elements}
 use Rattle.jh_ops.specs.Operation.{Operation}
 use Rattle.jh_ops.specs.declared.history.HistoryError.TheVariants.{Op, OutOfMemory}
 use Rattle.jh_ops.specs.declared.op_text.OpError.{OpError}
-use Rattle.jh_histories.specs.HistoryAndRest.{HasLineAt, IsFirstLine, IsOfBytes, IsNoHistory}
+use Rattle.jh_histories.specs.HistoryAndBelow.{HasLineAt, IsFirstLine, IsOfBytes, IsNoHistory}
 
 -- ---- a text that means none
 

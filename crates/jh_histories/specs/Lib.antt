@@ -1,3 +1,3 @@
 pub mod Histories
 pub mod ParsingInside
-pub mod HistoryAndRest
+pub mod HistoryAndBelow

@@ -1,8 +1,8 @@
 use Rattle.std.proofs.Common.{◌≡◌, ◌+◌, ap, arith, drop, inr}
 use Rattle.std.proofs.lemmas.Str.{IsCharBoundary-start}
-use Rattle.jh_histories.specs.HistoryAndRest.{conversation_end}
+use Rattle.jh_histories.specs.HistoryAndBelow.{conversation_end}
 use Rattle.jh_histories.proofs.FirstLineLemmas.{behind_feed}
-use Rattle.jh_histories.proofs.rest.conversation_end.Goals as goal
+use Rattle.jh_histories.proofs.below.conversation_end.Goals as goal
 
 pub returns-in-Some-clause-place : goal.returns-in-Some-clause-place
 returns-in-Some-clause-place c =

@@ -8,7 +8,7 @@ use Rattle.jh_edn.specs.Refused.{IsReaderError}
 use Rattle.jh_edn.specs.declared.error.EdnError.TheVariants.{Utf8}
 use Rattle.jh_histories.specs.Histories.{IsHistoryOf, RefusesHistoryOf}
 use Rattle.jh_histories.specs.declared.error.ReadHistoryError.{ReadHistoryError}
-use Rattle.jh_histories.specs.declared.rest.RecordedPart.{RecordedPart}
+use Rattle.jh_histories.specs.declared.below.RecordedPart.{RecordedPart}
 use Rattle.jh_histories.specs.declared.error.ReadHistoryError.TheVariants.{Text, History}
 use Rattle.jh_ops.specs.Operation.{Operation}
 use Rattle.jh_ops.specs.declared.history.HistoryError.TheVariants.{OutOfMemory}
@@ -40,10 +40,11 @@ abbrev pub HasNoLine : (begin text : List ℕ) → Type 0
 HasNoLine begin text = (at : ℕ) → HasLineAt begin text at → ⊥
 
 -- What stands behind the first line `:end`, and all of the text where it has none.
-abbrev pub IsBehindEnd : (text rest : List ℕ) → Type 0
-IsBehindEnd text rest =
-    (HasNoLine conversation_end text × (rest ≡ text))
-    ⊎ ((at : ℕ) × IsFirstLine conversation_end text at × (rest ≡ drop (at + length conversation_end) text))
+abbrev pub IsBehindEnd : (text behind : List ℕ) → Type 0
+IsBehindEnd text behind =
+    (HasNoLine conversation_end text × (behind ≡ text))
+    ⊎ ((at : ℕ) × IsFirstLine conversation_end text at
+    × (behind ≡ drop (at + length conversation_end) text))
 
 -- This part of a text, from its start to its end, stands before the first line that begins with
 -- `:active`, and behind the line `:end` where one stands there.
@@ -66,11 +67,11 @@ pub record HasHistoryBefore (text : List ℕ) (history : List Operation)
   pub before : List ℕ
   pub behind : IsBehindEnd (take at text) before
   pub parsed : IsHistoryOf before history
-  pub rest : below ≡ drop at text
+  pub below_is : below ≡ drop at text
 
 -- The text is a history as a whole, with nothing below, or in two parts.
-abbrev pub AreHistoryAndRest : List ℕ → List Operation → List ℕ → Type 0
-AreHistoryAndRest text history below =
+abbrev pub AreHistoryAndBelow : List ℕ → List Operation → List ℕ → Type 0
+AreHistoryAndBelow text history below =
     (IsHistoryOf text history × (below ≡ [])) ⊎ HasHistoryBefore text history below
 
 -- an error that does not come from what the text holds: its bytes can't be read, are no UTF-8, or
@@ -93,7 +94,7 @@ pub record RefusesBefore (text : List ℕ) (error : ReadHistoryError) : Type 0 w
 
 -- Why a text has no history: its bytes; or why it is none as a whole, where it has no such line; or
 -- why what stands before that line is none.
-abbrev pub RefusesHistoryAndRest : List ℕ → ReadHistoryError → Type 0
-RefusesHistoryAndRest text error =
+abbrev pub RefusesHistoryAndBelow : List ℕ → ReadHistoryError → Type 0
+RefusesHistoryAndBelow text error =
     (IsOfBytes error × RefusesHistoryOf text error)
     ⊎ ((HasNoLine active text × RefusesHistoryOf text error) ⊎ RefusesBefore text error)

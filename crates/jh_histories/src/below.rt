@@ -1,13 +1,14 @@
-//! Which part of a text is a history. `specs/HistoryAndRest.antt` has the rule.
+//! Which part of a text is a history. `specs/HistoryAndBelow.antt` has the rule.
 
 ghost use Rattle.std.specs.Prelude.{◌↔◌, All, IfErr, IfOk, IfSome, IsTrue, MatchOption, drop, take};
 ghost use Rattle.std.specs.Str.{IsCharBoundary};
 ghost use Rattle.jh_histories.specs.Histories.{RefusesHistoryOf};
 ghost use Rattle.jh_ops.specs.Operation.{operations};
 ghost use Rattle.jh_ops.specs.OperationWritten.{IsWritable};
-ghost use Rattle.jh_histories.specs.HistoryAndRest.{AreHistoryAndRest, HasNoLine, IsFirstLine};
-ghost use Rattle.jh_histories.specs.HistoryAndRest.{active, IsBehindEnd, IsOfBytes};
-ghost use Rattle.jh_histories.specs.HistoryAndRest.{RefusesHistoryAndRest, IsNoHistory, IsRecordedPart};
+ghost use Rattle.jh_histories.specs.HistoryAndBelow.{AreHistoryAndBelow, HasNoLine, IsFirstLine};
+ghost use Rattle.jh_histories.specs.HistoryAndBelow.{active, IsBehindEnd, IsOfBytes};
+ghost use Rattle.jh_histories.specs.HistoryAndBelow.{RefusesHistoryAndBelow, IsNoHistory};
+ghost use Rattle.jh_histories.specs.HistoryAndBelow.{IsRecordedPart};
 
 use crate::error::ReadHistoryError;
 use crate::reading::history_in;
@@ -18,14 +19,14 @@ use std::io::Read;
 
 /// A text in two parts.
 #[derive(Drop)]
-pub struct HistoryAndRest {
+pub struct HistoryAndBelow {
     pub history: Vec<Op>,
     /// What is no part of the history, as it is in the text.
     pub below: Vec<u8>,
 }
 
 /// Where the first line begins that begins with `:active`.
-fn first_line(text: &str) -> Option<usize>
+fn active_line_at(text: &str) -> Option<usize>
     ensures place { MatchOption result (HasNoLine active text.now) (IsFirstLine active text.now) }
     ensures boundary { IfSome result (IsCharBoundary text.now) }
 {
@@ -38,8 +39,8 @@ fn first_line(text: &str) -> Option<usize>
     }
 }
 
-/// Where the lines of a conversation end: behind the first line `:end`, and at the start of a text that
-/// has none.
+/// Where the lines of a conversation end: behind the first line `:end`, and at the start of a text
+/// that has none. What is looked for is 5 bytes long, or 6 with the line feed before it.
 fn conversation_end(text: &str) -> usize
     ensures place { IsBehindEnd text.now (drop result text.now) }
     ensures boundary { IsCharBoundary text.now result }
@@ -70,7 +71,7 @@ pub fn recorded_part(text: &str) -> Option<RecordedPart>
     ensures start { IfSome result
         (λ part. IsCharBoundary (take part.end text.now) part.start) }
 {
-    let end = first_line(text)?;
+    let end = active_line_at(text)?;
     let start = conversation_end(&text[..end]);
     Some(RecordedPart { start, end })
 }
@@ -92,21 +93,21 @@ fn history_before(
     alloc: Global,
     text: &str,
     whole: ReadHistoryError,
-) -> Result<HistoryAndRest, ReadHistoryError>
+) -> Result<HistoryAndBelow, ReadHistoryError>
     requires refused { RefusesHistoryOf text.now whole }
     requires none { IsNoHistory text.now }
     ensures parsed { IfOk result (λ parts.
-        AreHistoryAndRest text.now (operations parts.history.items) parts.below.items) }
+        AreHistoryAndBelow text.now (operations parts.history.items) parts.below.items) }
     ensures writable { IfOk result (λ parts.
         All (λ op. IsWritable op.process) parts.history.items) }
-    ensures refused { IfErr result (RefusesHistoryAndRest text.now) }
+    ensures refused { IfErr result (RefusesHistoryAndBelow text.now) }
 {
     let Some(RecordedPart { start, end }) = recorded_part(text) else {
         return Err(whole);
     };
     let history = history_in(alloc, &text[..end][start..])?;
     let below = Vec::from_slice(alloc, &text.as_bytes()[end..])?;
-    Ok(HistoryAndRest { history, below })
+    Ok(HistoryAndBelow { history, below })
 }
 
 /// The history that a text means, and what is below it. Where the whole text is a history, nothing
@@ -119,16 +120,16 @@ fn history_before(
 /// `:active`; else those for the part that is the history.
 ///
 /// Reads the text at most twice, looks for each of these lines once, and copies what is below.
-pub fn history_and_rest(alloc: Global, text: &str) -> Result<HistoryAndRest, ReadHistoryError>
+pub fn history_and_below(alloc: Global, text: &str) -> Result<HistoryAndBelow, ReadHistoryError>
     ensures parsed { IfOk result (λ parts.
-        AreHistoryAndRest text.now (operations parts.history.items) parts.below.items) }
+        AreHistoryAndBelow text.now (operations parts.history.items) parts.below.items) }
     ensures writable { IfOk result (λ parts.
         All (λ op. IsWritable op.process) parts.history.items) }
-    ensures refused { IfErr result (RefusesHistoryAndRest text.now) }
+    ensures refused { IfErr result (RefusesHistoryAndBelow text.now) }
 {
     spelled_once();
     match history_in(alloc, text) {
-        Ok(history) => Ok(HistoryAndRest {
+        Ok(history) => Ok(HistoryAndBelow {
             history,
             below: Vec::new(alloc),
         }),
@@ -137,25 +138,25 @@ pub fn history_and_rest(alloc: Global, text: &str) -> Result<HistoryAndRest, Rea
     }
 }
 
-/// The parts of the text of a reader, as `history_and_rest` gives them, read in at most `turns`
+/// The parts of the text of a reader, as `history_and_below` gives them, read in at most `turns`
 /// reads. The text is dropped before they are given.
 ///
-/// Errors: those of `jh_edn::read_bytes`, then `Utf8`, then those of `history_and_rest`.
-pub fn read_history_and_rest<R: Read>(
+/// Errors: those of `jh_edn::read_bytes`, then `Utf8`, then those of `history_and_below`.
+pub fn read_history_and_below<R: Read>(
     alloc: Global,
     reader: &mut R,
     turns: u32,
-) -> Result<HistoryAndRest, ReadHistoryError>
+) -> Result<HistoryAndBelow, ReadHistoryError>
     ensures parsed { IfOk result (λ parts. IfSome (R.remaining reader.old) (λ bytes.
-        AreHistoryAndRest bytes (operations parts.history.items) parts.below.items)) }
+        AreHistoryAndBelow bytes (operations parts.history.items) parts.below.items)) }
     ensures writable { IfOk result (λ parts.
         All (λ op. IsWritable op.process) parts.history.items) }
     ensures refused { IfErr result (λ e.
-        IfSome (R.remaining reader.old) (λ bytes. RefusesHistoryAndRest bytes e)) }
+        IfSome (R.remaining reader.old) (λ bytes. RefusesHistoryAndBelow bytes e)) }
 {
     let bytes = read_bytes(alloc, reader, turns)?;
     let Ok(text) = str::from_utf8(&bytes) else {
         return Err(ReadHistoryError::Text(EdnError::Utf8));
     };
-    history_and_rest(alloc, text)
+    history_and_below(alloc, text)
 }

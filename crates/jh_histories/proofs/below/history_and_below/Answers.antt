@@ -1,5 +1,5 @@
 use Rattle.jh_histories.proofs.FirstLineLemmas.{means_none}
-use Rattle.jh_histories.proofs.rest.history_and_rest.Goals as goal
+use Rattle.jh_histories.proofs.below.history_and_below.Goals as goal
 
 pub history_before-requires-clause-none : goal.history_before-requires-clause-none
 history_before-requires-clause-none c =

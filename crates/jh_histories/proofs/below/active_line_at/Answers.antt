@@ -1,6 +1,6 @@
-use Rattle.jh_histories.specs.HistoryAndRest.{active}
+use Rattle.jh_histories.specs.HistoryAndBelow.{active}
 use Rattle.jh_histories.proofs.FirstLineLemmas.{behind_feed}
-use Rattle.jh_histories.proofs.rest.first_line.Goals as goal
+use Rattle.jh_histories.proofs.below.active_line_at.Goals as goal
 
 pub returns-in-Some-clause-place : goal.returns-in-Some-clause-place
 returns-in-Some-clause-place c =
