@@ -17,6 +17,12 @@ use std::alloc::{AllocError, Global};
 use std::marker::Model;
 use thiserror::Error;
 
+/// The most nodes.
+const MAX_NODES: usize = 64;
+
+/// The most bytes of a name.
+const MAX_NAME_BYTES: usize = 64;
+
 /// The names of an environment's nodes, in the order given. A contract sees the list of names.
 #[derive(Debug, Drop)]
 pub struct Nodes {
@@ -58,7 +64,7 @@ fn is_node_name(name: &str) -> bool
     ensures { result ≡ rule.is_node_name name.now }
 {
     let bytes = name.as_bytes();
-    if bytes.is_empty() || bytes.len() > 64 {
+    if bytes.is_empty() || bytes.len() > MAX_NAME_BYTES {
         return false;
     }
     are_name_bytes(bytes)
@@ -124,7 +130,7 @@ impl Nodes {
         if names.is_empty() {
             return Err(NodesError::NoNodes);
         }
-        if names.len() > 64 {
+        if names.len() > MAX_NODES {
             return Err(NodesError::TooManyNodes);
         }
         let mut set = IndexSet::new(alloc);

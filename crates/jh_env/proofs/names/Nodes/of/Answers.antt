@@ -10,7 +10,7 @@ returns-in_err-add_name c =
     let all : List (List ℕ) = map (λ s. s.now) c.args.names.now in
     let i = c.loop-name.name-index in
     let size : length all ≡ length c.args.names.now = length-map c.args.names.now (λ s. s.now) in
-    let few : AreFew all = rw size (above_nought (length c.args.names.now) c.if-is_empty.ensures, c.if-names-gt64.false) in
+    let few : AreFew all = rw size (above_nought (length c.args.names.now) c.if-is_empty.ensures, c.if-names-gt-MAX_NODES.false) in
     let first : map string_bytes c.loop-name.set.keys ≡ take i all = c.loop-name.invariant.same ∙ sym (take-map (λ s. s.now) i c.args.names.now) in
     let refuses : RefusesName (take i all) (get_or all i []) c.in_err-add_name.field-0.0 =
     rw (← first, get_or-map (λ s. s.now) c.args.names.now i (record { ref_ptr = (0, 0); now = [] }) [] c.loop-name-test.true) c.in_err-add_name.ensures in
@@ -34,7 +34,7 @@ returns c =
     let all : List (List ℕ) = map (λ s. s.now) c.args.names.now in
     let i = c.loop-name.name-index in
     let size : length all ≡ length c.args.names.now = length-map c.args.names.now (λ s. s.now) in
-    let few : AreFew all = rw size (above_nought (length c.args.names.now) c.if-is_empty.ensures, c.if-names-gt64.false) in
+    let few : AreFew all = rw size (above_nought (length c.args.names.now) c.if-is_empty.ensures, c.if-names-gt-MAX_NODES.false) in
     let done : length c.args.names.now ≤ i = omega (arith, c.loop-name-test.false) in
     let same : map string_bytes c.loop-name.set.keys ≡ all = c.loop-name.invariant.same ∙ ap (map (λ s. s.now)) (take_all i c.args.names.now done) in
     let good : AreNodeNames all = node_names all all [] i (sym (append-nil all)) (omega arith) c.loop-name.invariant.good in
@@ -49,4 +49,4 @@ invariant_of-result c =
     let same : map string_bytes c.loop-name.set.keys ≡ all = c.loop-name.invariant.same ∙ ap (map (λ s. s.now)) (take_all i c.args.names.now done) in
     let good : AreNodeNames all = node_names all all [] i (sym (append-nil all)) (omega arith) c.loop-name.invariant.good in
     let count : length c.loop-name.set.keys ≡ length c.args.names.now = sym (length-map c.loop-name.set.keys string_bytes) ∙ (ap length same ∙ size) in
-    (rw count (above_nought (length c.args.names.now) c.if-is_empty.ensures), rw count c.if-names-gt64.false, rw same good)
+    (rw count (above_nought (length c.args.names.now) c.if-is_empty.ensures), rw count c.if-names-gt-MAX_NODES.false, rw same good)
