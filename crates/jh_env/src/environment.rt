@@ -20,12 +20,12 @@ use std::marker::Model;
 /// The most faults that can be laid at once: put and not taken off again.
 pub const MAX_LAID: usize = jh_tables::MAX_LAID;
 
-/// The most milliseconds by which a message can be late: a minute at the start or by a fix, and a
-/// further minute for each of 256 faults.
+/// The most milliseconds by which a message can be late: `MAX_START_DELAY_MS` at the start, or as
+/// many by a fix, and a further `MAX_SLOWED_MS` for each of `MAX_LAID` faults.
 pub const MAX_DELAY_MS: u64 = 60_000 * 257;
 
-/// The most milliseconds by which a clock can be off, either way: 10^12 at the start and a further
-/// 10^9 for each of 256 faults.
+/// The most milliseconds by which a clock can be off, either way: `MAX_START_OFFSET_MS` at the
+/// start and a further `MAX_BUMPED_MS` for each of `MAX_LAID` faults.
 pub const MAX_OFFSET_MS: u64 = 1_000_000_000_000 + 256 * 1_000_000_000;
 
 /// Cells of links and nodes, and what faults make of them. A contract sees the names, the starting
@@ -85,7 +85,7 @@ impl Env {
     }
 
     /// The link from one node to another, where both are nodes of the environment and differ. It
-    /// goes through the fixes that stand, at most 256.
+    /// goes through the fixes that stand, at most `MAX_LAID`.
     pub fn link(&self, from: Node, to: Node) -> Option<Link>
         ensures link { result ≡ link_of self.now from to }
         ensures within { IfSome result IsLinkInRange }
@@ -101,7 +101,7 @@ impl Env {
         self.tables.node(node)
     }
 
-    /// How many faults are laid, which is put and not taken off again: at most 256.
+    /// How many faults are laid, which is put and not taken off again: at most `MAX_LAID`.
     pub fn laid(&self) -> usize
         ensures { result ≡ self.now.laid }
     {

@@ -98,7 +98,7 @@ impl Nemesis {
         &self.env
     }
 
-    /// How many faults are active, at most 256.
+    /// How many faults are active, at most `MAX_ACTIVE`.
     pub fn active_len(&self) -> usize
         ensures len { result ≡ length self.now.state.active }
         ensures few { result ≤ max_active }
@@ -272,7 +272,8 @@ impl Nemesis {
 
     /// The faults that this step would begin or end: those that are active before it or after it
     /// and not at both moments. A refused step has none. What none of them names stays as it is.
-    /// Takes time for these faults, and for the stamps of the active ones, at most 256.
+    /// Takes time for these faults, and for the stamps of the active ones, at most
+    /// `MAX_ACTIVE`.
     ///
     /// Error: memory was refused, which a step without such faults does not take.
     pub fn changed_by<'a>(
@@ -357,7 +358,7 @@ impl Nemesis {
     /// Takes a step, and answers it; a refused step changes nothing. The fault of a begin must fit
     /// the environment, as `Fault::fits` tests. An accepted step writes no more than those faults
     /// take which it begins or ends (`steps_write_their_faults`), and takes time for their links
-    /// and nodes, and for the stamps of the active faults, at most 256.
+    /// and nodes, and for the stamps of the active faults, at most `MAX_ACTIVE`.
     ///
     /// Error: memory was refused to a step that would be accepted. Then nothing has changed. A step
     /// back or forth takes no memory.
@@ -410,8 +411,8 @@ impl Nemesis {
     /// Begins a fault under an id that no active fault has. The fault must fit the environment, as
     /// `Fault::fits` tests.
     ///
-    /// Errors, which change nothing: `IdTaken`; `TooManyActive` where 256 faults are active;
-    /// `TooManySteps` where 4,096 steps lie in the past; `OutOfMemory`.
+    /// Errors, which change nothing: `IdTaken`; `TooManyActive` where `MAX_ACTIVE` faults are
+    /// active; `TooManySteps` where `MAX_STEPS` steps lie in the past; `OutOfMemory`.
     pub fn begin(&mut self, id: u32, fault: Fault) -> Result<(), BeginError>
         requires { FitsCount (length self.old.state.names) fault }
         ensures answer { MatchResult result

@@ -9,7 +9,7 @@ use std::alloc::{AllocError, Global};
 use std::marker::Model;
 use thiserror::Error;
 
-/// The most faults that are active at once.
+/// The most faults that are active at once: as many as can be laid, `jh_env::MAX_LAID`.
 pub const MAX_ACTIVE: usize = 256;
 
 /// The most begins and withdrawals that lie in the past, where undo can reach them.
