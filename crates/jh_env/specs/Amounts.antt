@@ -14,7 +14,9 @@ IsLinkAmount (LinkFault.Slow ms) = IsSlowAmount ms
 IsLinkAmount (LinkFault.Loss level) = IsLossAmount level
 IsLinkAmount (LinkFault.Fix ms) = IsFixAmount ms
 
--- an integer from the least to the most
+-- An integer from the least to the most. With the limits below it decides `IsSlowAmount`,
+-- `IsLossAmount` and `IsFixAmount` of jh_tables: `judged_slow`, `judged_loss` and `judged_fix` in
+-- proofs/AmountLemmas.antt hold both ways.
 abbrev pub amount_within : ℕ → ℕ → ℤ → Option ℕ
 amount_within least most (pos n) = if nat_le least n && nat_le n most then Some n else None
 amount_within least most (negsuc n) = None

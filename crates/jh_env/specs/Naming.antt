@@ -68,7 +68,8 @@ bump_of names b =
     option_and_then (λ written. option_map (λ node. (node, written.1)) (place_of names written.0))
     (bump_spelled b)
 
--- by so many milliseconds a fault may move a clock
+-- By so many milliseconds a fault may move a clock. It decides `IsBumpAmount` of jh_tables:
+-- `bump_in_range` and `range_in_bump` in proofs/BumpLemmas.antt hold both ways.
 abbrev pub is_bump_amount : ℤ → Bool
 is_bump_amount (pos n) = nat_lt 0 n && nat_le n max_bumped_ms
 is_bump_amount (negsuc n) = nat_lt n max_bumped_ms
@@ -79,7 +80,8 @@ are_apart_after before [] = true
 are_apart_after before (b ∷ bs) =
     not (list_any (λ x. is_same_bumped x b) before) && are_apart_after (before ++ b ∷ []) bs
 
--- each bump is in its range, and no node is bumped twice
+-- Each bump is in its range, and no node is bumped twice. It decides `AreBumps` of jh_tables:
+-- `bumps_right` and `right_bumps` in proofs/BumpLemmas.antt hold both ways.
 abbrev pub are_bumps : List (ℕ × ℤ) → Bool
 are_bumps bumps = list_all (λ b. is_bump_amount b.1) bumps && are_apart_after [] bumps
 
