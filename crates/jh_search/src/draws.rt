@@ -6,6 +6,9 @@ ghost use Rattle.jh_search.specs.Draws.{draw_from, numbers_after, random_number}
 use rand_core::utils::NextWord;
 use rand_pcg::Lcg128Xsl64;
 
+/// The stream of the random numbers of a candidate; a serial run has stream 0.
+const CANDIDATE_STREAM: u128 = 1;
+
 /// The random numbers that one fault is made of, and what each chooses.
 #[derive(Clone, Copy, Debug)]
 pub(crate) struct Draw {
@@ -27,7 +30,7 @@ pub(crate) struct Draw {
 pub(crate) fn numbers_of(seed: u64) -> Lcg128Xsl64
     ensures { result ≡ numbers_after seed 0 }
 {
-    Lcg128Xsl64::new(u128::from(seed), 1)
+    Lcg128Xsl64::new(u128::from(seed), CANDIDATE_STREAM)
 }
 
 /// The next random number.

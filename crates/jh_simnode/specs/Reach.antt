@@ -61,10 +61,15 @@ is_reached env draw node other =
     || (is_node_running (env.node other)
     && (carries draw (env.link node other) && carries draw (env.link other node)))
 
+-- how many milliseconds the links to a node and back may take together, at most
+abbrev pub max_answer_ms : ℕ
+max_answer_ms = 1000
+
 -- it comes back in time
 abbrev pub is_timely : EnvCells → ℕ → ℕ → Bool
 is_timely env node other =
-    (other == node) || nat_le (delay_of (env.link node other) + delay_of (env.link other node)) 1000
+    (other == node)
+    || nat_le (delay_of (env.link node other) + delay_of (env.link other node)) max_answer_ms
 
 -- the nodes, of so many, that a call of a node reaches, and those that respond in time
 abbrev pub reached_nodes : EnvCells → ℕ → ℕ → ℕ → List ℕ

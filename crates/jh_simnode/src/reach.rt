@@ -13,6 +13,10 @@ use jh_env::{Env, Life, Link, Node};
 /// Some of the nodes, in order.
 pub(crate) type SomeNodes = ArrayVec<Node, 64>;
 
+/// How many milliseconds the links to a node and back may take together, so that its answer comes
+/// in time.
+const MAX_ANSWER_MS: u128 = 1_000;
+
 /// Whether a node runs.
 pub(crate) fn is_node_running(env: &Env, node: Node) -> bool
     ensures { result ≡ is_node_running ((env_cells env.now).node node) }
@@ -97,7 +101,8 @@ fn is_timely(env: &Env, node: Node, other: Node) -> bool
     if other.place() == node.place() {
         return true;
     }
-    delay_on(env.link(node, other)) as u128 + delay_on(env.link(other, node)) as u128 <= 1000
+    delay_on(env.link(node, other)) as u128 + delay_on(env.link(other, node)) as u128
+        <= MAX_ANSWER_MS
 }
 
 /// Those of the nodes reached whose answers come in time.

@@ -18,6 +18,9 @@ use std::marker::Model;
 /// How many numbers there are for keys, which a test never comes to.
 const KEY_NUMBERS: u64 = 1 << 63;
 
+/// The stream of the random numbers of transactions; the calls of a test have stream 0.
+const TRANSACTION_STREAM: u128 = 1;
+
 /// A slot: its key, and how many appends of it were made.
 #[derive(Clone, Copy, Debug)]
 pub struct Slot {
@@ -81,7 +84,7 @@ impl TransactionSource {
     {
         Ok(TransactionSource {
             shape,
-            random_numbers: Lcg128Xsl64::new(u128::from(seed), 1),
+            random_numbers: Lcg128Xsl64::new(u128::from(seed), TRANSACTION_STREAM),
             slots: first_slots(alloc, shape.keys)?,
             next_key: u64::from(shape.keys),
         })

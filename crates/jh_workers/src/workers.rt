@@ -31,6 +31,10 @@ use std::alloc::{AllocError, Global};
 use std::marker::PhantomData;
 use std::sync::Wait;
 
+/// The stream of the random numbers of thread 0. The next thread has the next one, and so on; a
+/// serial run has stream 0.
+const FIRST_THREAD_STREAM: u128 = 1;
+
 /// What all threads of a run share beside their monitor.
 #[derive(Drop)]
 pub(crate) struct Shared<'a, B: OfLog, P: Port> {
@@ -255,8 +259,7 @@ fn work_as_client<B: OfLog, P: Port, R: Wait>(
     thread: u32,
     worker: &mut Worker<B, P::Share>,
 ) -> Result<(), RunError> {
-    // Each thread has a stream of its own, from 1 on, and the serial run has stream 0.
-    let stream = u128::from(thread) + 1;
+    let stream = u128::from(thread) + FIRST_THREAD_STREAM;
     let mut numbers = Lcg128Xsl64::new(u128::from(shared.plan.seed()), stream);
     let mut calls: u32 = 0;
     monitor.enter(rt);
