@@ -1,5 +1,6 @@
--- What is written of a test behind its end: its history, what is left of the faults, and what is found
--- (this project's own; histories are written as Jepsen writes them).
+-- What is written of a run or a test behind its end: its history, what is left of the faults, and
+-- what is found (this project's own; histories are written as Jepsen writes them). `drive` writes
+-- the same in two parts, so that the first is there where judging fails.
 use Rattle.std.specs.Prelude.{◌≡◌, ℕ, List, ◌++◌}
 use Rattle.jh_check.specs.declared.verdict.Verdict.{Verdict}
 use Rattle.jh_env.specs.Overlay.{EnvValue}

@@ -1,4 +1,4 @@
-//! What is written of a test behind its end. `specs/Reports.antt` has the rule.
+//! What is written of a run or a test behind its end. `specs/Reports.antt` has the rule.
 
 ghost use Rattle.std.specs.Prelude.{◌≡◌, ◌++◌, OnOk, List, ℕ};
 ghost use Rattle.jh_edn.specs.Print.{print};
@@ -14,7 +14,8 @@ use jh_ops::{Op, write_operation};
 use std::alloc::{AllocError, Global};
 
 /// Adds what is written of a history, of the faults that are active now and what they make, and
-/// behind it a last line, which says what was found and comes with its line feed.
+/// behind it a last line, which says what was found and comes with its line feed. `drive` writes
+/// the same in two parts, so that the first is there where judging fails.
 ///
 /// Error: memory was refused, and a part of it may have been added.
 pub fn write_report(
