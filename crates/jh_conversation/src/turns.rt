@@ -1,4 +1,5 @@
 //! A turn: all that can be said at a moment. `specs/Turn.antt` has the rule; a new phase begins there.
+//! That of `jh_lines`, which holds the conversation, is to tell and to listen.
 
 ghost use Rattle.std.specs.Prelude.{◌≡◌, ◌<◌, ◌≤◌, ◌^◌, length, true, IfOk, OnOk, None, Some, is_some};
 ghost use Rattle.std.specs.Prelude.{slice_index_or};

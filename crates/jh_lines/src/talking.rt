@@ -11,7 +11,8 @@ use std::alloc::Global;
 
 /// Holds a conversation: tells the peer all that the machine says, and only then listens again.
 ///
-/// A turn is to tell and to listen. No line is held back for a full buffer, and none is too long. It
+/// A turn here is to tell and to listen; a turn of a test (`jh_conversation`) is all that it can
+/// say at a moment. No line is held back for a full buffer, and none is too long. It
 /// takes the memory of the longest line, and of the most that is said to what is heard at once.
 pub fn converse<P: Peer, M: Machine>(alloc: Global, peer: &mut P, machine: &mut M) -> Ending
     ensures { (past : List TalkEvent)
