@@ -20,7 +20,7 @@ use jh_simnode::Event;
 use thiserror::Error;
 
 /// What is wrong first with a journal and a history, by the place of the operation, or by the
-/// number of the event.
+/// number of the event. It is no fault of the nemesis.
 #[derive(Clone, Copy, Debug, PartialEq, Eq, Error)]
 pub enum AuditFault {
     /// It is no operation of a run.

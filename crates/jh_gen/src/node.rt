@@ -30,7 +30,7 @@ pub(crate) struct Count {
     pub(crate) next: i64,
 }
 
-/// What is left of a generator.
+/// What is left of a generator: a node of its tree, and none of a cluster.
 #[cycle(node)]
 pub(crate) enum Node {
     Gone,

@@ -28,8 +28,9 @@ use atomic_table::Table;
 use std::alloc::{AllocError, Global};
 use std::marker::Model;
 
-/// A log of rows, each published or voided at most once. Threads share it by reference, and each
-/// has a seat of its own. A contract sees which table it is and the number of its rows.
+/// A log of rows, each published or voided at most once: its slots are these rows. Threads share it
+/// by reference, and each has a seat of its own. A contract sees which table it is and the number
+/// of its rows.
 #[derive(Drop)]
 pub struct Slots {
     table: Table<u8, View, usize, Law, Global>,

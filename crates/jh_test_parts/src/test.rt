@@ -22,7 +22,8 @@ use std::alloc::{AllocError, Global};
 use std::marker::Model;
 use thiserror::Error;
 
-/// The most entries of the schedule of a test.
+/// The most entries of the schedule of a test. Where settings say it, `MAX_ENTRIES` of
+/// `jh_simnode`, which is the same number, bounds it before.
 pub const MAX_TEST_ENTRIES: usize = 1_024;
 
 /// What a test is made of.
@@ -37,7 +38,8 @@ pub struct TestData {
     pub final_calls: Option<Gen>,
     /// How many threads make calls: 1 to 16.
     pub clients: u32,
-    /// How many calls they make at most: 1 to 1,000,000.
+    /// How many calls they make at most: 1 to 1,000,000; each makes two `Op`s, and one where it is
+    /// never answered.
     pub ops: u32,
     /// Milliseconds from which on no call of *main* is given.
     pub time_limit: Option<u32>,

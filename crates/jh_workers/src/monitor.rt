@@ -18,7 +18,7 @@ use std::alloc::AllocError;
 use std::sync::{Condvar, Mutex, Wait};
 use thiserror::Error;
 
-/// Why a run gave no outcome.
+/// Why a run on threads gave no outcome; `RunError` of `jh_simnode` says it of a serial run.
 #[derive(Clone, Copy, Debug, PartialEq, Eq, Error)]
 pub enum RunError {
     /// The log has too few rows for the records.
