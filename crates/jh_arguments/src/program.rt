@@ -111,9 +111,9 @@ where
     status
 }
 
-/// The exit status of the process, once it has done what its arguments ask for: 0, 1 or 2 as `run`
-/// answers, 0 where help or the version was asked for, 3 where the arguments or the input are
-/// refused, 4 where the machine failed or a run was not completed.
+/// The exit status of the process, once it has done what its arguments ask for: 0, 1 or 2 as
+/// `do_command` and `drive` answer, 0 where help or the version was asked for, 3 where the
+/// arguments or the input are refused, 4 where the machine failed or a run was not completed.
 ///
 /// Where standard error is a terminal, it is told there what is read, where standard input is a terminal
 /// too, and how far `shrink` or `search` is. Where it is one, or `--verbose` is given: what a history holds

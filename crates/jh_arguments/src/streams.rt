@@ -11,7 +11,7 @@ use std::io::{self, Read, Write};
 pub(crate) struct BehindProgress<'a, P, W> {
     pub(crate) rt: &'a P,
     pub(crate) writer: W,
-    /// Whether such a line stands there.
+    /// Whether a line of progress stands there.
     pub(crate) is_in_the_way: &'a Cell<bool>,
 }
 

@@ -56,7 +56,7 @@ put_load p others =
     (put_key Key.Ops (whole_number p.ops)
     (put_key Key.Clients (whole_number p.clients) others))))
 
--- the members with those that have defaults
+-- the members with those under the keys of limits
 abbrev pub put_limits : PlanValue → ℕ → Members → Members
 put_limits p budget others =
     put_key Key.Budget (whole_number budget)
