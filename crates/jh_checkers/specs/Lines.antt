@@ -17,7 +17,7 @@ use Rattle.jh_linear.specs.declared.verdict.LinVerdict.TheVariants.{Valid, Inval
 use Rattle.jh_linear.specs.declared.verdict.Stuck.{Stuck}
 use Rattle.jh_txn_findings.specs.Lines.{txn_finding_value}
 
--- places among the pairs, as a vector
+-- the numbers of operations, which are places among the pairs, as a vector
 abbrev pub order_value : List ℕ → Edn
 order_value order = vector_of (map (λ place. int (pos place)) order)
 

@@ -20,7 +20,8 @@ pub struct Explanation {
     /// The completion at which the history is stuck, as the history has it.
     pub completion: Op,
     /// The numbers of the operations that are pending there: invoked before it, with no `:ok` before
-    /// it, and none that failed. They ascend, and mean the places among the pairs, as in orders.
+    /// it, and none that failed. They ascend, and are places among the pairs, as in orders. Those
+    /// of unknown outcome are among them, unlike in a configuration of `jh_linear`.
     pub pending: Vec<usize>,
 }
 

@@ -108,11 +108,13 @@ fn write_register<W: Write>(
 }
 
 /// Writes the one line of a finding, without a line feed. That of a set, a counter and unique ids
-/// is `jh_check`'s, that of transactions `jh_txn_findings`'s; that of a register is `{:valid? true, :order [..]}`, `{:valid? :unknown}` or
-/// `{:valid? false}`, which goes on where it is explained:
+/// is `jh_check`'s, that of transactions `jh_txn_findings`'s; that of a register is
+/// `{:valid? true, :order [..]}`, `{:valid? :unknown}` or `{:valid? false}`, which goes on where it
+/// is explained:
 /// `{:valid? false, :stuck {..}, :order [..], :value V, :pending [..]}`, with the completion at
 /// which it is stuck, an order of what is before it, the value that this leads to, and what is
-/// pending there.
+/// pending there. Orders, and what is pending, are the numbers of operations: their places among
+/// the pairs, and not in the history.
 ///
 /// Takes no memory. The writer may have taken a part of the line where it failed.
 ///

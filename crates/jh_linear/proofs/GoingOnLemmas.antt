@@ -35,7 +35,7 @@ if_ok (Err e) f h = h
 
 pub place_same : (problem : Problem) (a b : Config) → AreSame a b → (source : Source) → source_place problem a source ≡ source_place problem b source
 place_same problem a b same (Happened i) = ap (λ xs. get_or xs i 0) same.1
-place_same problem a b same (Unknown k) = ap (λ ns. unknown_place problem.history.unknown.items (next_at ns k)) same.2
+place_same problem a b same (Unknown k) = ap (λ ns. unknown_place problem.history.unsure_changes.items (next_at ns k)) same.2
 
 there_same : (problem : Problem) (a b : Config) → AreSame a b → (source : Source) → CanBePlaced problem a source → CanBePlaced problem b source
 there_same problem a b same (Happened i) h = subst (λ xs. i < length xs) same.1 h

@@ -32,8 +32,8 @@ pub stands_copy : (problem : Problem) (order : List ℕ) (a b : Config) → AreS
 stands_copy problem order a b same stands = record {
   follows = subst (λ v. GoesOnWith problem.ops.now [] problem.initial order v) same.3 stands.follows;
   searched = stands.searched;
-  known = subst (λ p. IsAt problem.history.arrivals.items problem.history.stages.items order b.stage p) same.1 (subst (λ s. IsAt problem.history.arrivals.items problem.history.stages.items order s a.pending.items) same.0 stands.known);
-  used = subst (λ n. AreNext problem.history.unknown.items problem.history.classes.items order n) same.2 stands.used;
+  known = subst (λ p. IsAt problem.history.arrivals.items problem.history.stages.items order b.stage p) same.1 (subst (λ s. IsAt problem.history.arrivals.items problem.history.stages.items order s a.happened.items) same.0 stands.known);
+  used = subst (λ n. AreNext problem.history.unsure_changes.items problem.history.classes.items order n) same.2 stands.used;
   low = subst (λ s. s ≤ stages_in problem) same.0 stands.low;
   waits = let Waits : ℕ → Type 0 = λ s. s < stages_in problem → has order (stage_place problem s) ≡ false in subst Waits same.0 stands.waits;
 }
@@ -65,7 +65,7 @@ module _ (problem : Problem) (stood : IsProblem problem) where
             let here = subst (λ xs. has xs q ≡ true) where' (ax.known.arrived also q h (stood.history.all q done)) in
             let left = has_without b _ q here out in
             not_true _ h (in_without a _ q (subst (λ xs. has xs q ≡ true) (sym pending) left)).1)
-        | inr un ↦ sym (same_unknown problem.ops.now problem.history.unknown.items problem.history.classes.items stood.classes a b x.next.items y.next.items ax.used by.used same.2 q un) ∙ h
+        | inr un ↦ sym (same_unknown problem.ops.now problem.history.unsure_changes.items problem.history.classes.items stood.classes a b x.next.items y.next.items ax.used by.used same.2 q un) ∙ h
       ]
 
   -- the same configuration stands for the same places
@@ -91,7 +91,7 @@ module _ (problem : Problem) (stood : IsProblem problem) where
             ∙ filter_agree (λ p. not (has a p)) (λ p. not (has b p)) (λ p. ap not (same p)) (arrivals_by arrivals stages x.stage)
             ∙ ap (λ k. places_without b (arrivals_by arrivals stages k)) one
             ∙ sym (by.known.pending_is yl),
-        same_next problem.ops.now problem.history.unknown.items problem.history.classes.items stood.classes a b x.next.items y.next.items ax.used by.used same,
+        same_next problem.ops.now problem.history.unsure_changes.items problem.history.classes.items stood.classes a b x.next.items y.next.items ax.used by.used same,
         value,
       )
 

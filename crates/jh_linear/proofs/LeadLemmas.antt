@@ -171,7 +171,7 @@ module _ (problem : Problem) (stood : IsProblem problem) (n : ℕ) (few : n ≤ 
     ready_class : (z : ℕ) → IsUnsureChange ops z → has order z ≡ false → (Precedes ops Last z → ⊥) → Class z
     ready_class z un fresh early =
         let classes = stood.classes in
-        let r = class_of ops problem.history.unknown.items problem.history.classes.items classes z un in
+        let r = class_of ops problem.history.unsure_changes.items problem.history.classes.items classes z un in
         let k : ℕ = r.0 in
         let j : ℕ = r.1 in
         let m : ℕ = next_at config.next.items k in
@@ -189,7 +189,7 @@ module _ (problem : Problem) (stood : IsProblem problem) (n : ℕ) (few : n ≤ 
           ((r.2, left), λ before. early (before.0, ends_sooner (op_at ops Last).ended (op_at ops p).invoked (op_at ops z).invoked sooner before.1)),
           call,
           stands.used.placed k m r.2 (bounds.0, left) ∙ le-ltb m m (omega arith),
-          is_unknown_at ops problem.history.unknown.items problem.history.classes.items classes m (omega (arith, left, (classes.bounded k r.2).1)),
+          is_unknown_at ops problem.history.unsure_changes.items problem.history.classes.items classes m (omega (arith, left, (classes.bounded k r.2).1)),
         )
 
     -- a move that leads on
@@ -200,9 +200,9 @@ module _ (problem : Problem) (stood : IsProblem problem) (n : ℕ) (few : n ≤ 
     led_by moves i move p next is place value reach =
         (i, move, is, subst (λ q. CanReach problem n (order ++ q ∷ []) move.value) (sym place) (subst (λ v. CanReach problem n (order ++ p ∷ []) v) (sym value) reach))
 
-    pending_at : (x : ℕ) → IsDone ops x → MayComeNext ops order x → (i : ℕ) × (i < length config.pending.items) × (source_place problem config (Happened i) ≡ x)
+    pending_at : (x : ℕ) → IsDone ops x → MayComeNext ops order x → (i : ℕ) × (i < length config.happened.items) × (source_place problem config (Happened i) ≡ x)
     pending_at x is may =
-        index_of config.pending.items x (is_pending ops problem.history.arrivals.items problem.history.stages.items stood.history order config.stage config.pending.items x stands.known room (stands.waits room) is may)
+        index_of config.happened.items x (is_pending ops problem.history.arrivals.items problem.history.stages.items stood.history order config.stage config.happened.items x stands.known room (stands.waits room) is may)
 
     -- what needs the value and may come behind an unknown operation is wanted
     wanted_by : (x y : ℕ) (next : Option ℤ) → (IsDone ops x → ⊥) → MayComeNext ops (order ++ x ∷ []) y → Needs (op_at ops y).call next → IsDone ops y ⊎ IsUnsureChange ops y → IsWanted problem config next
@@ -239,7 +239,7 @@ module _ (problem : Problem) (stood : IsProblem problem) (n : ℕ) (few : n ≤ 
             ]),
           )
 
-      module _ (happened : HasHappened problem config moves (length config.pending.items)) (unknown : HasUnknown problem config moves (length problem.history.classes.items)) (none : IsNoneSettled problem config (length config.pending.items)) where
+      module _ (happened : HasHappened problem config moves (length config.happened.items)) (unknown : HasUnknown problem config moves (length problem.history.classes.items)) (none : IsNoneSettled problem config (length config.happened.items)) where
         done_leads : (x : ℕ) (rest : List ℕ) (next last : Option ℤ) → IsDone ops x → MayComeNext ops order x → Allows (op_at ops x).call config.value next → GoesOnWith ops (order ++ x ∷ []) next rest last → Covers (order ++ x ∷ rest) → Led moves
         done_leads x rest next last is may allowed follows covers =
             let r = pending_at x is may in
@@ -312,7 +312,7 @@ module _ (problem : Problem) (stood : IsProblem problem) (n : ℕ) (few : n ≤ 
       one_leads reach = elim are.enough as (λ _. Led moves) [
         | inl s ↦
             let p : ℕ = source_place problem config (Happened s.0) in
-            let fresh = (of_pending ops problem.history.arrivals.items problem.history.stages.items stood.history order config.stage config.pending.items p stands.known room (has_here config.pending.items s.0 s.1.0)).1 in
+            let fresh = (of_pending ops problem.history.arrivals.items problem.history.stages.items stood.history order config.stage config.happened.items p stands.known room (has_here config.happened.items s.0 s.1.0)).1 in
             let m = s.2 in
             led_by moves m.0 m.1 p config.value m.2 (ap (source_place problem config) m.3) m.4 (settled_leads order config.value p s.1.1.1 fresh reach)
         | inr r ↦ by_size r.0 r.1 r.2 (length reach.0) reach.0 reach.1 (omega arith) reach.2 reach.3

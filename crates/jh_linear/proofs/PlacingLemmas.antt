@@ -49,16 +49,16 @@ module _ (problem : Problem) (stood : IsProblem problem) where
       let here = is_placed ops problem.history.arrivals.items problem.history.stages.items stood.history stood.ends order later left now lt gone in
       at_next ops problem.history.arrivals.items problem.history.stages.items stood.history order later left next now lt here more
 
-  not_unknown : (p : ℕ) → IsDone ops p → has problem.history.unknown.items p ≡ false
-  not_unknown p done = false_if _ (λ h. let r = index_of problem.history.unknown.items p h in unknown_not_done ops p (subst (IsUnsureChange ops) r.2 (stood.classes.each r.0 0 r.1)) done)
+  not_unknown : (p : ℕ) → IsDone ops p → has problem.history.unsure_changes.items p ≡ false
+  not_unknown p done = false_if _ (λ h. let r = index_of problem.history.unsure_changes.items p h in unknown_not_done ops p (subst (IsUnsureChange ops) r.2 (stood.classes.each r.0 0 r.1)) done)
 
   -- what is pending is not placed
   in_order : (order : List ℕ) (stage : ℕ) (pending : List ℕ) → At order stage pending → stage < stages_in problem → has pending (stage_place problem stage) ≡ true → has order (stage_place problem stage) ≡ false
   in_order order stage pending known lt h = (of_pending ops problem.history.arrivals.items problem.history.stages.items stood.history order stage pending (stage_place problem stage) known lt h).1
 
   -- an operation that happened is placed
-  pub stands_happened : (config config' : Config) (i : ℕ) (value : Option ℤ) (left : List ℕ) → config.stage < stages_in problem → i < length config.pending.items → Allows (source_call problem config (Happened i)) config.value value
-      → left ≡ remove config.pending.items i → PassesStages problem config.stage left config'.stage config'.pending.items → config'.next.items ≡ config.next.items → config'.value ≡ value
+  pub stands_happened : (config config' : Config) (i : ℕ) (value : Option ℤ) (left : List ℕ) → config.stage < stages_in problem → i < length config.happened.items → Allows (source_call problem config (Happened i)) config.value value
+      → left ≡ remove config.happened.items i → PassesStages problem config.stage left config'.stage config'.happened.items → config'.next.items ≡ config.next.items → config'.value ≡ value
       → IsAfter problem config (source_place problem config (Happened i)) value config'
   stands_happened config config' i value left lt inside allowed left_is passes next_is value_is =
       let arrivals : List ℕ = problem.history.arrivals.items in
@@ -69,30 +69,30 @@ module _ (problem : Problem) (stood : IsProblem problem) where
         value_is = value_is;
         sizes = ap length next_is;
         stands = λ order stands.
-            let r = of_pending ops arrivals stages stood.history order config.stage config.pending.items p stands.known lt (has_here config.pending.items i inside) in
-            let may = may_come ops arrivals stages stood.history order config.stage config.pending.items p stands.known lt (done_possible ops p r.0) r.1 r.2 in
-            let placed = at_placed ops arrivals stages stood.history order config.stage config.pending.items i stands.known lt inside in
+            let r = of_pending ops arrivals stages stood.history order config.stage config.happened.items p stands.known lt (has_here config.happened.items i inside) in
+            let may = may_come ops arrivals stages stood.history order config.stage config.happened.items p stands.known lt (done_possible ops p r.0) r.1 r.2 in
+            let placed = at_placed ops arrivals stages stood.history order config.stage config.happened.items i stands.known lt inside in
             let known = passes.at (order ++ p ∷ []) (subst (At (order ++ p ∷ []) config.stage) (sym left_is) placed) in
             record {
               follows = subst (λ v. GoesOnWith ops [] problem.initial (order ++ p ∷ []) v) (sym value_is) (follows_push ops [] order problem.initial config.value value p stands.follows may allowed);
               searched = λ q h. elim (has_push_cases order p q h) as (λ _. IsDone ops q ⊎ IsUnsureChange ops q) [ inl old ↦ stands.searched q old | inr is ↦ inl (subst (IsDone ops) is r.0) ];
               known = known;
-              used = next_other ops problem.history.unknown.items problem.history.classes.items stood.classes order config'.next.items p (not_unknown p r.0) (subst (λ ns. AreNext problem.history.unknown.items problem.history.classes.items order ns) (sym next_is) stands.used);
+              used = next_other ops problem.history.unsure_changes.items problem.history.classes.items stood.classes order config'.next.items p (not_unknown p r.0) (subst (λ ns. AreNext problem.history.unsure_changes.items problem.history.classes.items order ns) (sym next_is) stands.used);
               low = passes.low;
-              waits = λ room. in_order (order ++ p ∷ []) config'.stage config'.pending.items known room (passes.waits room);
+              waits = λ room. in_order (order ++ p ∷ []) config'.stage config'.happened.items known room (passes.waits room);
             };
       }
 
   -- an operation of unknown outcome is placed
   pub stands_unknown : (config config' : Config) (k : ℕ) (value : Option ℤ) → config.stage < stages_in problem → CanBePlaced problem config (Unknown k) → Allows (source_call problem config (Unknown k)) config.value value
-      → config'.stage ≡ config.stage → config'.pending.items ≡ config.pending.items → config'.next.items ≡ set config.next.items k (next_at config.next.items k + 1) → config'.value ≡ value
+      → config'.stage ≡ config.stage → config'.happened.items ≡ config.happened.items → config'.next.items ≡ set config.next.items k (next_at config.next.items k + 1) → config'.value ≡ value
       → IsAfter problem config (source_place problem config (Unknown k)) value config'
   stands_unknown config config' k value lt there allowed stage_is pending_is next_is value_is =
       let arrivals : List ℕ = problem.history.arrivals.items in
       let stages : List Stage = problem.history.stages.items in
       let p : ℕ = source_place problem config (Unknown k) in
       let bound = stood.classes.bounded k there.0.0 in
-      let un = is_unknown_at ops problem.history.unknown.items problem.history.classes.items stood.classes (next_at config.next.items k) (omega (arith, there.0.1, bound.1)) in
+      let un = is_unknown_at ops problem.history.unsure_changes.items problem.history.classes.items stood.classes (next_at config.next.items k) (omega (arith, there.0.1, bound.1)) in
       let not_done : IsDone ops p → ⊥ = unknown_not_done ops p un in
       record {
         rises = omega (arith, stage_is);
@@ -100,13 +100,13 @@ module _ (problem : Problem) (stood : IsProblem problem) where
         sizes = ap length next_is ∙ length-set config.next.items k (next_at config.next.items k + 1);
         stands = λ order stands.
             let fresh : has order p ≡ false = stands.used.placed k (next_at config.next.items k) there.0.0 ((stands.used.bounds k there.0.0).0, there.0.1) ∙ le-ltb (next_at config.next.items k) (next_at config.next.items k) (omega arith) in
-            let may = may_come ops arrivals stages stood.history order config.stage config.pending.items p stands.known lt (unknown_possible ops p un) fresh there.1 in
-            let known = at_other ops arrivals stages stood.history order config.stage config.pending.items p stands.known (not_arrival ops arrivals stages stood.history p not_done) in
+            let may = may_come ops arrivals stages stood.history order config.stage config.happened.items p stands.known lt (unknown_possible ops p un) fresh there.1 in
+            let known = at_other ops arrivals stages stood.history order config.stage config.happened.items p stands.known (not_arrival ops arrivals stages stood.history p not_done) in
             record {
               follows = subst (λ v. GoesOnWith ops [] problem.initial (order ++ p ∷ []) v) (sym value_is) (follows_push ops [] order problem.initial config.value value p stands.follows may allowed);
               searched = λ q h. elim (has_push_cases order p q h) as (λ _. IsDone ops q ⊎ IsUnsureChange ops q) [ inl old ↦ stands.searched q old | inr is ↦ inr (subst (IsUnsureChange ops) is un) ];
-              known = subst (λ s. At (order ++ p ∷ []) s config'.pending.items) (sym stage_is) (subst (At (order ++ p ∷ []) config.stage) (sym pending_is) known);
-              used = next_placed ops problem.history.unknown.items problem.history.classes.items stood.classes order config.next.items config'.next.items k there.0.0 there.0.1 next_is stands.used;
+              known = subst (λ s. At (order ++ p ∷ []) s config'.happened.items) (sym stage_is) (subst (At (order ++ p ∷ []) config.stage) (sym pending_is) known);
+              used = next_placed ops problem.history.unsure_changes.items problem.history.classes.items stood.classes order config.next.items config'.next.items k there.0.0 there.0.1 next_is stands.used;
               low = subst (λ s. s ≤ stages_in problem) (sym stage_is) stands.low;
               waits = λ room. subst (λ s. has (order ++ p ∷ []) (stage_place problem s) ≡ false) (sym stage_is)
                   (not_pushed order p (stage_place problem config.stage) (stands.waits lt) (λ is. not_done (subst (IsDone ops) (sym is) (stood.history.are_done config.stage lt))));

@@ -1,7 +1,7 @@
 -- The orders in which the operations of a register can have happened: linearizations (Herlihy and
 -- Wing 1990), as Jepsen's page on its checkers means them (`linearizable`), on the model
--- `cas-register`, where a read of nil matches any value. An operation is named by its place in a
--- list of operations, from 0.
+-- `cas-register`, where a read of nil matches any value. An operation is named by its number,
+-- which is its place in a list of operations, from 0, and not in the history.
 use Rattle.std.specs.Prelude.{◌≡◌, ◌≢◌, ◌==◌, ◌⊎◌, ℕ, ◌<◌, ℤ, Bool, true, Option, Some, None, List}
 use Rattle.std.specs.Prelude.{[], ◌∷◌, length, slice_index_or}
 use Rattle.std.specs.List.{list_any, All, IsDistinct}
@@ -21,7 +21,7 @@ Allows (Cas old new) value next = (value ≡ Some old) × (next ≡ Some new)
 abbrev pub no_op : RegOp
 no_op = record { invoked = 0; ended = None; outcome = Failed; call = Read None }
 
--- the operation at a place
+-- the operation with a number
 abbrev pub op_at : List RegOp → ℕ → RegOp
 op_at ops place = slice_index_or ops place no_op
 
@@ -43,21 +43,21 @@ abbrev pub Precedes : List RegOp → ℕ → ℕ → Type 0
 Precedes ops first second =
     IsDone ops first × EndsBefore (op_at ops first).ended (op_at ops second).invoked
 
--- whether a place stands in an order
+-- whether a number stands in an order
 abbrev pub has : List ℕ → ℕ → Bool
 has order place = list_any (λ x. x == place) order
 
--- the first place stands in the order, and the second one after it
+-- the first number stands in the order, and the second one after it
 abbrev pub StandBefore : List ℕ → ℕ → ℕ → Type 0
 StandBefore [] first second = ⊥
 StandBefore (x ∷ order) first second =
     ((x ≡ first) × (has order second ≡ true)) ⊎ StandBefore order first second
 
--- each place of the order is that of an operation
+-- each number of the order is that of an operation
 abbrev pub AreThere : List RegOp → List ℕ → Type 0
 AreThere ops order = All (λ place. place < length ops) order
 
--- no place stands in the order twice
+-- no number stands in the order twice
 abbrev pub HasNoneTwice : List ℕ → Type 0
 HasNoneTwice order = IsDistinct ◌==◌ order
 
@@ -76,7 +76,8 @@ KeepsPrecedence ops order =
     (first second : ℕ) → Precedes ops first second → has order second ≡ true
     → StandBefore order first second
 
--- The operations at these places, one after another, lead the register from one value to another.
+-- The operations with these numbers, one after another, lead the register from one value to
+-- another.
 abbrev pub IsLegalFrom : List RegOp → Option ℤ → List ℕ → Option ℤ → Type 0
 IsLegalFrom ops value [] last = last ≡ value
 IsLegalFrom ops value (place ∷ order) last =

@@ -7,7 +7,7 @@ use Rattle.jh_linear.specs.declared.verdict.Step.{Step}
 use Rattle.jh_linear.specs.Order.{IsPartialOrder, has}
 
 -- The orders that steps stand for, behind those of earlier steps that are known. That of a step is
--- the order of the earlier step that it names, with its own places behind.
+-- the order of the earlier step that it names, with its own numbers behind.
 abbrev pub orders_from : List (List ℕ) → List Step → List (List ℕ)
 orders_from known [] = known
 orders_from known (step ∷ steps) =
@@ -31,7 +31,7 @@ abbrev pub NameEarlier : List Step → Type 0
 NameEarlier steps = (i : ℕ) → 0 < i → i < length steps → (slice_index_or steps i root).parent < i
 
 -- There are as many steps as the budget. They stand for partial orders, no two of which have the
--- same places and the same last value.
+-- same numbers and the same last value.
 pub record AreReached (ops : List RegOp) (initial : Option ℤ) (budget : ℕ)
     (steps : List Step) : Type 0 where
   pub count : length steps ≡ budget

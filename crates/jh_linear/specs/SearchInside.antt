@@ -34,9 +34,9 @@ use Rattle.jh_linear.specs.Order.{EndAfterInvoked}
 use Rattle.jh_linear.specs.Reached.{order_at, root, NameEarlier}
 use Rattle.jh_linear.specs.WaitingInside.{IsWith, awaits, expansions_in, expansions_left}
 
--- ---- orders, place by place
+-- ---- orders, number by number
 
--- The operation at a place may come next behind an order.
+-- The operation with a number may come next behind an order.
 pub record MayComeNext (ops : List RegOp) (front : List ℕ) (place : ℕ) : Type 0 where
   pub there : place < length ops
   pub possible : IsPossible ops place
@@ -88,7 +88,7 @@ Needs (Cas old new) value = value ≡ Some old
 abbrev pub invocation_at : List RegOp → ℕ → ℕ
 invocation_at ops place = (op_at ops place).invoked
 
--- where an operation ended; one with no such place ends after all others
+-- where in the history an operation ended; one with no such place ends after all others
 abbrev pub end_at : List RegOp → ℕ → ℕ
 end_at ops place = op_end (op_at ops place)
 
@@ -149,7 +149,7 @@ class_at classes k = slice_index_or classes k no_class
 abbrev pub IsOfClass : List Class → ℕ → ℕ → Type 0
 IsOfClass classes k j = ((class_at classes k).from ≤ j) × (j < (class_at classes k).upto)
 
--- the place of the operation of unknown outcome at an index
+-- the number of the operation of unknown outcome at an index
 abbrev pub unknown_place : List ℕ → ℕ → ℕ
 unknown_place unknown j = slice_index_or unknown j 0
 
@@ -174,7 +174,7 @@ pub record IsProblem (problem : Problem) : Type 0 where
   pub ends : EndAfterInvoked problem.ops.now
   pub history : IsHistory problem.ops.now problem.history.arrivals.items
       problem.history.stages.items
-  pub classes : AreClasses problem.ops.now problem.history.unknown.items
+  pub classes : AreClasses problem.ops.now problem.history.unsure_changes.items
       problem.history.classes.items
 
 -- how many stages there are
@@ -187,7 +187,7 @@ stage_place problem k = (stage_at problem.history.stages.items k).place
 
 -- ---- configurations
 
--- those of some places that do not stand in an order
+-- those of some numbers that do not stand in an order
 abbrev pub places_without : List ℕ → List ℕ → List ℕ
 places_without order places = filter (λ place. not (has order place)) places
 
@@ -221,17 +221,17 @@ pub record LeadsTo (problem : Problem) (order : List ℕ) (config : Config) : Ty
   pub searched : (place : ℕ) → has order place ≡ true → IsDone problem.ops.now place
       ⊎ IsUnsureChange problem.ops.now place
   pub known : IsAt problem.history.arrivals.items problem.history.stages.items order config.stage
-      config.pending.items
-  pub used : AreNext problem.history.unknown.items problem.history.classes.items order
+      config.happened.items
+  pub used : AreNext problem.history.unsure_changes.items problem.history.classes.items order
       config.next.items
   pub low : config.stage ≤ stages_in problem
   pub waits : config.stage < stages_in problem
       → has order (stage_place problem config.stage) ≡ false
 
--- Two configurations have the same stage, the same places pending and next, and the same value.
+-- Two configurations have the same stage, the same numbers pending and next, and the same value.
 abbrev pub AreSame : Config → Config → Type 0
 AreSame a b =
-    (a.stage ≡ b.stage) × (a.pending.items ≡ b.pending.items) × (a.next.items ≡ b.next.items)
+    (a.stage ≡ b.stage) × (a.happened.items ≡ b.happened.items) × (a.next.items ≡ b.next.items)
     × (a.value ≡ b.value)
 
 -- An order that leads to this value can be continued to one that passes so many stages.
@@ -254,11 +254,11 @@ IsDead problem stage order value =
 
 -- ---- moves
 
--- the place of the operation that a move places
+-- the number of the operation that a move places
 abbrev pub source_place : Problem → Config → Source → ℕ
-source_place problem config (Happened index) = slice_index_or config.pending.items index 0
+source_place problem config (Happened index) = slice_index_or config.happened.items index 0
 source_place problem config (Unknown k) =
-    unknown_place problem.history.unknown.items (next_at config.next.items k)
+    unknown_place problem.history.unsure_changes.items (next_at config.next.items k)
 
 -- that operation
 abbrev pub op_of : Problem → Config → Source → RegOp
@@ -276,7 +276,7 @@ IsLeft problem config k =
 
 -- There is such an operation, which is not placed and was invoked before the end of the stage.
 abbrev pub CanBePlaced : Problem → Config → Source → Type 0
-CanBePlaced problem config (Happened index) = index < length config.pending.items
+CanBePlaced problem config (Happened index) = index < length config.happened.items
 CanBePlaced problem config (Unknown k) =
     IsLeft problem config k
     × (invocation_at problem.ops.now (source_place problem config (Unknown k))
@@ -299,7 +299,7 @@ IsReady problem config k =
 -- Some operation that may come next needs the register to have this value.
 abbrev pub IsWanted : Problem → Config → Option ℤ → Type 0
 IsWanted problem config value =
-    ((index : ℕ) × (index < length config.pending.items)
+    ((index : ℕ) × (index < length config.happened.items)
     × Needs (source_call problem config (Happened index)) value)
     ⊎ ((k : ℕ) × IsReady problem config k × Needs (source_call problem config (Unknown k)) value)
 
@@ -334,7 +334,7 @@ IsNoneSettled problem config bound =
 -- The pending operation at an index can be placed at once and alone.
 abbrev pub IsSettledAt : Problem → Config → ℕ → Type 0
 IsSettledAt problem config index =
-    (index < length config.pending.items)
+    (index < length config.happened.items)
     × IsSettled (op_of problem config (Happened index)) config.value
 
 -- The moves are enough for no order to be lost: one of them places an operation that can be placed
@@ -343,9 +343,9 @@ IsSettledAt problem config index =
 abbrev pub AreEnough : Problem → Config → List Move → Type 0
 AreEnough problem config moves =
     ((index : ℕ) × IsSettledAt problem config index × IsAmong moves (Happened index) config.value)
-    ⊎ (HasHappened problem config moves (length config.pending.items)
+    ⊎ (HasHappened problem config moves (length config.happened.items)
     × HasUnknown problem config moves (length problem.history.classes.items)
-    × IsNoneSettled problem config (length config.pending.items))
+    × IsNoneSettled problem config (length config.happened.items))
 
 -- Each of the moves can be made.
 abbrev pub EachIsMove : Problem → Config → List Move → Type 0
@@ -390,7 +390,7 @@ pub record PassesStages (problem : Problem) (stage : ℕ) (pending : List ℕ) (
       → IsAt problem.history.arrivals.items problem.history.stages.items order later left
 
 -- A configuration with this value stands for every order that the other one stands for, with one
--- more place.
+-- more number.
 pub record IsAfter (problem : Problem) (config : Config) (place : ℕ) (value : Option ℤ)
     (config' : Config) : Type 0 where
   pub rises : config.stage ≤ config'.stage
@@ -606,8 +606,8 @@ AreTried problem old new at config moves count =
     (i : ℕ) (move : Move) → length moves ≤ i + count → slice_get moves i ≡ Some move
     → IsMoved problem old new at config move
 
--- What is known where an order is complete: that of the configuration at an index, with more places
--- behind.
+-- What is known where an order is complete: that of the configuration at an index, with more
+-- numbers behind.
 abbrev pub IsCompleted : Problem → Search → ℕ → List ℕ → Type 0
 IsCompleted problem search at placed =
     IsWholeOrder problem (order_at search.steps.items at ++ placed)
@@ -656,14 +656,14 @@ IsExhausted problem search = IsSearchKept problem search × (search.waiting ≡ 
 
 -- ---- sorting
 
--- Entries with a place in each, one for each place below a bound that is to have one.
+-- Entries with a number in each, one for each number below a bound that is to have one.
 pub record ArePlaceEntries {X : Type 0} (Kept : ℕ → Type 0) (entry : ℕ → X) (place : X → ℕ)
     (bound : ℕ) (entries : List X) : Type 0 where
   pub each : All (λ x. (place x < bound) × Kept (place x) × (entry (place x) ≡ x)) entries
   pub all : (p : ℕ) → p < bound → Kept p → Contains entries (entry p)
   pub distinct : IsDistinct ◌==◌ (map place entries)
 
--- the place of an operation behind that of its invocation, or behind that of its end
+-- the number of an operation behind the place of its invocation, or behind that of its end
 abbrev pub arrival_entry : List RegOp → ℕ → ℕ × ℕ
 arrival_entry ops place = (invocation_at ops place, place)
 

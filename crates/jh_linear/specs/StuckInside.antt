@@ -15,7 +15,7 @@ is_known op cut = is_outcome_done op.outcome && nat_lt (op_end op) cut
 abbrev pub is_known_at : List RegOp → List ℕ → ℕ → ℕ → Bool
 is_known_at ops order cut i = is_known (op_at ops (slice_index_or order i 0)) cut
 
--- So many places of an order there are up to the last operation that is known to have happened.
+-- So many numbers of an order there are up to the last operation that is known to have happened.
 pub record IsKnownUntil (ops : List RegOp) (order : List ℕ) (cut count : ℕ) : Type 0 where
   pub bounded : count ≤ length order
   pub last : (i : ℕ) → i + 1 ≡ count → is_known_at ops order cut i ≡ true

@@ -26,7 +26,8 @@ IsJudged ops initial budget (Invalid stuck) =
     (0 < budget) × HaveNoOrder ops initial × IsStuck ops initial stuck
 IsJudged ops initial budget (Unknown steps) = AreReached ops initial budget steps
 
--- Why a list of places is refused as an order: the first part of an order that does not hold of it.
+-- Why a list of numbers is refused as an order: the first part of an order that does not hold of
+-- it.
 abbrev pub RefusesOrder : List RegOp → Option ℤ → List ℕ → OrderFault → Type 0
 RefusesOrder ops initial order NoSuch = ¬ AreThere ops order
 RefusesOrder ops initial order Repeat = AreThere ops order × (¬ HasNoneTwice order)

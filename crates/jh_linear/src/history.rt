@@ -13,14 +13,15 @@ ghost use Rattle.jh_linear.specs.SearchInside.{no_call};
 ghost use Rattle.jh_linear.specs.Order.{IsDone};
 ghost use Rattle.std.specs.Prelude.{false};
 
-use crate::register::{RegCall, RegOp, is_done, is_same, is_unknown, op_end};
+use crate::register::{RegCall, RegOp, is_done, is_same, is_unsure_change, op_end};
 use std::alloc::{AllocError, Global};
 
 /// A stage of the search. There is one for each operation that is known to have happened, in the
-/// order of their ends. It is passed when its operation is placed.
+/// order of their ends. It is passed when its operation is placed. The stages of a process by which
+/// `jh_ops` pairs are no such stages.
 #[derive(Clone, Copy, Debug)]
 pub(crate) struct Stage {
-    /// The place of its operation, which ended first of those that no earlier stage has.
+    /// The number of its operation, which ended first of those that no earlier stage has.
     pub(crate) place: usize,
     /// How many of the operations that are known to have happened were invoked before that one
     /// ended.
@@ -37,16 +38,16 @@ pub(crate) struct Class {
     pub(crate) upto: usize,
 }
 
-/// The places of the operations, sorted as the search needs them.
+/// The numbers of the operations, sorted as the search needs them.
 #[derive(Drop)]
-pub(crate) struct History {
+pub(crate) struct Sorted {
     /// The operations that are known to have happened, in the order of their invocations.
     pub(crate) arrivals: Vec<usize>,
     /// The same operations in the order of their ends.
     pub(crate) stages: Vec<Stage>,
     /// The operations of unknown outcome that are tried, class by class.
-    pub(crate) unknown: Vec<usize>,
-    /// The classes, from indexes of `unknown` up to others.
+    pub(crate) unsure_changes: Vec<usize>,
+    /// The classes, from indexes of `unsure_changes` up to others.
     pub(crate) classes: Vec<Class>,
 }
 
@@ -55,12 +56,12 @@ pub(crate) struct History {
 pub(crate) struct Problem<'a> {
     pub(crate) ops: &'a [RegOp],
     pub(crate) initial: Option<i64>,
-    pub(crate) history: History,
+    pub(crate) history: Sorted,
     pub(crate) budget: u64,
 }
 
-/// The places of the operations that are known to have happened, each behind the place of its
-/// invocation, and sorted by that.
+/// The numbers of the operations that are known to have happened, each behind the place of its
+/// invocation in the history, and sorted by that.
 fn arrivals_of(alloc: Global, ops: &[RegOp]) -> Result<Vec<(usize, usize)>, AllocError>
     ensures entries { IfOk result (λ pairs.
         ArePlaceEntries (IsDone ops.now) (arrival_entry ops.now) (λ x. x.1)
@@ -77,8 +78,8 @@ fn arrivals_of(alloc: Global, ops: &[RegOp]) -> Result<Vec<(usize, usize)>, Allo
     Ok(arrivals)
 }
 
-/// The places of the operations that are known to have happened, each behind the place of its end,
-/// and sorted by that.
+/// The numbers of the operations that are known to have happened, each behind the place of its end
+/// in the history, and sorted by that.
 fn ends_of(alloc: Global, ops: &[RegOp]) -> Result<Vec<(usize, usize)>, AllocError>
     ensures entries { IfOk result (λ pairs.
         ArePlaceEntries (IsDone ops.now) (end_entry ops.now) (λ x. x.1)
@@ -95,7 +96,7 @@ fn ends_of(alloc: Global, ops: &[RegOp]) -> Result<Vec<(usize, usize)>, AllocErr
     Ok(ends)
 }
 
-/// The places of the operations of unknown outcome that are tried, each behind its call and the
+/// The numbers of the operations of unknown outcome that are tried, each behind its call and the
 /// place of its invocation. They are sorted, so that operations with the same call are neighbours.
 /// In which order the calls come does not matter.
 fn unknown_of(alloc: Global, ops: &[RegOp]) -> Result<Vec<(RegCall, usize, usize)>, AllocError>
@@ -105,7 +106,7 @@ fn unknown_of(alloc: Global, ops: &[RegOp]) -> Result<Vec<(RegCall, usize, usize
 {
     let mut unknown = Vec::new(alloc);
     for (place, op) in ops.iter().enumerate() {
-        if is_unknown(*op) {
+        if is_unsure_change(*op) {
             unknown.push((op.call, op.invoked, place))?;
         }
     }
@@ -147,7 +148,7 @@ fn classes_of(alloc: Global, entries: &[(RegCall, usize, usize)]) -> Result<Vec<
     Ok(classes)
 }
 
-/// The places of the operations in pairs, which are the second of each.
+/// The numbers of the operations in pairs, which are the second of each.
 fn places_of(alloc: Global, pairs: &[(usize, usize)]) -> Result<Vec<usize>, AllocError>
     ensures { IfOk result (λ places. places.items ≡ map (λ x. x.1) pairs.now) }
 {
@@ -158,7 +159,7 @@ fn places_of(alloc: Global, pairs: &[(usize, usize)]) -> Result<Vec<usize>, Allo
     Ok(places)
 }
 
-/// The places of the operations in entries, which are the last of each.
+/// The numbers of the operations in entries, which are the last of each.
 fn unknown_places(
     alloc: Global,
     entries: &[(RegCall, usize, usize)],
@@ -211,23 +212,23 @@ fn stages_of(
 }
 
 /// The operations of a register, sorted for the search.
-pub(crate) fn sorted_history(alloc: Global, ops: &[RegOp]) -> Result<History, AllocError>
+pub(crate) fn sorted_history(alloc: Global, ops: &[RegOp]) -> Result<Sorted, AllocError>
     ensures history { IfOk result
         (λ history. IsHistory ops.now history.arrivals.items history.stages.items) }
     ensures classes { IfOk result
-        (λ history. AreClasses ops.now history.unknown.items history.classes.items) }
+        (λ history. AreClasses ops.now history.unsure_changes.items history.classes.items) }
 {
     let invocations = arrivals_of(alloc, ops)?;
     let ends = ends_of(alloc, ops)?;
     let entries = unknown_of(alloc, ops)?;
     let arrivals = places_of(alloc, invocations.as_slice())?;
     let stages = stages_of(alloc, invocations.as_slice(), ends.as_slice())?;
-    let unknown = unknown_places(alloc, entries.as_slice())?;
+    let unsure_changes = unknown_places(alloc, entries.as_slice())?;
     let classes = classes_of(alloc, entries.as_slice())?;
-    Ok(History {
+    Ok(Sorted {
         arrivals,
         stages,
-        unknown,
+        unsure_changes,
         classes,
     })
 }

@@ -12,7 +12,7 @@
 //!
 //! - A read that is known to have happened, and finds its value, is placed at once and alone:
 //!   `settled` in `moves.rt`, `settled_leads` in `LeadLemmas.antt`.
-//! - A read of unknown outcome is left out: `is_unknown` in `register.rt`, `follows_less` in
+//! - A read of unknown outcome is left out: `is_unsure_change` in `register.rt`, `follows_less` in
 //!   `FollowLemmas.antt`.
 //! - Of the operations of unknown outcome with one call, only the one that was invoked first is
 //!   tried: `Class` in `history.rt`, `after_twin` in `FollowLemmas.antt` and `class_leads` in

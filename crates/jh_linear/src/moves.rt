@@ -51,7 +51,7 @@ fn class_at(classes: &[Class], class: usize) -> Class
     }
 }
 
-/// The number at an index. Past the end it is 0.
+/// What stands at an index. Past the end it is 0.
 fn at_or_zero(places: &[usize], index: usize) -> usize
     ensures { result ≡ rule.next_at places.now index }
 {
@@ -61,14 +61,14 @@ fn at_or_zero(places: &[usize], index: usize) -> usize
     }
 }
 
-/// The place of the operation that a move places.
+/// The number of the operation that a move places.
 pub(crate) fn place_of(problem: &Problem, config: &Config, source: Source) -> usize
     ensures { result ≡ rule.source_place problem.now config.now source }
 {
     match source {
-        Source::Happened(index) => at_or_zero(config.pending.as_slice(), index),
+        Source::Happened(index) => at_or_zero(config.happened.as_slice(), index),
         Source::Unknown(class) => at_or_zero(
-            problem.history.unknown.as_slice(),
+            problem.history.unsure_changes.as_slice(),
             at_or_zero(config.next.as_slice(), class),
         ),
     }
@@ -112,9 +112,9 @@ fn settled(problem: &Problem, config: &Config) -> Option<usize>
     requires problem { IsProblem problem.now }
     ensures some { IfSome result (λ index. IsSettledAt problem.now config.now index) }
     ensures none { result ≡ None
-        → IsNoneSettled problem.now config.now (vec_len config.now.pending) }
+        → IsNoneSettled problem.now config.now (vec_len config.now.happened) }
 {
-    for index in 0..config.pending.len() {
+    for index in 0..config.happened.len() {
         if is_settled(
             op_of(problem, config, Source::Happened(index)),
             config.value,
@@ -153,9 +153,9 @@ fn push_happened(
 ) -> Result<(), AllocError>
     ensures more { OnOk result (MovesMore problem.now config.now moves.old.items moves.new.items) }
     ensures happened { OnOk result
-        (HasHappened problem.now config.now moves.new.items (vec_len config.now.pending)) }
+        (HasHappened problem.now config.now moves.new.items (vec_len config.now.happened)) }
 {
-    for index in 0..config.pending.len() {
+    for index in 0..config.happened.len() {
         push_move(problem, config, Source::Happened(index), moves)?;
     }
     Ok(())

@@ -16,13 +16,13 @@ ghost use Rattle.jh_linear.specs.declared.register.Outcome.TheVariants.{Done};
 use crate::register::{Outcome, RegCall, RegOp, after, is_done};
 use thiserror::Error;
 
-/// Why a list of places is no order. The first of these that applies is given.
+/// Why a list of numbers is no order. The first of these that applies is given.
 #[derive(Clone, Copy, Debug, PartialEq, Eq, Error)]
 pub enum OrderFault {
-    /// A place is that of no operation.
+    /// A number is that of no operation.
     #[error("no such operation")]
     NoSuch,
-    /// A place stands in the list twice.
+    /// A number stands in the list twice.
     #[error("repeated operation")]
     Repeat,
     /// One of the operations failed.
@@ -39,15 +39,15 @@ pub enum OrderFault {
     Illegal,
 }
 
-/// Whether these places are an order in which the operations can have happened, on a register with
+/// Whether these numbers are an order in which the operations can have happened, on a register with
 /// this initial value. Each operation has to end after its invocation.
 ///
 /// Errors, in this order: `NoSuch`, `Repeat`, `Failed`, `Missing`, `Precedence`, `Illegal`.
 ///
-/// Takes no memory. Takes time linear in the operations and the places, except for `Repeat`: there
-/// each place is looked for among those behind it, up to the first that was invoked after its end.
-/// So an order of m places with w operations in flight at once takes m * w steps, and up to m more
-/// for each operation that is not known to have happened. Where places break precedence, each is
+/// Takes no memory. Takes time linear in the operations and the numbers, except for `Repeat`: there
+/// each number is looked for among those behind it, up to the first that was invoked after its end.
+/// So an order of m numbers with w operations in flight at once takes m * w steps, and up to m more
+/// for each operation that is not known to have happened. Where numbers break precedence, each is
 /// compared with each, which takes m * m steps.
 pub fn check_order(ops: &[RegOp], initial: Option<i64>, order: &[usize]) -> Result<(), OrderFault>
     requires ends { EndAfterInvoked ops.now }
@@ -76,7 +76,7 @@ pub fn check_order(ops: &[RegOp], initial: Option<i64>, order: &[usize]) -> Resu
     Ok(())
 }
 
-/// The operation at a place. Past the end it is one that failed.
+/// The operation with a number. Past the end it is one that failed.
 pub(crate) fn op_at(ops: &[RegOp], place: usize) -> RegOp
     ensures { result ≡ rule.op_at ops.now place }
 {
@@ -91,14 +91,14 @@ pub(crate) fn op_at(ops: &[RegOp], place: usize) -> RegOp
     }
 }
 
-/// Whether each place is that of an operation.
+/// Whether each number is that of an operation.
 fn are_there(ops: &[RegOp], order: &[usize]) -> bool
     ensures { IsTrue result ↔ AreThere ops.now order.now }
 {
     order.iter().all(|place| *place < ops.len())
 }
 
-/// Whether the operation at a place did not fail.
+/// Whether the operation with a number did not fail.
 fn is_possible(ops: &[RegOp], place: usize) -> bool
     ensures { IsTrue result ↔ IsPossible ops.now place }
 {
@@ -115,14 +115,14 @@ fn are_possible(ops: &[RegOp], order: &[usize]) -> bool
     order.iter().all(|place| is_possible(ops, *place))
 }
 
-/// Whether the operation at a place is known to have happened.
+/// Whether the operation with a number is known to have happened.
 fn is_done_at(ops: &[RegOp], place: usize) -> bool
     ensures { result ≡ is_op_done ops.now place }
 {
     is_done(op_at(ops, place))
 }
 
-/// How many of the places are those of operations that are known to have happened.
+/// How many of the numbers are those of operations that are known to have happened.
 fn count_done(ops: &[RegOp], order: &[usize]) -> usize
     ensures { result ≡ length (filter (is_op_done ops.now) order.now) }
 {
@@ -148,7 +148,7 @@ fn count_all_done(ops: &[RegOp]) -> usize
     count
 }
 
-/// Whether all operations that are known to have happened are among the places. Since no place
+/// Whether all operations that are known to have happened are among the numbers. Since no number
 /// stands there twice, it is enough to count them.
 fn has_all_done(ops: &[RegOp], order: &[usize]) -> bool
     requires apart { HasNoneTwice order.now }
@@ -183,7 +183,7 @@ fn none_late(ops: &[RegOp], order: &[usize]) -> bool
     true
 }
 
-/// Whether a place is among those behind it. Where these keep precedence (`in_time`), it can stand
+/// Whether a number is among those behind it. Where these keep precedence (`in_time`), it can stand
 /// only before the first of them that was invoked after its end.
 fn stands_again(ops: &[RegOp], place: usize, behind: &[usize], in_time: bool) -> bool
     requires in_time { in_time ≡ true → IsNoneLate ops.now (place ∷ behind.now) }
@@ -201,7 +201,7 @@ fn stands_again(ops: &[RegOp], place: usize, behind: &[usize], in_time: bool) ->
     false
 }
 
-/// The places behind an index.
+/// The numbers behind an index.
 fn behind(order: &[usize], index: usize) -> &[usize]
     requires { index < length order.now }
     ensures { result.now ≡ drop (index + 1) order.now }
@@ -209,7 +209,7 @@ fn behind(order: &[usize], index: usize) -> &[usize]
     &order[index + 1..]
 }
 
-/// Whether no place stands in the list twice.
+/// Whether no number stands in the list twice.
 fn are_apart(ops: &[RegOp], order: &[usize]) -> bool
     ensures { IsTrue result ↔ HasNoneTwice order.now }
 {

@@ -14,7 +14,7 @@ ghost use Rattle.jh_linear.specs.WaitingInside.{IsWith};
 ghost use Rattle.jh_linear.specs.declared.queue.RankedConfig.{RankedConfig};
 
 use crate::config::Config;
-use crate::history::{History, Problem};
+use crate::history::{Problem, Sorted};
 use std::alloc::{AllocError, Global};
 use std::collections::BinaryHeap;
 use std::marker::Model;
@@ -77,8 +77,12 @@ impl Queue {
 
 /// How many stages one operation of unknown outcome costs: the number of stages divided by the
 /// number of these operations, at least 1, and up to a limit.
-fn price(history: &History) -> usize {
-    match history.stages.len().checked_div(history.unknown.len()) {
+fn price(history: &Sorted) -> usize {
+    match history
+        .stages
+        .len()
+        .checked_div(history.unsure_changes.len())
+    {
         Some(stages) => stages.clamp(1, MAX_PRICE),
         None => MAX_PRICE,
     }

@@ -49,7 +49,8 @@ pub struct RegOp {
     pub call: RegCall,
 }
 
-/// The place where an operation ended. One that has none ends behind all others.
+/// The place of the history where an operation ended. One that has none ends behind all others;
+/// `end_of` of `jh_check` gives the place of its invocation there.
 pub fn op_end(op: RegOp) -> usize
     ensures { result ≡ stuck.op_end op }
 {
@@ -92,7 +93,7 @@ fn value_is(value: Option<i64>, wanted: i64) -> bool
 
 /// Whether an operation is tried though it is not known to have happened. A read is not tried,
 /// since an order that has it is still an order when it is left out.
-pub(crate) fn is_unknown(op: RegOp) -> bool
+pub(crate) fn is_unsure_change(op: RegOp) -> bool
     ensures { result ≡ rule.is_unsure_change op.outcome op.call }
 {
     match (op.outcome, op.call) {

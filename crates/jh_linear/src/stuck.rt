@@ -34,7 +34,7 @@ pub(crate) fn order_of(alloc: Global, steps: &[Step], last: usize) -> Result<Vec
     Ok(order)
 }
 
-/// Appends places, from the last to the first.
+/// Appends numbers, from the last to the first.
 fn push_reversed(order: &mut Vec<usize>, placed: &[usize]) -> Result<(), AllocError>
     ensures { OnOk result (order.new.items ≡ order.old.items ++ reverse placed.now) }
 {
@@ -45,7 +45,8 @@ fn push_reversed(order: &mut Vec<usize>, placed: &[usize]) -> Result<(), AllocEr
     Ok(())
 }
 
-/// Whether an operation is known to have happened by a history that is cut right before a place.
+/// Whether an operation is known to have happened by a history that is cut right before a place of
+/// it.
 fn is_known(op: RegOp, cut: usize) -> bool
     ensures { result ≡ inside.is_known op cut }
 {
@@ -55,8 +56,8 @@ fn is_known(op: RegOp, cut: usize) -> bool
     }
 }
 
-/// How many places of an order there are up to the last operation that is known to have happened,
-/// by a history that is cut right before a place.
+/// How many numbers of an order there are up to the last operation that is known to have happened,
+/// by a history that is cut right before a place of it.
 fn known_until(ops: &[RegOp], order: &[usize], cut: usize) -> usize
     ensures { IsKnownUntil ops.now order.now cut result }
 {

@@ -6,11 +6,12 @@ ghost use Rattle.std.specs.Prelude.{◌≡◌};
 
 use std::marker::Model;
 
-/// The places of operations in the order in which these are linearized: a linearization, or a part
-/// of one. A contract sees a list.
+/// The numbers of operations in the order in which these are linearized: a linearization, or a part
+/// of one. The numbers of operations are places in the list that `reg_ops` gives, from 0, and not
+/// in the history. A contract sees a list.
 #[derive(Debug, Drop)]
 pub struct Linearization {
-    places: Vec<usize>,
+    numbers: Vec<usize>,
 }
 
 impl Model for Linearization {
@@ -18,30 +19,30 @@ impl Model for Linearization {
 
     ghost Value = { List ℕ };
 
-    ghost view = { λ a. a.places.items };
+    ghost view = { λ a. a.numbers.items };
 }
 
 impl Linearization {
-    /// The linearization with the places of a vector. Takes no memory.
-    pub fn of(places: Vec<usize>) -> Linearization
-        ensures { result ≡ places.items }
+    /// The linearization with the numbers of a vector. Takes no memory.
+    pub fn of(numbers: Vec<usize>) -> Linearization
+        ensures { result ≡ numbers.items }
     {
-        Linearization { places }
+        Linearization { numbers }
     }
 
-    /// The places, one after another.
+    /// The numbers, one after another.
     pub fn as_slice(&self) -> &[usize]
         ensures { result.now ≡ self.now }
     {
-        self.places.as_slice()
+        self.numbers.as_slice()
     }
 
-    /// The vector of the places. Takes no memory.
+    /// The vector of the numbers. Takes no memory.
     pub fn into_vec(self) -> Vec<usize>
         ensures { result.items ≡ self }
     {
-        let Linearization { places } = self;
-        places
+        let Linearization { numbers } = self;
+        numbers
     }
 }
 
@@ -98,9 +99,10 @@ impl Reached {
 /// is cut.
 #[derive(Debug, Drop)]
 pub struct Stuck {
-    /// The place of the first completion with which there is no linearization any more. It is the
-    /// place where the operation ended, and `usize::MAX` for an operation that happened and has no
-    /// such place. Where several operations ended at that place, any of them may be meant.
+    /// The place in the history of the first completion with which there is no linearization any
+    /// more. It is the place where the operation ended, and `usize::MAX` for an operation that
+    /// happened and has no such place. Where several operations ended at that place, any of them
+    /// may be meant.
     pub end: usize,
     /// A linearization of the history that is cut right before that completion.
     pub order: Linearization,

@@ -48,10 +48,10 @@ pub(crate) fn is_held(wanted: &Wanted, value: Option<i64>) -> bool
 /// Adds the values that the pending operations need.
 fn put_happened(problem: &Problem, config: &Config, wanted: &mut Wanted) -> Result<(), AllocError>
     ensures happened { OnOk result
-        (HoldsHappened problem.now config.now wanted.new (vec_len config.now.pending)) }
+        (HoldsHappened problem.now config.now wanted.new (vec_len config.now.happened)) }
     ensures more { OnOk result (HoldsMore wanted.old wanted.new) }
 {
-    for index in 0..config.pending.len() {
+    for index in 0..config.happened.len() {
         put(wanted, op_of(problem, config, Source::Happened(index)).call)?;
     }
     Ok(())

@@ -15,9 +15,9 @@ returns-clause-stands c =
     record {
       follows = refl;
       searched = λ place there. absurd (false≢true there);
-      known = subst (λ xs. IsAt h.arrivals.items h.stages.items [] 0 xs) (sym (c.in_ok-pending.ensures.items ∙ ap (λ xs. take first.arrived xs) c.deref.ensures.value))
+      known = subst (λ xs. IsAt h.arrivals.items h.stages.items [] 0 xs) (sym (c.in_ok-happened.ensures.items ∙ ap (λ xs. take first.arrived xs) c.deref.ensures.value))
           (at_first p.ops.now h.arrivals.items h.stages.items c.requires.problem.history first.arrived (λ _. ap (λ s. s.arrived) is));
-      used = next_first p.ops.now h.unknown.items h.classes.items c.requires.problem.classes c.in_ok-next.next.items (c.in_ok-next.ensures ∙ ap (λ cs. map (λ class. class.from) cs) c.as_slice.ensures.value);
+      used = next_first p.ops.now h.unsure_changes.items h.classes.items c.requires.problem.classes c.in_ok-next.next.items (c.in_ok-next.ensures ∙ ap (λ cs. map (λ class. class.from) cs) c.as_slice.ensures.value);
       low = omega arith;
       waits = λ _. refl;
     }

@@ -19,4 +19,4 @@ returns-clause-classes c =
     let entries = c.in_ok-entries.entries.items in
     let classes = c.in_ok-classes.classes.items in
     let runs : AreClassesUpTo entries classes (length entries) = subst (λ e. AreClassesUpTo e classes (length e)) c.as_slice-5.ensures.value c.in_ok-classes.ensures in
-    subst (λ places. AreClasses ops places classes) (sym (c.in_ok-unknown.ensures ∙ ap (map (λ x. x.2)) c.as_slice-4.ensures.value)) (are_classes ops entries classes c.in_ok-entries.ensures runs)
+    subst (λ places. AreClasses ops places classes) (sym (c.in_ok-unsure_changes.ensures ∙ ap (map (λ x. x.2)) c.as_slice-4.ensures.value)) (are_classes ops entries classes c.in_ok-entries.ensures runs)

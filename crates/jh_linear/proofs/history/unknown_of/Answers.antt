@@ -6,7 +6,7 @@ use Rattle.jh_linear.specs.SearchInside.{ArePlaceEntries, IsUnsureChange, is_uns
 use Rattle.jh_linear.proofs.PlaceSetLemmas.{not_true}
 use Rattle.jh_linear.proofs.EntryLemmas.{entries_none, entries_skip, entries_push, entries_moved}
 use Rattle.jh_linear.proofs.history.unknown_of.Goals as goal
-use Rattle.jh_linear.proofs.history.unknown_of.Goals.{else-is_unknown, then-is_unknown+in_ok-push}
+use Rattle.jh_linear.proofs.history.unknown_of.Goals.{else-is_unsure_change, then-is_unsure_change+in_ok-push}
 
 pub loop-place-init : goal.loop-place-init
 loop-place-init c = subst (ArePlaceEntries (IsUnsureChange c.args.ops.now) (unknown_entry c.args.ops.now) (λ x. x.2) 0) (sym c.new-unknown.ensures.items) (entries_none (IsUnsureChange c.args.ops.now) (unknown_entry c.args.ops.now) (λ x. x.2))
@@ -18,12 +18,12 @@ loop-place-preserved c =
     let Entries = ArePlaceEntries (IsUnsureChange ops) (unknown_entry ops) (λ x. x.2) (l.place + 1) in
     let low : l.place < length ops = omega arith in
     let at = get_or_default ops l.place _ no_op low in
-    let parsed = c.is_unknown.ensures ∙ ap (λ (o : RegOp). is_unsure_change o.outcome o.call) at in
-    elim c.if-is_unknown.branch [
-      | then-is_unknown+in_ok-push w ↦ subst Entries (sym (ap (λ v. v.items) w.unknown-is ∙ w.in_ok-push.ensures.items))
-          (entries_push (IsUnsureChange ops) (unknown_entry ops) (λ x. x.2) l.place l.unknown.items _ refl (ap (λ (o : RegOp). (o.call, o.invoked, l.place)) (sym at)) ((sym parsed ∙ w.if-is_unknown.true)) l.invariant)
-      | else-is_unknown w ↦ subst Entries (sym (ap (λ v. v.items) w.unknown-is))
-          (entries_skip (IsUnsureChange ops) (unknown_entry ops) (λ x. x.2) l.place l.unknown.items (λ kept. not_true _ (kept) (sym parsed ∙ w.if-is_unknown.false)) l.invariant)
+    let parsed = c.is_unsure_change.ensures ∙ ap (λ (o : RegOp). is_unsure_change o.outcome o.call) at in
+    elim c.if-is_unsure_change.branch [
+      | then-is_unsure_change+in_ok-push w ↦ subst Entries (sym (ap (λ v. v.items) w.unknown-is ∙ w.in_ok-push.ensures.items))
+          (entries_push (IsUnsureChange ops) (unknown_entry ops) (λ x. x.2) l.place l.unknown.items _ refl (ap (λ (o : RegOp). (o.call, o.invoked, l.place)) (sym at)) ((sym parsed ∙ w.if-is_unsure_change.true)) l.invariant)
+      | else-is_unsure_change w ↦ subst Entries (sym (ap (λ v. v.items) w.unknown-is))
+          (entries_skip (IsUnsureChange ops) (unknown_entry ops) (λ x. x.2) l.place l.unknown.items (λ kept. not_true _ (kept) (sym parsed ∙ w.if-is_unsure_change.false)) l.invariant)
     ]
 
 pub returns : goal.returns

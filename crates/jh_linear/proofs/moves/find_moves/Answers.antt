@@ -21,7 +21,7 @@ returns-then-is_empty c =
     let config = c.args.config.now in
     let happened = c.in_ok-push_happened.ensures in
     let empty : length p.history.classes.items ≡ 0 = grind (arith, common_steps) in
-    let none : IsNoneSettled p config (length config.pending.items) = λ index lt. c.in_default.ensures.none refl index (omega (arith, lt)) in
+    let none : IsNoneSettled p config (length config.happened.items) = λ index lt. c.in_default.ensures.none refl index (omega (arith, lt)) in
     record {
       each = happened.more.each (each_none p config c.clear.new.self.items c.clear.ensures.items);
       enough = inr (λ index next lt allowed. happened.happened index next (omega (arith, lt)) allowed, λ k next lt. absurd (omega (arith, lt, empty)), none);
@@ -33,7 +33,7 @@ returns c =
     let config = c.args.config.now in
     let happened = c.in_ok-push_happened.ensures in
     let unknown = c.in_ok-push_unknown.ensures in
-    let none : IsNoneSettled p config (length config.pending.items) = λ index lt. c.in_default.ensures.none refl index (omega (arith, lt)) in
+    let none : IsNoneSettled p config (length config.happened.items) = λ index lt. c.in_default.ensures.none refl index (omega (arith, lt)) in
     record {
       each = unknown.more.each (happened.more.each (each_none p config c.clear.new.self.items c.clear.ensures.items));
       enough = inr (λ index next lt allowed. unknown.more.kept _ next (happened.happened index next (omega (arith, lt)) allowed), unknown.unknown, none);
