@@ -19,7 +19,7 @@ ghost use Rattle.jh_arguments.specs.Commands.{SubcommandHasSchedule};
 ghost use Rattle.jh_arguments.specs.Line.{IsRefused};
 ghost use Rattle.jh_arguments.specs.declared.answers.Refusal.TheVariants as Refusals;
 
-use crate::commands::{Command, command_of, do_command, schedule_path_of, settings_path_of};
+use crate::commands::{Command, command_of, do_command, run_settings_path_of, test_path_of};
 use crate::line::parse;
 use clap::ArgMatches;
 use jh_cli::{CliError, HistoryObserver};
@@ -123,7 +123,7 @@ where
         × SubcommandHasSchedule (subcommand_rows_of matches.now) path) }
     ensures error { IfErr result IsUnscheduled }
 {
-    match schedule_path_of(matches) {
+    match run_settings_path_of(matches) {
         Some(path) => steps_in_file(rt, path),
         None => Ok(Vec::new(rt.alloc())),
     }
@@ -200,7 +200,7 @@ where
         Ok(matches) => matches,
         Err(error) => return Err(Refusal::Arguments(error)),
     };
-    if let Some(path) = settings_path_of(&matches) {
+    if let Some(path) = test_path_of(&matches) {
         return of_test(conduct_file(rt, path, streams, observer));
     }
     // `clap` takes no arguments that ask for neither.

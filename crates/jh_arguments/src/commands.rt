@@ -97,7 +97,7 @@ pub fn is_verbose(matches: &ArgMatches<'_>) -> bool
 
 /// The file of settings of the test that `drive` is asked to conduct, where it is asked. No other
 /// command has one.
-pub fn settings_path_of<'a>(matches: &ArgMatches<'a>) -> Option<&'a str>
+pub fn test_path_of<'a>(matches: &ArgMatches<'a>) -> Option<&'a str>
     ensures parsed { IfSome result
         (λ path. SubcommandIsDrive (subcommand_rows_of matches.now) path.now) }
     ensures taken { IsNone result → (path : Text)
@@ -111,7 +111,7 @@ pub fn settings_path_of<'a>(matches: &ArgMatches<'a>) -> Option<&'a str>
 
 /// The file with the settings of the run that `timeline` shows, where it is given. No other command has
 /// one.
-pub(crate) fn schedule_path_of<'a>(matches: &ArgMatches<'a>) -> Option<&'a str>
+pub(crate) fn run_settings_path_of<'a>(matches: &ArgMatches<'a>) -> Option<&'a str>
     ensures parsed { IfSome result
         (λ path. SubcommandHasSchedule (subcommand_rows_of matches.now) path.now) }
     ensures taken { IsNone result → (path : Text)

@@ -23,7 +23,7 @@ mod teller;
 
 pub use answers::{CommandObserver, Refusal, answer};
 pub use commands::{
-    Command, command_of, do_command, is_verbose, question_of, search_question_of, settings_path_of,
+    Command, command_of, do_command, is_verbose, question_of, search_question_of, test_path_of,
     timeline_question_of,
 };
 pub use jh_cli::{

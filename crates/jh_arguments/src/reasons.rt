@@ -2,7 +2,7 @@
 //! made from the input again, which is kept for it: no command knows of them.
 
 use crate::answers::Refusal;
-use crate::commands::{Command, schedule_path_of, settings_path_of};
+use crate::commands::{Command, run_settings_path_of, test_path_of};
 use crate::line::parse;
 use crate::teller::judging_of;
 use jh_check::CheckError;
@@ -158,7 +158,7 @@ fn test_reasons<T: Files + Alloc<A = Global>>(
     let Ok(matches) = parse(alloc, arguments) else {
         return Ok(Vec::new(alloc));
     };
-    match settings_path_of(&matches) {
+    match test_path_of(&matches) {
         Some(path) => file_reasons(rt, path, SettingsKind::Test, refusal),
         None => Ok(Vec::new(alloc)),
     }
@@ -179,7 +179,7 @@ fn schedule_reasons<T: Files + Alloc<A = Global>>(
     let Ok(matches) = parse(alloc, arguments) else {
         return Ok(Vec::new(alloc));
     };
-    match schedule_path_of(&matches) {
+    match run_settings_path_of(&matches) {
         Some(path) => file_reasons(rt, path, SettingsKind::Run, refusal),
         None => Ok(Vec::new(alloc)),
     }

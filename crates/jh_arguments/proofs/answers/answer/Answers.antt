@@ -100,7 +100,7 @@ returns-in-Some-clause-unfinished g c = (tested g c).unfinished
 pub unreachable-requires : goal.unreachable-requires
 unreachable-requires g c = elim c.in-Ok.ensures.asked [
   | inl (command, asks) ↦ c.command_of.ensures.taken (search rules) command asks
-  | inr (path, asks) ↦ c.settings_path_of.ensures.taken (search rules) path asks
+  | inr (path, asks) ↦ c.test_path_of.ensures.taken (search rules) path asks
 ]
 
 -- no steps can be had
