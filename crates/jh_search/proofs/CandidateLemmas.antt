@@ -21,7 +21,7 @@ use Rattle.jh_env.specs.Faults.{FaultValue, is_self_link}
 use Rattle.jh_env.specs.Faults.{Cut, Slow, Loss, Fix, Pause, Kill, Bump}
 use Rattle.jh_laws.specs.StepLines.{HasNoSelfLink}
 use Rattle.jh_laws.proofs.OrderLemmas.{none_in_order}
-use Rattle.jh_settings_texts.specs.SettingsWritten.{CanBeSaid, CanBeWritten, LeadsToOthers, entry_in_order, plan_in_order}
+use Rattle.jh_settings_texts.specs.SettingsWritten.{CanBeWritten, IsWritableEntry, LeadsToOthers, entry_in_order, plan_in_order}
 use Rattle.jh_step_texts.specs.declared.kinds.FaultKind.{FaultKind}
 use Rattle.jh_search.specs.declared.kinds.Palette.{Palette}
 use Rattle.jh_search.specs.declared.options.Options.{Options}
@@ -52,8 +52,8 @@ drawn_named palette count =
 
 -- entries with one more are such as a schedule of the plan may have
 pub one_entry_more : (p : PlanValue) (entries : List Entry) (entry : Entry) → AreEntriesFor p entries → FitsNodes (length p.env.names) entry.step
-    → CanBeSaid entry → AreEntriesFor p (entries_with entries entry)
-one_entry_more p entries entry are fits said =
+    → IsWritableEntry entry → AreEntriesFor p (entries_with entries entry)
+one_entry_more p entries entry are fits writable =
     let P : Entry → Type 0 = λ e. FitsNodes (length p.env.names) e.step in
     let place = position_or_len (λ (other : Entry). nat_lt entry.at other.at) entries in
     let whole = ap length (take-append-drop place entries) in
@@ -64,8 +64,8 @@ one_entry_more p entries entry are fits said =
         few = (let below : length entries < max_entries = ltb-true (length entries) max_entries room in omega (arith, whole, parts, longer, below));
         fit = All-append P (take place entries) (entry ∷ drop place entries) (All-take P place entries are.fit)
             (All-cons P entry (drop place entries) fits (All-drop P place entries are.fit));
-        said = λ own. All-append CanBeSaid (take place entries) (entry ∷ drop place entries) (All-take CanBeSaid place entries (are.said own))
-            (All-cons CanBeSaid entry (drop place entries) said (All-drop CanBeSaid place entries (are.said own)));
+        writable = λ own. All-append IsWritableEntry (take place entries) (entry ∷ drop place entries) (All-take IsWritableEntry place entries (are.writable own))
+            (All-cons IsWritableEntry entry (drop place entries) writable (All-drop IsWritableEntry place entries (are.writable own)));
       }
       | false ↦ λ full. are
     ] refl
@@ -112,9 +112,9 @@ all_in_order p entries are =
       few = subst (λ n. n ≤ max_entries) (sym (length-map entries entry_in_order)) are.few;
       fit = All-map P entry_in_order entries
           (All-weaker P (λ e. P (entry_in_order e)) (λ e. step_fits (length p.env.names) e.step) entries are.fit);
-      said = λ own.
-          All-map CanBeSaid entry_in_order entries
-          (All-weaker CanBeSaid (λ e. CanBeSaid (entry_in_order e)) (λ e said. (said.0, step_leads e.step said.1)) entries (are.said own));
+      writable = λ own.
+          All-map IsWritableEntry entry_in_order entries
+          (All-weaker IsWritableEntry (λ e. IsWritableEntry (entry_in_order e)) (λ e writable. (writable.0, step_leads e.step writable.1)) entries (are.writable own));
     }
 
 -- what is in order stays as it is
@@ -136,7 +136,7 @@ plan_stays p = ap (λ schedule. record p { schedule = schedule }) (entries_stay 
 pub replanned_written : (p : PlanValue) (entries : List Entry) (seed : ℕ) → CanBeWritten p → seed < 2 ^ 63 → AreEntriesFor p entries
     → CanBeWritten (candidate_plan p entries seed)
 replanned_written p entries seed can small are =
-    let said = are.said (λ i d below. (can.due i d below, can.others i d below)) in
+    let writable = are.writable (λ i d below. (can.due i d below, can.others i d below)) in
     record {
       links = can.links;
       nodes = can.nodes;
@@ -144,6 +144,6 @@ replanned_written p entries seed can small are =
       initial = can.initial;
       tick_every = can.tick_every;
       seed = small;
-      due = λ i d below. (said i d below).0;
-      others = λ i d below. (said i d below).1;
+      due = λ i d below. (writable i d below).0;
+      others = λ i d below. (writable i d below).1;
     }

@@ -5,11 +5,11 @@ use Rattle.jh_nemesis.specs.Steps.{FitsNodes}
 use Rattle.jh_simnode.specs.declared.schedule.Entry.{Entry}
 use Rattle.jh_simnode.specs.Limits.{max_entries}
 use Rattle.jh_simnode.specs.Plans.{PlanValue}
-use Rattle.jh_settings_texts.specs.SettingsWritten.{CanBeSaid}
+use Rattle.jh_settings_texts.specs.SettingsWritten.{IsWritableEntry}
 
 -- A schedule of the plan may have these entries, and settings can say them where they can say the
 -- plan's own.
 pub record AreEntriesFor (p : PlanValue) (entries : List Entry) : Type 0 where
   pub few : length entries ≤ max_entries
   pub fit : All (λ entry. FitsNodes (length p.env.names) entry.step) entries
-  pub said : All CanBeSaid p.schedule → All CanBeSaid entries
+  pub writable : All IsWritableEntry p.schedule → All IsWritableEntry entries

@@ -3,7 +3,7 @@ use Rattle.std.proofs.Common.{◌≤◌}
 use Rattle.std.proofs.lemmas.List.Elements.{All-weaker}
 use Rattle.jh_simnode.specs.Plans.{PlanValue}
 use Rattle.jh_settings.specs.Limits.{max_due_at}
-use Rattle.jh_settings_texts.specs.SettingsWritten.{CanBeSaid, CanBeWritten, LeadsToOthers}
+use Rattle.jh_settings_texts.specs.SettingsWritten.{CanBeWritten, IsWritableEntry, LeadsToOthers}
 use Rattle.jh_settings_texts.specs.TableInside.{HasWritableTexts, HasWritableLoad}
 
 pub can_from_parts : (p : PlanValue) → HasWritableTexts p → HasWritableLoad p → CanBeWritten p
@@ -14,8 +14,8 @@ can_from_parts p texts load = record {
   initial = load.numbers.initial;
   tick_every = load.numbers.tick_every;
   seed = load.numbers.seed;
-  due = All-weaker CanBeSaid (λ entry. entry.at ≤ max_due_at) (λ entry h. h.0) p.schedule load.entries;
-  others = All-weaker CanBeSaid (λ entry. LeadsToOthers entry.step) (λ entry h. h.1) p.schedule load.entries;
+  due = All-weaker IsWritableEntry (λ entry. entry.at ≤ max_due_at) (λ entry h. h.0) p.schedule load.entries;
+  others = All-weaker IsWritableEntry (λ entry. LeadsToOthers entry.step) (λ entry h. h.1) p.schedule load.entries;
 }
 
 pub texts_from_can : (p : PlanValue) → CanBeWritten p → HasWritableTexts p

@@ -21,9 +21,9 @@ abbrev pub LeadsToOthers : Step → Type 0
 LeadsToOthers (Begin id fault) = HasNoSelfLink fault
 LeadsToOthers _ = Unit {0}
 
--- settings can say the entry
-abbrev pub CanBeSaid : Entry → Type 0
-CanBeSaid entry = (entry.at ≤ max_due_at) × LeadsToOthers entry.step
+-- the entry can be written in settings
+abbrev pub IsWritableEntry : Entry → Type 0
+IsWritableEntry entry = (entry.at ≤ max_due_at) × LeadsToOthers entry.step
 
 -- Settings can say the plan: its links and nodes are as they may be at a start, its generator is
 -- nested no deeper than a text may be, only a register holds something at first, its numbers are in

@@ -20,7 +20,7 @@ use Rattle.jh_settings.specs.Limits.{max_tick_every}
 use Rattle.jh_laws.specs.StepLines.{IsStepOver}
 use Rattle.jh_settings_texts.specs.DocumentWritten.{printed_text, whole_number}
 use Rattle.jh_settings_texts.specs.DocumentWritten.{schedule_texts}
-use Rattle.jh_settings_texts.specs.SettingsWritten.{CanBeSaid}
+use Rattle.jh_settings_texts.specs.SettingsWritten.{IsWritableEntry}
 use Rattle.jh_settings_texts.specs.StartInside.{IsStarting}
 
 -- the members with this one, at its place in the order of the keys' bytes
@@ -90,4 +90,4 @@ pub record HasWritableTexts (p : PlanValue) : Type 0 where
 -- and the numbers and the schedule can be written
 pub record HasWritableLoad (p : PlanValue) : Type 0 where
   pub numbers : HasWritableNumbers p
-  pub entries : All CanBeSaid p.schedule
+  pub entries : All IsWritableEntry p.schedule

@@ -9,7 +9,7 @@ ghost use Rattle.jh_settings.specs.Limits.{max_budget};
 ghost use Rattle.jh_settings.specs.Settings.{AreSettingsOf};
 ghost use Rattle.jh_settings.specs.declared.choices.Mode.{Mode};
 ghost use Rattle.jh_settings_texts.specs.DocumentWritten.{document_of};
-ghost use Rattle.jh_settings_texts.specs.SettingsWritten.{CanBeSaid, CanBeWritten};
+ghost use Rattle.jh_settings_texts.specs.SettingsWritten.{CanBeWritten, IsWritableEntry};
 ghost use Rattle.jh_settings_texts.specs.SettingsWritten.{plan_in_order};
 ghost use Rattle.jh_settings_texts.specs.TableInside.{HasWritableLoad, HasWritableNumbers};
 ghost use Rattle.jh_settings_texts.specs.TableInside.{HasWritableTexts};
@@ -39,14 +39,14 @@ fn has_writable_numbers(plan: &Plan) -> bool
 
 /// Whether an entry is due in time and leads to others.
 fn is_writable(entry: &Entry) -> bool
-    ensures { IsTrue result ↔ CanBeSaid entry.now }
+    ensures { IsTrue result ↔ IsWritableEntry entry.now }
 {
     entry.at <= MAX_DUE_AT && leads_to_others(&entry.step)
 }
 
 /// Whether each entry is due in time and leads to others.
 fn are_writable(entries: &[Entry]) -> bool
-    ensures { IsTrue result ↔ All CanBeSaid entries.now }
+    ensures { IsTrue result ↔ All IsWritableEntry entries.now }
 {
     for entry in entries {
         if !is_writable(entry) {

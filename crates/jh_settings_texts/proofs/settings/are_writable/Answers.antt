@@ -1,7 +1,7 @@
 use Rattle.std.proofs.Common.{All, take, get_or, subst, sym, refl}
 use Rattle.std.proofs.lemmas.List.{take_all, take_more}
 use Rattle.std.proofs.lemmas.List.Elements.{All-push}
-use Rattle.jh_settings_texts.specs.SettingsWritten.{CanBeSaid}
+use Rattle.jh_settings_texts.specs.SettingsWritten.{IsWritableEntry}
 use Rattle.jh_settings_texts.proofs.settings.are_writable.Goals as goal
 
 pub loop-entry-preserved : goal.loop-entry-preserved
@@ -9,9 +9,9 @@ loop-entry-preserved c =
     let xs = c.args.entries.now in
     let i = c.loop-entry.entry-index in
     let x = c.entry-item.result in
-    let here : CanBeSaid (get_or xs i x) = subst CanBeSaid c.entry-item.is (c.is_writable.ensures.0 c.if-not-is_writable.false) in
-    subst (All CanBeSaid) (sym (take_more xs i x c.loop-entry-test.true)) (All-push CanBeSaid (take i xs) (get_or xs i x) c.loop-entry.invariant here)
+    let here : IsWritableEntry (get_or xs i x) = subst IsWritableEntry c.entry-item.is (c.is_writable.ensures.0 c.if-not-is_writable.false) in
+    subst (All IsWritableEntry) (sym (take_more xs i x c.loop-entry-test.true)) (All-push IsWritableEntry (take i xs) (get_or xs i x) c.loop-entry.invariant here)
 
 pub returns : goal.returns
 returns c =
-    (λ _. subst (All CanBeSaid) (take_all c.loop-entry.entry-index c.args.entries.now c.loop-entry-test.false) c.loop-entry.invariant, λ _. refl)
+    (λ _. subst (All IsWritableEntry) (take_all c.loop-entry.entry-index c.args.entries.now c.loop-entry-test.false) c.loop-entry.invariant, λ _. refl)
