@@ -149,7 +149,7 @@ fn links_named(alloc: Global, order: &[u8], choice: u64) -> Result<Vec<(Node, No
 }
 
 /// The links that a draw names among nodes, of which there are several.
-fn links_drawn(alloc: Global, nodes: &Nodes, draw: Draw) -> Result<Vec<(Node, Node)>, AllocError>
+fn drawn_links(alloc: Global, nodes: &Nodes, draw: Draw) -> Result<Vec<(Node, Node)>, AllocError>
     requires { 1 < length nodes.now }
     ensures links { IfOk result (λ links. links.items ≡ rule.drawn_links (length nodes.now) draw) }
     ensures among { IfOk result (λ links. AreLinksAmong (length nodes.now) links.items) }
@@ -170,7 +170,7 @@ fn nodes_at(alloc: Global, places: &[u8]) -> Result<Vec<Node>, AllocError>
 }
 
 /// The nodes that a draw names.
-fn nodes_drawn(alloc: Global, nodes: &Nodes, draw: Draw) -> Result<Vec<Node>, AllocError>
+fn drawn_nodes(alloc: Global, nodes: &Nodes, draw: Draw) -> Result<Vec<Node>, AllocError>
     ensures nodes { IfOk result (λ named. named.items ≡ rule.drawn_nodes (length nodes.now) draw) }
     ensures known { IfOk result (λ named. AreNodesOf (length nodes.now) named.items) }
 {
@@ -212,7 +212,7 @@ fn cut(alloc: Global, nodes: &Nodes, draw: Draw) -> Result<Fault, AllocError>
     ensures fits { IfOk result (FitsCount (length nodes.now)) }
     ensures others { IfOk result HasNoSelfLink }
 {
-    let links = links_drawn(alloc, nodes, draw)?;
+    let links = drawn_links(alloc, nodes, draw)?;
     made(Fault::cut(alloc, nodes, &links))
 }
 
@@ -225,7 +225,7 @@ fn slow(alloc: Global, nodes: &Nodes, draw: Draw, ms: u64) -> Result<Fault, Allo
     ensures fits { IfOk result (FitsCount (length nodes.now)) }
     ensures others { IfOk result HasNoSelfLink }
 {
-    let links = links_drawn(alloc, nodes, draw)?;
+    let links = drawn_links(alloc, nodes, draw)?;
     made(Fault::slow(alloc, nodes, &links, ms))
 }
 
@@ -238,7 +238,7 @@ fn loss(alloc: Global, nodes: &Nodes, draw: Draw, level: u8) -> Result<Fault, Al
     ensures fits { IfOk result (FitsCount (length nodes.now)) }
     ensures others { IfOk result HasNoSelfLink }
 {
-    let links = links_drawn(alloc, nodes, draw)?;
+    let links = drawn_links(alloc, nodes, draw)?;
     made(Fault::loss(alloc, nodes, &links, level))
 }
 
@@ -251,7 +251,7 @@ fn fix(alloc: Global, nodes: &Nodes, draw: Draw, ms: u64) -> Result<Fault, Alloc
     ensures fits { IfOk result (FitsCount (length nodes.now)) }
     ensures others { IfOk result HasNoSelfLink }
 {
-    let links = links_drawn(alloc, nodes, draw)?;
+    let links = drawn_links(alloc, nodes, draw)?;
     made(Fault::fix(alloc, nodes, &links, ms))
 }
 
@@ -261,7 +261,7 @@ fn pause(alloc: Global, nodes: &Nodes, draw: Draw) -> Result<Fault, AllocError>
         (λ fault. fault ≡ Pause (kept_nodes (rule.drawn_nodes (length nodes.now) draw))) }
     ensures fits { IfOk result (FitsCount (length nodes.now)) }
 {
-    let named = nodes_drawn(alloc, nodes, draw)?;
+    let named = drawn_nodes(alloc, nodes, draw)?;
     made(Fault::pause(alloc, nodes, &named))
 }
 
@@ -271,7 +271,7 @@ fn kill(alloc: Global, nodes: &Nodes, draw: Draw) -> Result<Fault, AllocError>
         (λ fault. fault ≡ Kill (kept_nodes (rule.drawn_nodes (length nodes.now) draw))) }
     ensures fits { IfOk result (FitsCount (length nodes.now)) }
 {
-    let named = nodes_drawn(alloc, nodes, draw)?;
+    let named = drawn_nodes(alloc, nodes, draw)?;
     made(Fault::kill(alloc, nodes, &named))
 }
 
@@ -282,7 +282,7 @@ fn bump(alloc: Global, nodes: &Nodes, draw: Draw, choice: u64) -> Result<Fault, 
         (rule.drawn_nodes (length nodes.now) draw))) }
     ensures fits { IfOk result (FitsCount (length nodes.now)) }
 {
-    let named = nodes_drawn(alloc, nodes, draw)?;
+    let named = drawn_nodes(alloc, nodes, draw)?;
     let bumps = bumps_of(alloc, &named, choice)?;
     made(Fault::bump(alloc, nodes, &bumps))
 }

@@ -6,7 +6,7 @@ use Rattle.jh_env.specs.Names.{node_places}
 use Rattle.jh_step_texts.proofs.GrudgeLemmas.{order_long}
 use Rattle.jh_search.specs.FaultsInside.{AreNodesOf}
 use Rattle.jh_search.proofs.FaultLemmas.{taken_nodes}
-use Rattle.jh_search.proofs.random_faults.nodes_drawn.Goals as goal
+use Rattle.jh_search.proofs.random_faults.drawn_nodes.Goals as goal
 
 pub slice_bounds-nodes_at-end : goal.slice_bounds-nodes_at-end
 slice_bounds-nodes_at-end c =

@@ -5,7 +5,7 @@ use Rattle.jh_env.specs.Names.{node_places}
 use Rattle.jh_step_texts.specs.NamedFaults.{AreLinksAmong}
 use Rattle.jh_step_texts.proofs.GrudgeLemmas.{order_long}
 use Rattle.jh_search.specs.RandomFaults.{links_named}
-use Rattle.jh_search.proofs.random_faults.links_drawn.Goals as goal
+use Rattle.jh_search.proofs.random_faults.drawn_links.Goals as goal
 
 pub links_named-requires-clause-some : goal.links_named-requires-clause-some
 links_named-requires-clause-some c =
