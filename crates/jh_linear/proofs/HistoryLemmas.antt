@@ -54,9 +54,9 @@ is_history ops inv ends stages ie ir ee er ss =
     let Done' = IsDone ops in
     let arrival = entry_of Done' (arrival_entry ops) (λ x. x.1) no_entry (length ops) inv ie in
     let end_of = entry_of Done' (end_entry ops) (λ x. x.1) no_entry (length ops) ends ee in
-    let key : (k : ℕ) → k < length stages → end_at ops (stage_at stages k).place ≡ (get_or ends k no_entry).0 = λ k lt.
-    ap (end_at ops) (ss.place k lt) ∙ ap (λ x. x.0) (entry_at Done' (end_entry ops) (λ x. x.1) no_entry (length ops) ends ee k (omega (arith, lt, ss.sizes))) in
-    let rise : (j k : ℕ) → j ≤ k → k < length stages → end_at ops (stage_at stages j).place ≤ end_at ops (stage_at stages k).place = λ j k le lt.
+    let key : (k : ℕ) → k < length stages → end_at ops (stage_at stages k).number ≡ (get_or ends k no_entry).0 = λ k lt.
+    ap (end_at ops) (ss.number k lt) ∙ ap (λ x. x.0) (entry_at Done' (end_entry ops) (λ x. x.1) no_entry (length ops) ends ee k (omega (arith, lt, ss.sizes))) in
+    let rise : (j k : ℕ) → j ≤ k → k < length stages → end_at ops (stage_at stages j).number ≤ end_at ops (stage_at stages k).number = λ j k le lt.
     omega (arith, key j (omega (arith, le, lt)), key k lt, er j k no_entry le (omega (arith, lt, ss.sizes))) in
     record {
       distinct = ie.distinct;
@@ -73,13 +73,13 @@ is_history ops inv ends stages ie ir ee er ss =
         | inr on ↦ on
       ];
       each_done = λ p done. let r = end_of p (done_there ops p done) done in
-          let lt : r.0 < length stages = omega (arith, r.1, ss.sizes) in (r.0, lt, ss.place r.0 lt ∙ ap (λ x. x.1) r.2);
-      are_done = λ k lt. subst Done' (sym (ss.place k lt)) (ee.each k no_entry (omega (arith, ss.sizes))).1;
+          let lt : r.0 < length stages = omega (arith, r.1, ss.sizes) in (r.0, lt, ss.number r.0 lt ∙ ap (λ x. x.1) r.2);
+      are_done = λ k lt. subst Done' (sym (ss.number k lt)) (ee.each k no_entry (omega (arith, ss.sizes))).1;
       ends_rise = rise;
       needs = λ k a b lt early before.
           let s = end_of a (done_there ops a before.0) before.0 in
           let inside : s.0 < length stages = omega (arith, s.1, ss.sizes) in
-          let place : (stage_at stages s.0).place ≡ a = ss.place s.0 inside ∙ ap (λ x. x.1) s.2 in
+          let place : (stage_at stages s.0).number ≡ a = ss.number s.0 inside ∙ ap (λ x. x.1) s.2 in
           let first = end_before ops a b before in
           let under : s.0 < k = elim (cases_lt s.0 k) as (λ _. s.0 < k) [
             | inl y ↦ y
@@ -99,8 +99,8 @@ is_history ops inv ends stages ie ir ee er ss =
                 let up = ss.above k lt (omega (arith, r.1)) in
                 let far = ir (stage_at stages k).arrived r.0 no_entry over r.1 in
                 let here : (get_or inv r.0 no_entry).0 ≡ invocation_at ops p = ap (λ x. x.0) r.2 in
-                let last = subst Done' (sym (ss.place k lt)) (ee.each k no_entry (omega (arith, ss.sizes))).1 in
-                absurd (late (before_end ops (stage_at stages k).place p last (omega (arith, key k lt, up.1)) (omega (arith, key k lt, up.0, far, here))))
+                let last = subst Done' (sym (ss.number k lt)) (ee.each k no_entry (omega (arith, ss.sizes))).1 in
+                absurd (late (before_end ops (stage_at stages k).number p last (omega (arith, key k lt, up.1)) (omega (arith, key k lt, up.0, far, here))))
           ];
     }
 

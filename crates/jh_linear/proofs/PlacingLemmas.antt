@@ -22,8 +22,8 @@ follows_push ops front [] value last next p is may allowed =
 follows_push ops front (q ∷ order) value last next p is may allowed =
     (is.0, (is.1.0, is.1.1, follows_push ops (front ++ q ∷ []) order is.1.0 last next p is.1.2 (subst (λ o. MayComeNext ops o p) (sym (append_assoc front (q ∷ []) order)) may) allowed))
 
-pub seen_at : (stages stages' : List Stage) (pending pending' : List ℕ) (k : ℕ) (b : Bool) → stages' ≡ stages → pending' ≡ pending → has pending' (stage_at stages' k).place ≡ b → has pending (stage_at stages k).place ≡ b
-seen_at stages stages' pending pending' k b e f h = subst (λ s. has pending (stage_at s k).place ≡ b) e (subst (λ p. has p (stage_at stages' k).place ≡ b) f h)
+pub seen_at : (stages stages' : List Stage) (pending pending' : List ℕ) (k : ℕ) (b : Bool) → stages' ≡ stages → pending' ≡ pending → has pending' (stage_at stages' k).number ≡ b → has pending (stage_at stages k).number ≡ b
+seen_at stages stages' pending pending' k b e f h = subst (λ s. has pending (stage_at s k).number ≡ b) e (subst (λ p. has p (stage_at stages' k).number ≡ b) f h)
 
 pub coming_same : (arrivals arrivals' : List ℕ) (stages stages' : List Stage) (k : ℕ) → arrivals' ≡ arrivals → stages' ≡ stages → arrivals_after arrivals' stages' k ≡ arrivals_after arrivals stages k
 coming_same arrivals arrivals' stages stages' k e f = ap (λ a. arrivals_after a stages' k) e ∙ ap (λ s. arrivals_after arrivals s k) f

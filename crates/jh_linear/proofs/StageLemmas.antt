@@ -97,7 +97,7 @@ without_other order xs p out = without_same (order ++ p ∷ []) order xs (λ q t
 
 module _ (ops : List RegOp) (arrivals : List ℕ) (stages : List Stage) (history : IsHistory ops arrivals stages) where
   abbrev End : ℕ → ℕ
-  End k = end_at ops (stage_at stages k).place
+  End k = end_at ops (stage_at stages k).number
 
   -- what is possible, not placed and invoked before the end of the stage may come next
   pub may_come : (order : List ℕ) (stage : ℕ) (pending : List ℕ) (p : ℕ) → IsAt arrivals stages order stage pending → stage < length stages → IsPossible ops p → has order p ≡ false → invocation_at ops p ≤ End stage → MayComeNext ops order p
@@ -126,7 +126,7 @@ module _ (ops : List RegOp) (arrivals : List ℕ) (stages : List Stage) (history
       may_come order stage pending p known lt (done_possible ops p r.0) r.1 r.2
 
   -- what happened and may come next is pending
-  pub is_pending : (order : List ℕ) (stage : ℕ) (pending : List ℕ) (p : ℕ) → IsAt arrivals stages order stage pending → (lt : stage < length stages) → has order (stage_at stages stage).place ≡ false → IsDone ops p → MayComeNext ops order p → has pending p ≡ true
+  pub is_pending : (order : List ℕ) (stage : ℕ) (pending : List ℕ) (p : ℕ) → IsAt arrivals stages order stage pending → (lt : stage < length stages) → has order (stage_at stages stage).number ≡ false → IsDone ops p → MayComeNext ops order p → has pending p ≡ true
   is_pending order stage pending p known lt waits done may =
       let here : has (arrivals_by arrivals stages stage) p ≡ true = history.enough stage p lt done (λ before. not_true _ (may.ready _ before) waits) in
       subst (λ xs. has xs p ≡ true) (sym (known.pending_is lt)) (has_without order _ p here may.fresh)
@@ -165,21 +165,21 @@ module _ (ops : List RegOp) (arrivals : List ℕ) (stages : List Stage) (history
   }
 
   -- a stage whose place is not pending is passed
-  pub is_placed : EndAfterInvoked ops → (order : List ℕ) (stage : ℕ) (pending : List ℕ) → IsAt arrivals stages order stage pending → (lt : stage < length stages) → has pending (stage_at stages stage).place ≡ false → has order (stage_at stages stage).place ≡ true
+  pub is_placed : EndAfterInvoked ops → (order : List ℕ) (stage : ℕ) (pending : List ℕ) → IsAt arrivals stages order stage pending → (lt : stage < length stages) → has pending (stage_at stages stage).number ≡ false → has order (stage_at stages stage).number ≡ true
   is_placed ends order stage pending known lt h =
-      let p : ℕ = (stage_at stages stage).place in
+      let p : ℕ = (stage_at stages stage).number in
       let here : has (arrivals_by arrivals stages stage) p ≡ true = history.enough stage p lt (history.are_done stage lt) (not_before_itself ops ends p) in
       true_if _ (λ no. not_true _ (subst (λ xs. has xs p ≡ true) (sym (known.pending_is lt)) (has_without order _ p here no)) h)
 
   -- the next stage, which is the last or brings what is coming
-  pub at_next : (order : List ℕ) (stage : ℕ) (pending next : List ℕ) → IsAt arrivals stages order stage pending → stage < length stages → has order (stage_at stages stage).place ≡ true → (stage + 1 < length stages → next ≡ pending ++ arrivals_after arrivals stages stage) → IsAt arrivals stages order (stage + 1) next
+  pub at_next : (order : List ℕ) (stage : ℕ) (pending next : List ℕ) → IsAt arrivals stages order stage pending → stage < length stages → has order (stage_at stages stage).number ≡ true → (stage + 1 < length stages → next ≡ pending ++ arrivals_after arrivals stages stage) → IsAt arrivals stages order (stage + 1) next
   at_next order stage pending next known lt here more =
       let now : List ℕ = arrivals_by arrivals stages stage in
       let coming : List ℕ = arrivals_after arrivals stages stage in
       record {
-        passed = λ k below. elim (cases_lt k stage) as (λ _. has order (stage_at stages k).place ≡ true) [
+        passed = λ k below. elim (cases_lt k stage) as (λ _. has order (stage_at stages k).number ≡ true) [
           | inl before ↦ known.passed k before
-          | inr after ↦ let same : stage ≡ k = omega arith in subst (λ n. has order (stage_at stages n).place ≡ true) same here
+          | inr after ↦ let same : stage ≡ k = omega arith in subst (λ n. has order (stage_at stages n).number ≡ true) same here
         ];
         pending_is = λ room.
             let whole = taken_on arrivals (stage_at stages stage).arrived (stage_at stages (stage + 1)).arrived (history.rises stage room) in

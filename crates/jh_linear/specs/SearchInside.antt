@@ -94,7 +94,7 @@ end_at ops place = op_end (op_at ops place)
 
 -- what stands past the end of a list of stages
 abbrev pub no_stage : Stage
-no_stage = record { place = 0; arrived = 0 }
+no_stage = record { number = 0; arrived = 0 }
 
 abbrev pub stage_at : List Stage → ℕ → Stage
 stage_at stages k = slice_index_or stages k no_stage
@@ -113,17 +113,17 @@ pub record IsHistory (ops : List RegOp) (arrivals : List ℕ) (stages : List Sta
   pub rises : (k : ℕ) → k + 1 < length stages
       → (stage_at stages k).arrived ≤ (stage_at stages (k + 1)).arrived
   pub each_done : (place : ℕ) → IsDone ops place → (k : ℕ) × (k < length stages)
-      × ((stage_at stages k).place ≡ place)
-  pub are_done : (k : ℕ) → k < length stages → IsDone ops (stage_at stages k).place
+      × ((stage_at stages k).number ≡ place)
+  pub are_done : (k : ℕ) → k < length stages → IsDone ops (stage_at stages k).number
   pub ends_rise : (j k : ℕ) → j ≤ k → k < length stages
-      → end_at ops (stage_at stages j).place ≤ end_at ops (stage_at stages k).place
+      → end_at ops (stage_at stages j).number ≤ end_at ops (stage_at stages k).number
   pub needs : (k first second : ℕ) → k < length stages
-      → invocation_at ops second ≤ end_at ops (stage_at stages k).place → Precedes ops first second
-      → (j : ℕ) × (j < k) × ((stage_at stages j).place ≡ first)
+      → invocation_at ops second ≤ end_at ops (stage_at stages k).number → Precedes ops first second
+      → (j : ℕ) × (j < k) × ((stage_at stages j).number ≡ first)
   pub in_time : (k place : ℕ) → k < length stages → has (arrivals_by arrivals stages k) place ≡ true
-      → invocation_at ops place ≤ end_at ops (stage_at stages k).place
+      → invocation_at ops place ≤ end_at ops (stage_at stages k).number
   pub enough : (k place : ℕ) → k < length stages → IsDone ops place
-      → (Precedes ops (stage_at stages k).place place → ⊥)
+      → (Precedes ops (stage_at stages k).number place → ⊥)
       → has (arrivals_by arrivals stages k) place ≡ true
 
 -- an operation of unknown outcome as an entry, sorted by its call and then by its invocation
@@ -183,7 +183,7 @@ stages_in problem = length problem.history.stages.items
 
 -- the operation of a stage
 abbrev pub stage_place : Problem → ℕ → ℕ
-stage_place problem k = (stage_at problem.history.stages.items k).place
+stage_place problem k = (stage_at problem.history.stages.items k).number
 
 -- ---- configurations
 
@@ -195,7 +195,7 @@ places_without order places = filter (λ place. not (has order place)) places
 -- have happened, were invoked before the end of the stage, and do not stand in the order.
 pub record IsAt (arrivals : List ℕ) (stages : List Stage) (order : List ℕ) (stage : ℕ)
     (pending : List ℕ) : Type 0 where
-  pub passed : (k : ℕ) → k < stage → has order (stage_at stages k).place ≡ true
+  pub passed : (k : ℕ) → k < stage → has order (stage_at stages k).number ≡ true
   pub pending_is : stage < length stages
       → pending ≡ places_without order (arrivals_by arrivals stages stage)
   pub arrived : stage < length stages → (place : ℕ) → has order place ≡ true
@@ -683,8 +683,8 @@ no_entry = (0, 0)
 -- There is a stage for each end, with the number of the invocations that are not after it.
 pub record AreStages (invocations ends : List (ℕ × ℕ)) (stages : List Stage) : Type 0 where
   pub sizes : length stages ≡ length ends
-  pub place : (k : ℕ) → k < length stages
-      → (stage_at stages k).place ≡ (slice_index_or ends k no_entry).1
+  pub number : (k : ℕ) → k < length stages
+      → (stage_at stages k).number ≡ (slice_index_or ends k no_entry).1
   pub bounded : (k : ℕ) → k < length stages → (stage_at stages k).arrived ≤ length invocations
   pub below : (k i : ℕ) → k < length stages → i < (stage_at stages k).arrived
       → (slice_index_or invocations i no_entry).0 ≤ (slice_index_or ends k no_entry).0

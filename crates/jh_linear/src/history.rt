@@ -22,7 +22,7 @@ use std::alloc::{AllocError, Global};
 #[derive(Clone, Copy, Debug)]
 pub(crate) struct Stage {
     /// The number of its operation, which ended first of those that no earlier stage has.
-    pub(crate) place: usize,
+    pub(crate) number: usize,
     /// How many of the operations that are known to have happened were invoked before that one
     /// ended.
     pub(crate) arrived: usize,
@@ -149,28 +149,28 @@ fn classes_of(alloc: Global, entries: &[(RegCall, usize, usize)]) -> Result<Vec<
 }
 
 /// The numbers of the operations in pairs, which are the second of each.
-fn places_of(alloc: Global, pairs: &[(usize, usize)]) -> Result<Vec<usize>, AllocError>
-    ensures { IfOk result (λ places. places.items ≡ map (λ x. x.1) pairs.now) }
+fn numbers_of(alloc: Global, pairs: &[(usize, usize)]) -> Result<Vec<usize>, AllocError>
+    ensures { IfOk result (λ numbers. numbers.items ≡ map (λ x. x.1) pairs.now) }
 {
-    let mut places = Vec::with_capacity(alloc, pairs.len())?;
+    let mut numbers = Vec::with_capacity(alloc, pairs.len())?;
     for pair in pairs {
-        places.push(pair.1)?;
+        numbers.push(pair.1)?;
     }
-    Ok(places)
+    Ok(numbers)
 }
 
 /// The numbers of the operations in entries, which are the last of each.
-fn unknown_places(
+fn unsure_numbers(
     alloc: Global,
     entries: &[(RegCall, usize, usize)],
 ) -> Result<Vec<usize>, AllocError>
-    ensures { IfOk result (λ places. places.items ≡ map (λ x. x.2) entries.now) }
+    ensures { IfOk result (λ numbers. numbers.items ≡ map (λ x. x.2) entries.now) }
 {
-    let mut places = Vec::with_capacity(alloc, entries.len())?;
+    let mut numbers = Vec::with_capacity(alloc, entries.len())?;
     for entry in entries {
-        places.push(entry.2)?;
+        numbers.push(entry.2)?;
     }
-    Ok(places)
+    Ok(numbers)
 }
 
 /// How many of the invocations are not after an end. The search for it begins at a number of which
@@ -204,7 +204,7 @@ fn stages_of(
     'ending: for pair in ends {
         arrived = arrived_by(invocations, pair.0, arrived);
         stages.push(Stage {
-            place: pair.1,
+            number: pair.1,
             arrived,
         })?;
     }
@@ -221,9 +221,9 @@ pub(crate) fn sorted_history(alloc: Global, ops: &[RegOp]) -> Result<Sorted, All
     let invocations = arrivals_of(alloc, ops)?;
     let ends = ends_of(alloc, ops)?;
     let entries = unknown_of(alloc, ops)?;
-    let arrivals = places_of(alloc, invocations.as_slice())?;
+    let arrivals = numbers_of(alloc, invocations.as_slice())?;
     let stages = stages_of(alloc, invocations.as_slice(), ends.as_slice())?;
-    let unsure_changes = unknown_places(alloc, entries.as_slice())?;
+    let unsure_changes = unsure_numbers(alloc, entries.as_slice())?;
     let classes = classes_of(alloc, entries.as_slice())?;
     Ok(Sorted {
         arrivals,

@@ -62,7 +62,7 @@ fn at_or_zero(places: &[usize], index: usize) -> usize
 }
 
 /// The number of the operation that a move places.
-pub(crate) fn place_of(problem: &Problem, config: &Config, source: Source) -> usize
+pub(crate) fn number_of(problem: &Problem, config: &Config, source: Source) -> usize
     ensures { result ≡ rule.source_place problem.now config.now source }
 {
     match source {
@@ -78,7 +78,7 @@ pub(crate) fn place_of(problem: &Problem, config: &Config, source: Source) -> us
 pub(crate) fn op_of(problem: &Problem, config: &Config, source: Source) -> RegOp
     ensures { result ≡ rule.op_of problem.now config.now source }
 {
-    op_at(problem.ops, place_of(problem, config, source))
+    op_at(problem.ops, number_of(problem, config, source))
 }
 
 /// Whether an operation was invoked before another one ended.
@@ -103,7 +103,7 @@ pub(crate) fn is_ready(problem: &Problem, config: &Config, class: usize) -> bool
 {
     let next = at_or_zero(config.next.as_slice(), class);
     let upto = class_at(problem.history.classes.as_slice(), class).upto;
-    let last = op_at(problem.ops, problem.history.stages[config.stage].place);
+    let last = op_at(problem.ops, problem.history.stages[config.stage].number);
     next < upto && is_in_time(op_of(problem, config, Source::Unknown(class)), last)
 }
 

@@ -96,7 +96,7 @@ pub(crate) fn stuck_of(
     let furthest = &search.furthest;
     let mut order = order_of(alloc, search.steps.as_slice(), furthest.step.parent)?;
     order.extend_from_slice(furthest.step.placed.as_slice())?;
-    let end = op_end(op_at(problem.ops, problem.history.stages[furthest.stage].place));
+    let end = op_end(op_at(problem.ops, problem.history.stages[furthest.stage].number));
     order.truncate(known_until(problem.ops, order.as_slice(), end));
     let value = value_after(problem.ops, problem.initial, order.as_slice());
     Ok(Stuck {

@@ -7,7 +7,7 @@ ghost use Rattle.jh_linear.specs.SearchInside.{EndsAs, HasGone, IsMadeBy, IsMove
 
 use crate::config::{Config, place};
 use crate::history::Problem;
-use crate::moves::{Move, find_moves, place_of};
+use crate::moves::{Move, find_moves, number_of};
 use std::alloc::{AllocError, Global};
 
 /// How a walk ended.
@@ -34,7 +34,7 @@ pub(crate) fn make(
     ensures { OnOk result
         (IsMadeBy problem.now config.old placed.old.items next_move config.new placed.new.items) }
 {
-    placed.push(place_of(problem, config, next_move.source))?;
+    placed.push(number_of(problem, config, next_move.source))?;
     place(problem, config, next_move)
 }
 
