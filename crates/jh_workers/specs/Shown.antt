@@ -3,7 +3,7 @@ use Rattle.std.specs.Prelude.{List}
 use Rattle.jh_simnode.specs.declared.events.Event.{Event}
 use Rattle.jh_simnode.specs.Events.{Setup, IsLegal}
 
--- a journal that is legal for the nodes, starting cells and settings of some world, which are those
+-- a journal that is legal for the nodes, starting cells and database of some world, which are those
 -- that are stored with it
 abbrev pub IsJournal : List Event → Type 0
 IsJournal journal = (setup : Setup) × IsLegal setup journal

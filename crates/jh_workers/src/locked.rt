@@ -48,7 +48,7 @@ fn count_one<L: Ledger>(book: &mut Book<L>, mine: &mut WorldShare<L>)
     ensures counted { mine.new.count ≡ mine.old.count + 1 }
 {
     let WorldShare { count, part } = mine;
-    // A share is at most the book's total, so there is room for one more.
+    // A part is at most the book's total, so there is room for one more.
     book.audit(part);
     book.add(part, 1);
     *count += 1;
@@ -183,7 +183,7 @@ impl<L: Ledger> Counted<L> {
         if back != PARTS {
             return None;
         }
-        // The share that has all parts of the ledger has the book's total.
+        // All parts in one have the book's total.
         book.audit(&mut all);
         Some(world)
     }
@@ -197,7 +197,7 @@ impl<L: Ledger> Counted<L> {
     }
 }
 
-/// All these shares in one.
+/// The rest and the parts of all these shares in one.
 fn merged<L: Ledger>(rest: Share<L>, shares: Vec<WorldShare<L>>) -> Share<L>
     ensures parts { result.parts ≡ rest.parts + length shares.items }
     ensures few { 0 < length shares.items → result.parts ≤ L.parts }
