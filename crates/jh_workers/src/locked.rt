@@ -222,7 +222,7 @@ fn copy_of(alloc: Global, events: &[Event]) -> Result<Vec<Event>, AllocError>
     Ok(copy)
 }
 
-/// A world behind a lock. Whenever the lock is free, the world's journal is legal for its settings,
+/// A world behind a lock. Whenever the lock is free, the world's journal is legal for its database,
 /// and as long as all shares together have counted.
 #[derive(Drop)]
 pub struct LockedWorld<L: Ledger> {
