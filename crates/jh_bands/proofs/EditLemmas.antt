@@ -5,7 +5,7 @@ use Rattle.std.proofs.lemmas.List.{take-append-drop}
 use Rattle.std.proofs.lemmas.List.Edits.{length-insert, length-remove, get_or-insert_at}
 use Rattle.jh_edn.specs.Edn.{Edn}
 use Rattle.jh_bands.specs.Bands.{new_faults}
-use Rattle.jh_bands.specs.BandsInside.{AddChanges, AllowsEdit, ChangeValue, IsNewAt, IsOnlyAt, TakesBack, changes_at, changes_with, edited, view_changes, view_fault, view_faults}
+use Rattle.jh_bands.specs.BandsInside.{AddChanges, AllowsEdit, ChangeValue, IsNewAt, IsOnlyAt, TakesBack, changes_at, changes_with, edited, view_changes, view_begun, view_all_begun}
 use Rattle.jh_bands.specs.declared.edit.Change.{Change}
 use Rattle.jh_bands.specs.declared.edit.Edit.{Edit}
 use Rattle.jh_bands.specs.declared.edit.Edit.TheVariants.{Insert, Remove, Fill, Clear}
@@ -84,47 +84,47 @@ new_removed a place d only = record { within = omega (arith, length-remove a pla
 
 -- ---- what is seen of faults
 
-pub views_insert : (xs : List Fault) (place : ℕ) (f : Fault) → view_faults (insert xs place f) ≡ insert (view_faults xs) place (view_fault f)
+pub views_insert : (xs : List Fault) (place : ℕ) (f : Fault) → view_all_begun (insert xs place f) ≡ insert (view_all_begun xs) place (view_begun f)
 views_insert xs zero f = refl
 views_insert [] (suc place) f = refl
-views_insert (x ∷ xs) (suc place) f = ap (λ ws. view_fault x ∷ ws) (views_insert xs place f)
+views_insert (x ∷ xs) (suc place) f = ap (λ ws. view_begun x ∷ ws) (views_insert xs place f)
 
-pub views_remove : (xs : List Fault) (place : ℕ) → view_faults (remove xs place) ≡ remove (view_faults xs) place
+pub views_remove : (xs : List Fault) (place : ℕ) → view_all_begun (remove xs place) ≡ remove (view_all_begun xs) place
 views_remove [] zero = refl
 views_remove (x ∷ xs) zero = refl
 views_remove [] (suc place) = refl
-views_remove (x ∷ xs) (suc place) = ap (λ ws. view_fault x ∷ ws) (views_remove xs place)
+views_remove (x ∷ xs) (suc place) = ap (λ ws. view_begun x ∷ ws) (views_remove xs place)
 
-pub view_at : (xs : List Fault) (place : ℕ) (d : Fault) → view_fault (get_or xs place d) ≡ get_or (view_faults xs) place (view_fault d)
+pub view_at : (xs : List Fault) (place : ℕ) (d : Fault) → view_begun (get_or xs place d) ≡ get_or (view_all_begun xs) place (view_begun d)
 view_at [] zero d = refl
 view_at [] (suc place) d = refl
 view_at (x ∷ xs) zero d = refl
 view_at (x ∷ xs) (suc place) d = view_at xs place d
 
-pub length_views : (xs : List Fault) → length (view_faults xs) ≡ length xs
+pub length_views : (xs : List Fault) → length (view_all_begun xs) ≡ length xs
 length_views [] = refl
 length_views (x ∷ xs) = ap suc (length_views xs)
 
 -- ---- the changes of an edit
 
 pub changed_by_insert : (edit : Edit) (index place : ℕ) (f : Fault) (a : ActiveList) → edit ≡ Insert place f → AllowsEdit edit a
-    → changes_with index true (view_faults (f ∷ [])) ≡ changes_at index a (edited edit a)
+    → changes_with index true (view_all_begun (f ∷ [])) ≡ changes_at index a (edited edit a)
 changed_by_insert edit index place f a is allows =
-    let allowed : IsNewAt place (view_fault f) a = subst (λ e. AllowsEdit e a) is allows in
-    sym (inserted index place (view_fault f) a allowed) ∙ ap (λ e. changes_at index a (edited e a)) (sym is)
+    let allowed : IsNewAt place (view_begun f) a = subst (λ e. AllowsEdit e a) is allows in
+    sym (inserted index place (view_begun f) a allowed) ∙ ap (λ e. changes_at index a (edited e a)) (sym is)
 
-pub changed_by_remove : (edit : Edit) (index place : ℕ) (xs : List Fault) (f : Fault) → edit ≡ Remove place → AllowsEdit edit (view_faults xs) → f ≡ get_or xs place f
-    → changes_with index false (view_faults (f ∷ [])) ≡ changes_at index (view_faults xs) (edited edit (view_faults xs))
+pub changed_by_remove : (edit : Edit) (index place : ℕ) (xs : List Fault) (f : Fault) → edit ≡ Remove place → AllowsEdit edit (view_all_begun xs) → f ≡ get_or xs place f
+    → changes_with index false (view_all_begun (f ∷ [])) ≡ changes_at index (view_all_begun xs) (edited edit (view_all_begun xs))
 changed_by_remove edit index place xs f is allows same =
-    let allowed : IsOnlyAt place (view_faults xs) = subst (λ e. AllowsEdit e (view_faults xs)) is allows in
-    ap (λ fault. change index false fault ∷ []) (ap view_fault same ∙ view_at xs place f)
-    ∙ sym (removed index place (view_faults xs) (view_fault f) allowed) ∙ ap (λ e. changes_at index (view_faults xs) (edited e (view_faults xs))) (sym is)
+    let allowed : IsOnlyAt place (view_all_begun xs) = subst (λ e. AllowsEdit e (view_all_begun xs)) is allows in
+    ap (λ fault. change index false fault ∷ []) (ap view_begun same ∙ view_at xs place f)
+    ∙ sym (removed index place (view_all_begun xs) (view_begun f) allowed) ∙ ap (λ e. changes_at index (view_all_begun xs) (edited e (view_all_begun xs))) (sym is)
 
 pub changed_by_fill : (edit : Edit) (index : ℕ) (faults : Vec Fault Global) (a : ActiveList) → edit ≡ Fill faults → AllowsEdit edit a
-    → changes_with index true (view_faults faults.items) ≡ changes_at index a (edited edit a)
+    → changes_with index true (view_all_begun faults.items) ≡ changes_at index a (edited edit a)
 changed_by_fill edit index faults a is allows =
     let none : a ≡ [] = subst (λ e. AllowsEdit e a) is allows in
-    sym (filled index a (view_faults faults.items) none) ∙ ap (λ e. changes_at index a (edited e a)) (sym is)
+    sym (filled index a (view_all_begun faults.items) none) ∙ ap (λ e. changes_at index a (edited e a)) (sym is)
 
 pub changed_by_clear : (edit : Edit) (index : ℕ) (a : ActiveList) → edit ≡ Clear → changes_with index false a ≡ changes_at index a (edited edit a)
 changed_by_clear edit index a is =
@@ -136,35 +136,35 @@ adds_same (Err v) all found more same e h = tt
 
 -- ---- edits that are made
 
-pub inserted_views : (edit : Edit) (place : ℕ) (f : Fault) (xs ys : List Fault) → edit ≡ Insert place f → ys ≡ insert xs place f → view_faults ys ≡ edited edit (view_faults xs)
-inserted_views edit place f xs ys is made = ap view_faults made ∙ views_insert xs place f ∙ ap (λ e. edited e (view_faults xs)) (sym is)
+pub inserted_views : (edit : Edit) (place : ℕ) (f : Fault) (xs ys : List Fault) → edit ≡ Insert place f → ys ≡ insert xs place f → view_all_begun ys ≡ edited edit (view_all_begun xs)
+inserted_views edit place f xs ys is made = ap view_all_begun made ∙ views_insert xs place f ∙ ap (λ e. edited e (view_all_begun xs)) (sym is)
 
-pub insert_back : (edit : Edit) (place : ℕ) (f : Fault) (xs ys : List Fault) → edit ≡ Insert place f → AllowsEdit edit (view_faults xs) → ys ≡ insert xs place f
-    → TakesBack (Remove place) (view_faults ys) (view_faults xs)
+pub insert_back : (edit : Edit) (place : ℕ) (f : Fault) (xs ys : List Fault) → edit ≡ Insert place f → AllowsEdit edit (view_all_begun xs) → ys ≡ insert xs place f
+    → TakesBack (Remove place) (view_all_begun ys) (view_all_begun xs)
 insert_back edit place f xs ys is allows made =
-    let new : IsNewAt place (view_fault f) (view_faults xs) = subst (λ e. AllowsEdit e (view_faults xs)) is allows in
-    let seen : view_faults ys ≡ insert (view_faults xs) place (view_fault f) = ap view_faults made ∙ views_insert xs place f in
+    let new : IsNewAt place (view_begun f) (view_all_begun xs) = subst (λ e. AllowsEdit e (view_all_begun xs)) is allows in
+    let seen : view_all_begun ys ≡ insert (view_all_begun xs) place (view_begun f) = ap view_all_begun made ∙ views_insert xs place f in
     record {
-      fits = subst (IsOnlyAt place) (sym seen) (only_inserted (view_faults xs) place (view_fault f) new);
-      edited = ap (λ a. remove a place) seen ∙ remove_inserted (view_faults xs) place (view_fault f) new.within;
+      fits = subst (IsOnlyAt place) (sym seen) (only_inserted (view_all_begun xs) place (view_begun f) new);
+      edited = ap (λ a. remove a place) seen ∙ remove_inserted (view_all_begun xs) place (view_begun f) new.within;
     }
 
-pub removed_views : (edit : Edit) (place : ℕ) (xs ys : List Fault) → edit ≡ Remove place → ys ≡ remove xs place → view_faults ys ≡ edited edit (view_faults xs)
-removed_views edit place xs ys is made = ap view_faults made ∙ views_remove xs place ∙ ap (λ e. edited e (view_faults xs)) (sym is)
+pub removed_views : (edit : Edit) (place : ℕ) (xs ys : List Fault) → edit ≡ Remove place → ys ≡ remove xs place → view_all_begun ys ≡ edited edit (view_all_begun xs)
+removed_views edit place xs ys is made = ap view_all_begun made ∙ views_remove xs place ∙ ap (λ e. edited e (view_all_begun xs)) (sym is)
 
-pub remove_back : (edit : Edit) (place : ℕ) (f : Fault) (xs ys : List Fault) → edit ≡ Remove place → AllowsEdit edit (view_faults xs) → ys ≡ remove xs place → f ≡ get_or xs place f
-    → TakesBack (Insert place f) (view_faults ys) (view_faults xs)
+pub remove_back : (edit : Edit) (place : ℕ) (f : Fault) (xs ys : List Fault) → edit ≡ Remove place → AllowsEdit edit (view_all_begun xs) → ys ≡ remove xs place → f ≡ get_or xs place f
+    → TakesBack (Insert place f) (view_all_begun ys) (view_all_begun xs)
 remove_back edit place f xs ys is allows made same =
-    let only : IsOnlyAt place (view_faults xs) = subst (λ e. AllowsEdit e (view_faults xs)) is allows in
-    let seen : view_faults ys ≡ remove (view_faults xs) place = ap view_faults made ∙ views_remove xs place in
-    let fault : view_fault f ≡ get_or (view_faults xs) place (view_fault f) = ap view_fault same ∙ view_at xs place f in
+    let only : IsOnlyAt place (view_all_begun xs) = subst (λ e. AllowsEdit e (view_all_begun xs)) is allows in
+    let seen : view_all_begun ys ≡ remove (view_all_begun xs) place = ap view_all_begun made ∙ views_remove xs place in
+    let fault : view_begun f ≡ get_or (view_all_begun xs) place (view_begun f) = ap view_begun same ∙ view_at xs place f in
     record {
       fits =
-          subst (λ a. IsNewAt place (view_fault f) a) (sym seen)
-          (subst (λ g. IsNewAt place g (remove (view_faults xs) place)) (sym fault) (new_removed (view_faults xs) place (view_fault f) only));
+          subst (λ a. IsNewAt place (view_begun f) a) (sym seen)
+          (subst (λ g. IsNewAt place g (remove (view_all_begun xs) place)) (sym fault) (new_removed (view_all_begun xs) place (view_begun f) only));
       edited =
-          ap (λ a. insert a place (view_fault f)) seen ∙ ap (λ g. insert (remove (view_faults xs) place) place g) fault
-          ∙ insert_removed (view_faults xs) place (view_fault f) only.within;
+          ap (λ a. insert a place (view_begun f)) seen ∙ ap (λ g. insert (remove (view_all_begun xs) place) place g) fault
+          ∙ insert_removed (view_all_begun xs) place (view_begun f) only.within;
     }
 
 -- a list that stays as it is

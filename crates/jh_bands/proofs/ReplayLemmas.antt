@@ -9,7 +9,7 @@ use Rattle.std.proofs.lemmas.Iterator.Adapters.{position_from-zero}
 use Rattle.jh_edn.specs.Edn.{Edn, is_empty}
 use Rattle.jh_ops.specs.Operation.{Operation, is_client}
 use Rattle.jh_bands.specs.Bands.{MomentValue, active_lists, asked_in, done_step, moment_behind}
-use Rattle.jh_bands.specs.BandsInside.{AllHaveOwnIds, HaveOwnIds, HasOwnIds, IsNewAt, IsOnlyAt, view_fault, view_faults, view_step}
+use Rattle.jh_bands.specs.BandsInside.{AllHaveOwnIds, HaveOwnIds, HasOwnIds, IsNewAt, IsOnlyAt, view_begun, view_all_begun, view_step}
 use Rattle.jh_bands.specs.Replay.{ActiveList, ReplayValue, StepValue, begin, withdraw, withdraw_all, undo, redo, list_without, is_under, is_id_active, next_active, next_replay, replay_after, replay_back_to, replay_forth_to}
 use Rattle.jh_bands.specs.declared.step.Fault.{Fault}
 use Rattle.jh_bands.specs.declared.step.Step.{Step}
@@ -18,12 +18,12 @@ use Rattle.jh_bands.proofs.EditLemmas.{length_views}
 
 -- ---- places
 
-none_from : (id : ℤ) (i : ℕ) (xs : List Fault) → position_from (λ fault. int_eq fault.id id) i xs ≡ None → is_id_active id (view_faults xs) ≡ false
+none_from : (id : ℤ) (i : ℕ) (xs : List Fault) → position_from (λ fault. int_eq fault.id id) i xs ≡ None → is_id_active id (view_all_begun xs) ≡ false
 none_from id i [] e = refl
 none_from id i (x ∷ xs) e = decided (int_eq x.id id) (position_from (λ fault. int_eq fault.id id) (i + 1) xs) e (none_from id (i + 1) xs)
   where
-    decided : (b : Bool) (found : Option ℕ) → cond b (Some i) found ≡ None → (found ≡ None → is_id_active id (view_faults xs) ≡ false)
-        → (b || is_id_active id (view_faults xs)) ≡ false
+    decided : (b : Bool) (found : Option ℕ) → cond b (Some i) found ≡ None → (found ≡ None → is_id_active id (view_all_begun xs) ≡ false)
+        → (b || is_id_active id (view_all_begun xs)) ≡ false
     decided true found e rest = absurd (cc)
     decided false found e rest = rest e
 
@@ -33,25 +33,25 @@ pub record IsFound (id : ℤ) (place : ℕ) (active : ActiveList) : Type 0 where
   pub same : (d : ℤ × Edn) → int_eq (get_or active place d).0 id ≡ true
 
 found_from : (id : ℤ) (i place : ℕ) (xs : List Fault) → position_from (λ fault. int_eq fault.id id) i xs ≡ Some place
-    → (k : ℕ) × (place ≡ i + k) × IsFound id k (view_faults xs)
+    → (k : ℕ) × (place ≡ i + k) × IsFound id k (view_all_begun xs)
 found_from id i place [] e = absurd (cc)
 found_from id i place (x ∷ xs) e =
     decided (int_eq x.id id) (position_from (λ fault. int_eq fault.id id) (i + 1) xs) refl e (found_from id (i + 1) place xs)
   where
     decided : (b : Bool) (found : Option ℕ) → int_eq x.id id ≡ b → cond b (Some i) found ≡ Some place
-        → (found ≡ Some place → (k : ℕ) × (place ≡ i + 1 + k) × IsFound id k (view_faults xs)) → (k : ℕ) × (place ≡ i + k) × IsFound id k (view_faults (x ∷ xs))
+        → (found ≡ Some place → (k : ℕ) × (place ≡ i + 1 + k) × IsFound id k (view_all_begun xs)) → (k : ℕ) × (place ≡ i + k) × IsFound id k (view_all_begun (x ∷ xs))
     decided true found alike e rest = let here : i ≡ place = cc in (0, omega arith, record { within = omega arith; same = λ d. alike })
     decided false found unlike e rest =
         let more = rest e in (suc more.0, omega (arith, more.1), record { within = omega (arith, more.2.within); same = more.2.same })
 
-not_found : (id : ℤ) (xs : List Fault) → position (λ fault. int_eq fault.id id) xs ≡ None → is_id_active id (view_faults xs) ≡ false
+not_found : (id : ℤ) (xs : List Fault) → position (λ fault. int_eq fault.id id) xs ≡ None → is_id_active id (view_all_begun xs) ≡ false
 not_found id xs e = none_from id 0 xs (sym (position_from-zero (λ fault. int_eq fault.id id) xs) ∙ e)
 
-found_at : (id : ℤ) (place : ℕ) (xs : List Fault) → position (λ fault. int_eq fault.id id) xs ≡ Some place → IsFound id place (view_faults xs)
+found_at : (id : ℤ) (place : ℕ) (xs : List Fault) → position (λ fault. int_eq fault.id id) xs ≡ Some place → IsFound id place (view_all_begun xs)
 found_at id place xs e =
     let found = found_from id 0 place xs (sym (position_from-zero (λ fault. int_eq fault.id id) xs) ∙ e) in
     let same : found.0 ≡ place = omega (arith, found.1) in
-    subst (λ k. IsFound id k (view_faults xs)) same found.2
+    subst (λ k. IsFound id k (view_all_begun xs)) same found.2
 
 found_active : (id : ℤ) (place : ℕ) (active : ActiveList) (d : ℤ × Edn) → IsFound id place active → is_id_active id active ≡ true
 found_active id place active d found =
@@ -60,23 +60,23 @@ found_active id place active d found =
 -- ---- the edits of steps
 
 pub begun_already : (fault : Fault) (place : ℕ) (xs : List Fault) → position (λ other. int_eq other.id fault.id) xs ≡ Some place
-    → None ≡ next_active (view_faults xs) (begin fault.id (view_fault fault).1)
+    → None ≡ next_active (view_all_begun xs) (begin fault.id (view_begun fault).1)
 begun_already fault place xs e =
-    ap (λ b. cond b None (Some (view_faults xs ++ view_fault fault ∷ []))) (sym (found_active fault.id place (view_faults xs) (view_fault fault) (found_at fault.id place xs e)))
+    ap (λ b. cond b None (Some (view_all_begun xs ++ view_begun fault ∷ []))) (sym (found_active fault.id place (view_all_begun xs) (view_begun fault) (found_at fault.id place xs e)))
 
 pub begun_last : (fault : Fault) (place : ℕ) (xs : List Fault) → place ≡ length xs → position (λ other. int_eq other.id fault.id) xs ≡ None
-    → Some (insert (view_faults xs) place (view_fault fault)) ≡ next_active (view_faults xs) (begin fault.id (view_fault fault).1)
+    → Some (insert (view_all_begun xs) place (view_begun fault)) ≡ next_active (view_all_begun xs) (begin fault.id (view_begun fault).1)
 begun_last fault place xs last e =
-    ap (λ p. Some (insert (view_faults xs) p (view_fault fault))) (last ∙ sym (length_views xs)) ∙ ap (λ a. Some a) (insert_end (view_faults xs) (view_fault fault))
-    ∙ ap (λ b. cond b None (Some (view_faults xs ++ view_fault fault ∷ []))) (sym (not_found fault.id xs e))
+    ap (λ p. Some (insert (view_all_begun xs) p (view_begun fault))) (last ∙ sym (length_views xs)) ∙ ap (λ a. Some a) (insert_end (view_all_begun xs) (view_begun fault))
+    ∙ ap (λ b. cond b None (Some (view_all_begun xs ++ view_begun fault ∷ []))) (sym (not_found fault.id xs e))
 
 pub new_last : (fault : Fault) (place : ℕ) (xs : List Fault) → place ≡ length xs → position (λ other. int_eq other.id fault.id) xs ≡ None
-    → IsNewAt place (view_fault fault) (view_faults xs)
+    → IsNewAt place (view_begun fault) (view_all_begun xs)
 new_last fault place xs last e = record { within = omega (arith, length_views xs, last); new = not_found fault.id xs e }
 
-pub withdrawn_at : (id : ℤ) (place : ℕ) (xs : List Fault) → HaveOwnIds (view_faults xs) → position (λ fault. int_eq fault.id id) xs ≡ Some place
-    → Some (remove (view_faults xs) place) ≡ next_active (view_faults xs) (withdraw id)
-withdrawn_at id place xs distinct e = at (view_faults xs) distinct (found_at id place xs e)
+pub withdrawn_at : (id : ℤ) (place : ℕ) (xs : List Fault) → HaveOwnIds (view_all_begun xs) → position (λ fault. int_eq fault.id id) xs ≡ Some place
+    → Some (remove (view_all_begun xs) place) ≡ next_active (view_all_begun xs) (withdraw id)
+withdrawn_at id place xs distinct e = at (view_all_begun xs) distinct (found_at id place xs e)
   where
     at : (active : ActiveList) → HaveOwnIds active → IsFound id place active → Some (remove active place) ≡ next_active active (withdraw id)
     at [] distinct found = absurd (omega (arith, found.within))
@@ -84,14 +84,14 @@ withdrawn_at id place xs distinct e = at (view_faults xs) distinct (found_at id 
         ap (λ left. Some left) (sym (withdrawn (f ∷ fs) place f id distinct found.within (found.same f)))
         ∙ ap (λ b. cond b (Some (list_without id (f ∷ fs))) None) (sym (found_active id place (f ∷ fs) f found))
 
-pub only_found : (id : ℤ) (place : ℕ) (xs : List Fault) → HaveOwnIds (view_faults xs) → position (λ fault. int_eq fault.id id) xs ≡ Some place
-    → IsOnlyAt place (view_faults xs)
+pub only_found : (id : ℤ) (place : ℕ) (xs : List Fault) → HaveOwnIds (view_all_begun xs) → position (λ fault. int_eq fault.id id) xs ≡ Some place
+    → IsOnlyAt place (view_all_begun xs)
 only_found id place xs distinct e =
     let found = found_at id place xs e in
-    record { within = found.within; only = λ d. only_at (view_faults xs) place d distinct found.within }
+    record { within = found.within; only = λ d. only_at (view_all_begun xs) place d distinct found.within }
 
-pub not_withdrawn : (id : ℤ) (xs : List Fault) → position (λ fault. int_eq fault.id id) xs ≡ None → None ≡ next_active (view_faults xs) (withdraw id)
-not_withdrawn id xs e = ap (λ b. cond b (Some (list_without id (view_faults xs))) None) (sym (not_found id xs e))
+pub not_withdrawn : (id : ℤ) (xs : List Fault) → position (λ fault. int_eq fault.id id) xs ≡ None → None ≡ next_active (view_all_begun xs) (withdraw id)
+not_withdrawn id xs e = ap (λ b. cond b (Some (list_without id (view_all_begun xs))) None) (sym (not_found id xs e))
 
 -- ---- no two of one id
 

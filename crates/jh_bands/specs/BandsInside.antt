@@ -23,11 +23,11 @@ use Rattle.jh_bands.specs.declared.replay.Replay.{Replay}
 
 -- ---- what a contract sees of faults and steps
 
-abbrev pub view_fault : Fault → ℤ × Edn
-view_fault fault = (fault.id, view fault.value.now)
+abbrev pub view_begun : Fault → ℤ × Edn
+view_begun fault = (fault.id, view fault.value.now)
 
-abbrev pub view_faults : List Fault → ActiveList
-view_faults faults = map view_fault faults
+abbrev pub view_all_begun : List Fault → ActiveList
+view_all_begun faults = map view_begun faults
 
 abbrev pub view_step : Step → StepValue
 view_step (Step.Begin fault) = begin fault.id (view fault.value.now)
@@ -46,9 +46,9 @@ view_answered answered = (view_step answered.step, answered.code)
 
 -- what an edit makes of a list
 abbrev pub edited : Edit → ActiveList → ActiveList
-edited (Insert place fault) active = insert active place (view_fault fault)
+edited (Insert place fault) active = insert active place (view_begun fault)
 edited (Remove place) active = remove active place
-edited (Fill faults) active = view_faults faults.items
+edited (Fill faults) active = view_all_begun faults.items
 edited Clear active = []
 
 -- the place is one of the list, and its fault the only one of its id
@@ -63,7 +63,7 @@ pub record IsNewAt (place : ℕ) (fault : ℤ × Edn) (active : ActiveList) : Ty
 
 -- a list allows an edit
 abbrev pub AllowsEdit : Edit → ActiveList → Type 0
-AllowsEdit (Insert place fault) active = IsNewAt place (view_fault fault) active
+AllowsEdit (Insert place fault) active = IsNewAt place (view_begun fault) active
 AllowsEdit (Remove place) active = IsOnlyAt place active
 AllowsEdit (Fill faults) active = active ≡ []
 AllowsEdit Clear active = Unit {0}
@@ -90,14 +90,14 @@ FitAlong (edit ∷ edits) active = AllowsEdit edit active × FitAlong edits (edi
 abbrev pub view_replay : Replay → ReplayValue
 view_replay r =
     record {
-      past = lists_along (reverse r.past.items) (view_faults r.active.items);
-      active = view_faults r.active.items;
-      future = lists_along (reverse r.future.items) (view_faults r.active.items);
+      past = lists_along (reverse r.past.items) (view_all_begun r.active.items);
+      active = view_all_begun r.active.items;
+      future = lists_along (reverse r.future.items) (view_all_begun r.active.items);
     }
 
 pub record AreFit (r : Replay) : Type 0 where
-  pub past : FitAlong (reverse r.past.items) (view_faults r.active.items)
-  pub future : FitAlong (reverse r.future.items) (view_faults r.active.items)
+  pub past : FitAlong (reverse r.past.items) (view_all_begun r.active.items)
+  pub future : FitAlong (reverse r.future.items) (view_all_begun r.active.items)
 
 abbrev pub view_moment : Moment → MomentValue
 view_moment m = record { asked = option_map view_asked m.asked; replay = view_replay m.replay }
@@ -112,7 +112,7 @@ pub record ChangeValue : Type 0 where
 
 abbrev pub view_change : Change → ChangeValue
 view_change change =
-    record { index = change.index; begins = change.begins; fault = view_fault change.fault }
+    record { index = change.index; begins = change.begins; fault = view_begun change.fault }
 
 abbrev pub view_changes : List Change → List ChangeValue
 view_changes changes = map view_change changes

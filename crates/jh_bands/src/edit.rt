@@ -3,7 +3,7 @@
 
 ghost use Rattle.std.specs.Prelude.{◌≡◌, ◌++◌, IfOk, OnOk};
 ghost use Rattle.jh_bands.specs.BandsInside.{AllowsEdit, TakesBack, changes_at, changes_with};
-ghost use Rattle.jh_bands.specs.BandsInside.{edited, view_changes, view_faults};
+ghost use Rattle.jh_bands.specs.BandsInside.{edited, view_changes, view_all_begun};
 
 use crate::step::Fault;
 use std::alloc::{AllocError, Global};
@@ -40,7 +40,7 @@ fn add_all<'a>(
     changes: &mut Vec<Change<'a>>,
 ) -> Result<(), AllocError>
     ensures { OnOk result (view_changes changes.new.items ≡ view_changes changes.old.items
-        ++ changes_with index begins (view_faults faults.now)) }
+        ++ changes_with index begins (view_all_begun faults.now)) }
 {
     for fault in faults {
         changes.push(Change {
@@ -59,10 +59,10 @@ fn add_changes<'a>(
     active: &[Fault<'a>],
     changes: &mut Vec<Change<'a>>,
 ) -> Result<(), AllocError>
-    requires { AllowsEdit edit.now (view_faults active.now) }
+    requires { AllowsEdit edit.now (view_all_begun active.now) }
     ensures { OnOk result (view_changes changes.new.items ≡ view_changes changes.old.items
-        ++ changes_at index (view_faults active.now)
-        (edited edit.now (view_faults active.now))) }
+        ++ changes_at index (view_all_begun active.now)
+        (edited edit.now (view_all_begun active.now))) }
 {
     match edit {
         Edit::Insert(_, fault) => add_all(index, true, &[*fault], changes),
@@ -78,11 +78,11 @@ fn make_edit<'a>(
     edit: Edit<'a>,
     active: &mut Vec<Fault<'a>>,
 ) -> Result<Edit<'a>, AllocError>
-    requires { AllowsEdit edit (view_faults active.old.items) }
+    requires { AllowsEdit edit (view_all_begun active.old.items) }
     ensures edited { OnOk result
-        (view_faults active.new.items ≡ edited edit.entry (view_faults active.old.items)) }
+        (view_all_begun active.new.items ≡ edited edit.entry (view_all_begun active.old.items)) }
     ensures back { IfOk result (λ back.
-        TakesBack back (view_faults active.new.items) (view_faults active.old.items)) }
+        TakesBack back (view_all_begun active.new.items) (view_all_begun active.old.items)) }
 {
     match edit {
         Edit::Insert(place, fault) => {
@@ -109,14 +109,14 @@ pub(crate) fn edit_at<'a>(
     active: &mut Vec<Fault<'a>>,
     changes: &mut Vec<Change<'a>>,
 ) -> Result<Edit<'a>, AllocError>
-    requires { AllowsEdit edit (view_faults active.old.items) }
+    requires { AllowsEdit edit (view_all_begun active.old.items) }
     ensures edited { OnOk result
-        (view_faults active.new.items ≡ edited edit.entry (view_faults active.old.items)) }
+        (view_all_begun active.new.items ≡ edited edit.entry (view_all_begun active.old.items)) }
     ensures back { IfOk result (λ back.
-        TakesBack back (view_faults active.new.items) (view_faults active.old.items)) }
+        TakesBack back (view_all_begun active.new.items) (view_all_begun active.old.items)) }
     ensures changes { OnOk result (view_changes changes.new.items
         ≡ view_changes changes.old.items
-        ++ changes_at index (view_faults active.old.items) (view_faults active.new.items)) }
+        ++ changes_at index (view_all_begun active.old.items) (view_all_begun active.new.items)) }
 {
     add_changes(&edit, index, active, changes)?;
     make_edit(alloc, edit, active)

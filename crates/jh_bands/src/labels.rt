@@ -5,7 +5,7 @@ ghost use Rattle.std.specs.Prelude.{◌≡◌, ◌++◌, IfOk, OnOk, option_map}
 ghost use Rattle.jh_edn.specs.View.{views};
 ghost use Rattle.jh_ops.specs.Operation.{operation};
 ghost use Rattle.jh_bands.specs.Bands as bands;
-ghost use Rattle.jh_bands.specs.BandsInside.{view_answered, view_asked, view_fault, view_step};
+ghost use Rattle.jh_bands.specs.BandsInside.{view_answered, view_asked, view_begun, view_step};
 ghost use Rattle.jh_bands.specs.Lines as rule;
 ghost use Rattle.jh_bands.specs.Lines.{answer_in_words, step_outcome_text, step_in_words};
 
@@ -18,7 +18,7 @@ use std::alloc::{AllocError, Global};
 /// Writes what names a fault.
 pub(crate) fn write_fault(fault: Fault, text: &mut Vec<u8>) -> Result<(), AllocError>
     ensures { OnOk result (text.new.items
-        ≡ text.old.items ++ bands.label_of (view_fault fault.entry)) }
+        ≡ text.old.items ++ bands.label_of (view_begun fault.entry)) }
 {
     write_integer(fault.id, text)?;
     text.extend_from_slice(b": ")?;
@@ -95,7 +95,7 @@ fn write_line(
 
 /// What names a fault.
 pub(crate) fn fault_label(alloc: Global, fault: Fault) -> Result<Vec<u8>, AllocError>
-    ensures { IfOk result (λ label. label.items ≡ bands.label_of (view_fault fault.entry)) }
+    ensures { IfOk result (λ label. label.items ≡ bands.label_of (view_begun fault.entry)) }
 {
     let mut label = Vec::new(alloc);
     write_fault(fault, &mut label)?;

@@ -5,7 +5,7 @@
 ghost use Rattle.std.specs.Prelude.{◌≡◌, IfSome, OnOk, option_map, position};
 ghost use Rattle.std.specs.Ordering.{int_eq};
 ghost use Rattle.jh_bands.specs.BandsInside.{AddChanges, HaveOwnIds, AreFit, AllowsEdit, HasOwnIds};
-ghost use Rattle.jh_bands.specs.BandsInside.{GoesOnTo, edited, view_fault, view_faults};
+ghost use Rattle.jh_bands.specs.BandsInside.{GoesOnTo, edited, view_begun, view_all_begun};
 ghost use Rattle.jh_bands.specs.BandsInside.{view_replay, view_step};
 ghost use Rattle.jh_bands.specs.Replay.{begin, first_replay, next_active, next_replay};
 ghost use Rattle.jh_bands.specs.Replay.{replay_after, replay_back_to, replay_forth_to, withdraw};
@@ -33,9 +33,9 @@ fn place_of(id: i64, active: &[Fault]) -> Option<usize>
 
 /// The edit that begins a fault, where none of its id is active.
 fn beginning<'a>(fault: Fault<'a>, active: &[Fault<'a>]) -> Option<Edit<'a>>
-    ensures next { option_map (λ edit. edited edit (view_faults active.now)) result
-        ≡ next_active (view_faults active.now) (begin fault.entry.id (view_fault fault.entry).1) }
-    ensures fits { IfSome result (λ edit. AllowsEdit edit (view_faults active.now)) }
+    ensures next { option_map (λ edit. edited edit (view_all_begun active.now)) result
+        ≡ next_active (view_all_begun active.now) (begin fault.entry.id (view_begun fault.entry).1) }
+    ensures fits { IfSome result (λ edit. AllowsEdit edit (view_all_begun active.now)) }
 {
     match place_of(fault.id, active) {
         Some(_) => None,
@@ -45,10 +45,10 @@ fn beginning<'a>(fault: Fault<'a>, active: &[Fault<'a>]) -> Option<Edit<'a>>
 
 /// The edit that withdraws the fault of an id, where it is active.
 fn withdrawal<'a>(id: i64, active: &[Fault<'a>]) -> Option<Edit<'a>>
-    requires { HaveOwnIds (view_faults active.now) }
-    ensures next { option_map (λ edit. edited edit (view_faults active.now)) result
-        ≡ next_active (view_faults active.now) (withdraw id) }
-    ensures fits { IfSome result (λ edit. AllowsEdit edit (view_faults active.now)) }
+    requires { HaveOwnIds (view_all_begun active.now) }
+    ensures next { option_map (λ edit. edited edit (view_all_begun active.now)) result
+        ≡ next_active (view_all_begun active.now) (withdraw id) }
+    ensures fits { IfSome result (λ edit. AllowsEdit edit (view_all_begun active.now)) }
 {
     match place_of(id, active) {
         Some(place) => Some(Edit::Remove(place)),
@@ -58,10 +58,10 @@ fn withdrawal<'a>(id: i64, active: &[Fault<'a>]) -> Option<Edit<'a>>
 
 /// The edit that a step makes which begins or withdraws, where the list allows the step.
 fn edit_for<'a>(step: Step<'a>, active: &[Fault<'a>]) -> Option<Edit<'a>>
-    requires { HaveOwnIds (view_faults active.now) }
-    ensures next { option_map (λ edit. edited edit (view_faults active.now)) result
-        ≡ next_active (view_faults active.now) (view_step step.entry) }
-    ensures fits { IfSome result (λ edit. AllowsEdit edit (view_faults active.now)) }
+    requires { HaveOwnIds (view_all_begun active.now) }
+    ensures next { option_map (λ edit. edited edit (view_all_begun active.now)) result
+        ≡ next_active (view_all_begun active.now) (view_step step.entry) }
+    ensures fits { IfSome result (λ edit. AllowsEdit edit (view_all_begun active.now)) }
 {
     match step {
         Step::Begin(fault) => beginning(fault, active),
@@ -92,11 +92,11 @@ impl<'a> Replay<'a> {
         index: usize,
         changes: &mut Vec<Change<'a>>,
     ) -> Result<(), AllocError>
-        requires fits { AllowsEdit edit (view_faults self.old.active.items) }
+        requires fits { AllowsEdit edit (view_all_begun self.old.active.items) }
         requires fit { AreFit self.old }
         ensures leads { OnOk result (GoesOnTo self.old self.new
             (next_replay (view_replay self.old)
-            (edited edit.entry (view_faults self.old.active.items)))) }
+            (edited edit.entry (view_all_begun self.old.active.items)))) }
         ensures changes { OnOk result (AddChanges index (view_replay self.old).active
             (view_replay self.new).active changes.old.items changes.new.items) }
     {

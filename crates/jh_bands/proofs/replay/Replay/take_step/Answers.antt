@@ -1,5 +1,5 @@
 use Rattle.std.proofs.Common.{◌∙◌, None, ap}
-use Rattle.jh_bands.specs.BandsInside.{view_faults, view_replay, view_step}
+use Rattle.jh_bands.specs.BandsInside.{view_all_begun, view_replay, view_step}
 use Rattle.jh_bands.specs.Replay.{next_active}
 use Rattle.jh_bands.proofs.EditLemmas.{adds_none}
 use Rattle.jh_bands.proofs.ReplayLemmas.{replayed}
@@ -11,8 +11,8 @@ returns-in-None c =
       leads = record {
         replay =
             replayed (view_replay c.args.self.now) c.args.step None c.in_default.not-Undo c.in_default.not-Redo
-            (c.in-None.ensures.next ∙ ap (λ xs. next_active (view_faults xs) (view_step c.args.step)) c.deref.ensures.value);
+            (c.in-None.ensures.next ∙ ap (λ xs. next_active (view_all_begun xs) (view_step c.args.step)) c.deref.ensures.value);
         fit = c.requires.fit;
       };
-      changes = adds_none c.args.index (view_faults c.args.self.now.active.items) c.args.changes.now.items;
+      changes = adds_none c.args.index (view_all_begun c.args.self.now.active.items) c.args.changes.now.items;
     }
