@@ -1,0 +1,4 @@
+pub mod CountLemmas
+pub mod TallyLemmas
+pub mod DrainLemmas
+pub mod LineLemmas

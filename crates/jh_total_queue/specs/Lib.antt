@@ -1,0 +1,5 @@
+pub mod TallyView
+pub mod TotalQueue
+pub mod CountsInside
+pub mod Lines
+pub mod TextInside
