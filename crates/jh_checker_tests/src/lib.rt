@@ -1,0 +1,10 @@
+//! Tests of the checkers that stand in crates of their own, through their public calls alone: what no clause says, with rows that
+//! were worked out by hand.
+#![tactic(auto)]
+
+#[cfg(test)]
+mod banks;
+#[cfg(test)]
+mod queues;
+#[cfg(test)]
+mod rows;
