@@ -9,6 +9,7 @@ mod reasons;
 mod schedule;
 mod text;
 mod toml_text;
+mod unknown_nodes;
 
 pub use key_texts::SettingsKind;
 pub use reasons::settings_reasons;

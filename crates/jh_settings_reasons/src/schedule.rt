@@ -10,14 +10,19 @@ use crate::key_texts::{SettingsKind, key_takes};
 use crate::line::{add, add_shown, line_of};
 use crate::moments::is_moment;
 use crate::text::{TextFault, element_in};
+use crate::unknown_nodes::unknown_node;
 use jh_edn::Value;
 use jh_env::Nodes;
+use jh_one_line::shortened;
 use jh_settings::{Key, SettingsError, start_under};
 use jh_simnode::MAX_ENTRIES;
 use jh_step_texts::{StepTextError, step_of_value};
 use std::alloc::{AllocError, Global};
 use std::fmt::{self, Display, Formatter, Write};
 use toml::Table;
+
+/// How many bytes of an unknown node's name are shown at most.
+const MAX_NAME: usize = 64;
 
 /// Why a value is no entry.
 #[derive(Clone, Copy, Debug, PartialEq, Eq)]
@@ -116,6 +121,27 @@ fn entry_line(alloc: Global, place: usize, fault: EntryFault) -> Result<Vec<u8>,
     Ok(line)
 }
 
+/// Adds to the line of an entry the name in it that is no node's, where that is why it is none.
+fn add_unknown_node(
+    alloc: Global,
+    nodes: &Nodes,
+    fault: EntryFault,
+    value: Option<&toml::Value>,
+    line: &mut Vec<u8>,
+) -> Result<(), AllocError> {
+    let (EntryFault::Step(StepTextError::UnknownNode), Some(value)) = (fault, value) else {
+        return Ok(());
+    };
+    let Ok(element) = element_in(alloc, value)? else {
+        return Ok(());
+    };
+    let Some(name) = unknown_node(nodes, &element) else {
+        return Ok(());
+    };
+    add(line, " ")?;
+    add(line, &shortened(alloc, name, MAX_NAME)?)
+}
+
 /// The line that says why entries over these nodes are refused, without its line feed: the first
 /// that is none, or else what the key takes.
 fn entries_line(
@@ -125,7 +151,11 @@ fn entries_line(
     values: &[toml::Value],
 ) -> Result<Vec<u8>, AllocError> {
     match first_fault(alloc, kind, nodes, values)? {
-        Some((place, fault)) => entry_line(alloc, place, fault),
+        Some((place, fault)) => {
+            let mut line = entry_line(alloc, place, fault)?;
+            add_unknown_node(alloc, nodes, fault, values.get(place), &mut line)?;
+            Ok(line)
+        }
         None => line_of(alloc, key_takes(kind, Key::Schedule)),
     }
 }

@@ -69,7 +69,10 @@ schedule = ['[0 [:undo]]', '[0 [:undo]] 1'] → entry 1: more than one element
 schedule = ['[0 [:undo]]', '[0]'] → entry 1: not [AT STEP]
 schedule = ['[0 [:undo]]', '[10001 [:undo]]'] → entry 1: AT is no number from 0 to 10000
 schedule = ['[[:ms 1] [:undo]]'] → entry 0: AT is no number from 0 to 10000
-schedule = ['[0 [:undo]]', '[1 [:redo]]', '[1 [:undo]]', '[1 [:begin 1 [:pause ["n4"]]]]', '1'] → entry 3: unknown node
+schedule = ['[0 [:undo]]', '[1 [:redo]]', '[1 [:undo]]', '[1 [:begin 1 [:pause ["n4"]]]]', '1'] → entry 3: unknown node n4
+schedule = ['[0 [:begin 1 [:cut [["n1" "n2"] ("n2" "n9")]]]]'] → entry 0: unknown node n9
+schedule = ['[0 [:begin 1 [:bump {"n1" 5, "n 7" 1}]]]'] → entry 0: unknown node n 7
+schedule = ['[0 [:begin 1 [:split-one "a\nb"]]]'] → entry 0: unknown node a\u{a}b
 schedule = ['[1 [:begin 1]]'] → entry 0: bad step
 schedule = ['[1 [:withdraw -1]]'] → entry 0: bad id"##;
 
@@ -91,7 +94,7 @@ threads_per_key = 2 ; ops_per_key = 1 ; final = '[:once :read]' → does not sui
 workload = "list-append" → does not suit the workload or the number of clients
 schedule = ['[1000001 [:undo]]'] → entry 0: AT is no number from 0 to 1000000, and no [:ms T] with T from 0 to 86400000
 schedule = ['[[:ms 1] [:undo]]', '[[:ms 86400001] [:undo]]'] → entry 1: AT is no number from 0 to 1000000, and no [:ms T] with T from 0 to 86400000
-schedule = ['[[:ms 1] [:begin 1 [:pause ["n3"]]]]'] → entry 0: unknown node"##;
+schedule = ['[[:ms 1] [:begin 1 [:pause ["n3"]]]]'] → entry 0: unknown node n3"##;
 
 /// Whether one of the lines gives this key a value, or leaves it out, as `#key`.
 fn has_key(lines: &str, key: &str) -> bool {
