@@ -1,5 +1,5 @@
 -- Tests and sums of balances, by the pairs that a program holds.
-use Rattle.std.proofs.Common.{◌≡◌, ◌∙◌, ℤ, pos, ◌+ℤ◌, Bool, true, false, cond, ◌||◌, ◌&&◌, List, [], ◌∷◌, refl, ap, fold}
+use Rattle.std.proofs.Common.{◌≡◌, ℤ, pos, ◌+ℤ◌, Bool, ◌||◌, ◌&&◌, List, [], ◌∷◌, refl, ap, fold}
 use Rattle.std.specs.List.{list_any, list_all}
 use Rattle.jh_edn.specs.Edn.{Edn}
 use Rattle.jh_edn.specs.View.{view, view_pairs}

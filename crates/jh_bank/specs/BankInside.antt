@@ -1,8 +1,8 @@
 -- What the checker of a bank keeps on its way, and its line piece by piece: proofs rest on it, and no
 -- public clause names it. This project's own.
 use Rattle.std.specs.Prelude.{◌≡◌, ℕ, ◌&&◌, Bool, true, false, not, nat_lt, if◌then◌else◌}
-use Rattle.std.specs.Prelude.{List, [], ◌∷◌, ◌++◌, filter, codes, slice_get, count_by, find}
-use Rattle.std.specs.Prelude.{Option, Some, None, is_some, option_map, option_and_then, MatchOption}
+use Rattle.std.specs.Prelude.{List, [], ◌∷◌, ◌++◌, codes, slice_get, count_by, find}
+use Rattle.std.specs.Prelude.{Option, Some, None, option_map, option_and_then, MatchOption}
 use Rattle.std.specs.List.{filter_map, cons_option}
 use Rattle.jh_edn.specs.Edn.{Edn, map_pairs}
 use Rattle.jh_edn.specs.Parts.{behind_pair_text}

@@ -1,8 +1,8 @@
 -- The checker of a bank (jepsen.tests.bank: clients transfer amounts between accounts, and read the
 -- balances of all; its checker "verifies that all reads must sum to (:total test), and, unless
 -- :negative-balances? is true, checks that all balances are non-negative"). Operations are not paired here.
-use Rattle.std.specs.Prelude.{◌≡◌, ℕ, ◌+◌, ◌-◌, ◌<◌, ◌≤◌, ◌==◌, ◌&&◌, ◌⊎◌, Bool, true, false, not}
-use Rattle.std.specs.Prelude.{nat_lt, if◌then◌else◌, ℤ, pos, ◌+ℤ◌, ◌-ℤ◌, int_lt, unsigned_abs}
+use Rattle.std.specs.Prelude.{◌≡◌, ℕ, ◌<◌, ◌≤◌, ◌==◌, ◌&&◌, ◌⊎◌, Bool, true, false, not}
+use Rattle.std.specs.Prelude.{if◌then◌else◌, ℤ, pos, ◌+ℤ◌, ◌-ℤ◌, int_lt, unsigned_abs}
 use Rattle.std.specs.Prelude.{List, [], ◌∷◌, map, filter, fold, length, slice_get, All}
 use Rattle.std.specs.Prelude.{Option, Some, None, is_some, option_map, option_and_then, MatchOption}
 use Rattle.std.specs.List.{list_any, list_all}
