@@ -1,0 +1,4 @@
+pub mod OrderLemmas
+pub mod CountLemmas
+pub mod FirstLemmas
+pub mod TakesLemmas
