@@ -5,7 +5,8 @@
 -- An operation is a pair of a history; places are those of the whole history.
 use Rattle.std.specs.Prelude.{◌≡◌, ℕ, ◌<◌, ◌&&◌, ◌⊎◌, nat_lt, nat_le, Bool, true, false, not}
 use Rattle.std.specs.Prelude.{if◌then◌else◌, List, [], ◌∷◌, length, slice_get, codes, All, Contains}
-use Rattle.std.specs.Prelude.{count_by, filter, remove, slice_index_or, Option, Some, None, option_map}
+use Rattle.std.specs.Prelude.{count_by, filter, remove, slice_index_or, Option, Some, None}
+use Rattle.std.specs.Prelude.{option_map}
 use Rattle.std.specs.List.{filter_map}
 use Rattle.jh_edn.specs.Edn.{Edn}
 use Rattle.jh_edn.specs.Normal.{normal}
@@ -114,8 +115,8 @@ completed_upto place outs = filter (λ out. nat_le out.place place) outs
 
 -- ---- the result
 
--- Of a history with these operations: how many dequeues there are, where each finds one, or else the
--- completion of the first that finds none.
+-- Of a history with these operations: how many dequeues there are, where each finds one, or else
+-- the completion of the first that finds none.
 abbrev pub IsResultOf : List Operation → List Pair → QueueResult → Type 0
 IsResultOf history pairs (Dequeued count) =
     EachFinds (passages_in history pairs) (passages_out history pairs)

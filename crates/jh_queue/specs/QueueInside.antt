@@ -1,5 +1,5 @@
--- What the checker of a queue keeps on its way: values that go in or come out in order, and the first
--- dequeue so far that finds none. This project's own.
+-- What the checker of a queue keeps on its way: what goes in and what comes out, in order, and the
+-- first dequeue so far that finds none. This project's own.
 use Rattle.std.specs.Prelude.{◌≡◌, ℕ, ◌<◌, nat_le, Bool, true, false, if◌then◌else◌, List, map}
 use Rattle.std.specs.Prelude.{All, Contains, Option, Some, None, MatchOption, IsSorted}
 use Rattle.std.specs.Ordering.{nat_cmp, ordering_then}

@@ -1,12 +1,12 @@
 //! What goes into a queue and comes out of it. `specs/Queue.antt` has the rule.
 
-ghost use Rattle.std.specs.Prelude.{◌≡◌, [], ◌++◌, ◌<◌, All, IfOk, IsPermutation, OnOk, length};
-ghost use Rattle.std.specs.Prelude.{if◌then◌else◌, None};
+ghost use Rattle.std.specs.Prelude.{◌≡◌, [], ◌++◌, IfOk, IsPermutation, OnOk, if◌then◌else◌, None};
 ghost use Rattle.std.specs.List.{cons_option};
 ghost use Rattle.jh_edn.specs.View.{view};
 ghost use Rattle.jh_ops.specs.Operation.{operations};
 ghost use Rattle.jh_queue.specs.Queue as rule;
-ghost use Rattle.jh_queue.specs.QueueInside.{ArePassagesInOrder, cmp_to, passage, passage_cmp, passages};
+ghost use Rattle.jh_queue.specs.QueueInside.{ArePassagesInOrder, cmp_to, passage, passage_cmp};
+ghost use Rattle.jh_queue.specs.QueueInside.{passages};
 
 use jh_check::{asks, end_of, has_ended, value_at};
 use jh_edn::Value;
@@ -14,7 +14,7 @@ use jh_ops::{Kind, Op, Pair};
 use std::alloc::{AllocError, Global};
 use std::cmp::Ordering;
 
-/// A value that goes in or comes out, in normal form, and where in the history.
+/// A passage: a value that goes in or comes out, in normal form, and where in the history.
 #[derive(Debug, Drop)]
 pub(crate) struct ValueAt {
     pub(crate) value: Value,
@@ -35,7 +35,7 @@ fn is_ok_dequeue(history: &[Op], pair: Pair) -> bool
     asks("dequeue", history, pair) && has_ended(Kind::Ok, history, pair)
 }
 
-/// Puts the value of the operation at a place last, in normal form, if it is wanted.
+/// Puts the passage of the value at a place last, if it is wanted.
 fn push_passage(
     alloc: Global,
     history: &[Op],

@@ -47,8 +47,8 @@ fn first_with(first: Option<usize>, none: bool, place: usize) -> Option<usize>
 fn first_without(ins: &[ValueAt], outs: &[ValueAt]) -> Option<usize>
     requires ins { ArePassagesInOrder ins.now }
     requires outs { ArePassagesInOrder outs.now }
-    ensures { IsFirstWithNone (rule.finds_none (passages ins.now) (passages outs.now)) (passages outs.now)
-        result }
+    ensures { IsFirstWithNone (rule.finds_none (passages ins.now) (passages outs.now))
+        (passages outs.now) result }
 {
     let mut first = None;
     for out in outs {
