@@ -25,6 +25,7 @@ impl Horizon {
         ensures behind { IsBehind (operations history.now) result }
         ensures bound { result.bound ≡ 0 }
     {
+        // The contract alone speaks of the history.
         let _ = history;
         Horizon { place: 0, bound: 0 }
     }
@@ -34,6 +35,7 @@ impl Horizon {
         requires { IsBehind (operations history.now) self }
         ensures { NamesBelow (operations history.now) result number }
     {
+        // The contract alone speaks of the history.
         let _ = history;
         if self.bound <= number { self.place } else { 0 }
     }

@@ -385,6 +385,7 @@ impl Machine {
         requires { IsSoundMachine test.now self.old }
         ensures { OnOk result (self.new ≡ rule.calls test.now self.old) }
     {
+        // Each round that gives a call makes a thread busy, so one more than the threads is enough.
         let most = test.clients() + 1;
         for _round in 0..most {
             let before = self.calls_given();
@@ -491,6 +492,7 @@ impl Machine {
     {
         // The answer is not used: this call's contract says that the test can be made.
         let _clients = test.clients();
+        // There are five phases, and none comes twice.
         for _pass in 0..5usize {
             self.step(alloc, test)?;
             self.calls(alloc, test)?;

@@ -17,11 +17,12 @@ use jh_ops::{HistoryError, Op};
 use std::alloc::Global;
 use std::io::Read;
 
-/// A text in two parts.
+/// The history of a text and what stands below it. What a conversation printed above its history,
+/// up to the line `:end`, is in neither.
 #[derive(Drop)]
 pub struct HistoryAndBelow {
     pub history: Vec<Op>,
-    /// What is no part of the history, as it is in the text.
+    /// The line that begins with `:active` and all behind it, as it is in the text.
     pub below: Vec<u8>,
 }
 

@@ -63,7 +63,8 @@ impl Process {
     }
 }
 
-/// An operation of a history.
+/// One record of a history: an invocation, or a completion. The crates above call an invocation
+/// with its completion an operation too, where they speak of pairs ([`crate::pair`]).
 #[derive(Debug, Drop)]
 pub struct Op {
     pub kind: Kind,

@@ -25,7 +25,7 @@ use std::alloc::{AllocError, Global};
 use toml::ser::Error;
 use toml::table_to_string_pretty;
 
-/// How deep a text of EDN may be nested.
+/// How deep a text of EDN may be nested: as deep as `jh_edn` reads it.
 const MAX_DEPTH: u32 = 64;
 
 /// Whether the numbers of a plan are in the ranges of their keys, and only a register holds

@@ -62,7 +62,8 @@ fn nodes_may_start(env: &Env, nodes: &[Node]) -> bool
     true
 }
 
-/// Whether each link and each node is as it may be at a start.
+/// Whether each link and each node is as it may be at a start. `CanStart` of `jh_env`, by which a
+/// start is printed, says this, and of names and cells what holds of each `Env`.
 pub(crate) fn may_start(env: &Env) -> bool
     ensures { IsTrue result ↔ IsStarting env.now }
 {

@@ -19,7 +19,8 @@ use std::alloc::{AllocError, Global};
 use std::marker::Model;
 use thiserror::Error;
 
-/// The most rows of the log of a run on threads.
+/// The most rows of the log of a run on threads: as many as a log of `jh_slots` may have, which so
+/// refuses none of a plan for its size.
 pub const MAX_ROWS: u32 = 65_536;
 
 /// What a run does: on which environment and store, by how many clients, which calls, which steps

@@ -82,6 +82,7 @@ fn run_turns(alloc: Global, plan: &Plan, world: &mut World) -> Result<(), RunErr
     let mut run = Run::new(alloc, plan)?;
     loop {
         run.apply_due(alloc, plan, world)?;
+        // Not used: the contract of this call bounds the journal.
         let _events = world.journal().len();
         if run.has_ended {
             return Ok(());

@@ -99,6 +99,8 @@ pub fn driver_of(alloc: Global, plan: &Plan) -> Result<Driver, RunError>
     let source = Gen::Clients(Inner::of(alloc, limited)?);
     match Driver::new(alloc, source, plan.clients()) {
         Ok(driver) => Ok(driver),
+        // The plan has as many clients as a driver may have, and its generator suits them, so
+        // memory alone can be refused here.
         Err(_) => Err(RunError::OutOfMemory),
     }
 }
@@ -150,6 +152,7 @@ impl Run {
             }
             let step = entry.step.copy(alloc)?;
             // What the world promises of its journal holds before each step.
+            // Not used: the contract of this call bounds the journal.
             let _events = world.journal().len();
             world.step(step)?;
             self.applied += 1;
@@ -232,6 +235,7 @@ impl Run {
         ensures few { length world.old.journal ≤ max_events }
         ensures stopped { IfErr result (StopsOrFills plan.now) }
     {
+        // Not used: the contract of this call bounds the journal.
         let _events = world.journal().len();
         if ticks_at(plan, self.calls[thread as usize]) {
             world.tick()?;
@@ -249,6 +253,7 @@ impl Run {
         ensures falls { OnOk result (running.Falls self.old world.old self.new world.new) }
         ensures stopped { IfErr result (StopsOrFills plan.now) }
     {
+        // Not used: the contract of this call bounds the journal.
         let _events = world.journal().len();
         let thread = self.next_thread(plan);
         match self.ask(plan, thread) {

@@ -110,8 +110,8 @@ impl Tables {
     }
 
     /// Puts a fault on the cells, at the place of its stamp among those that are put. It takes no
-    /// memory. At most one cell is written for each link or node that the fault names, and one
-    /// entry for a fix.
+    /// memory. Counts or sums of at most one cell are written for each link or node that the fault
+    /// names, and one entry for a fix.
     pub fn put(&mut self, fault: &PlainFault, stamp: u32)
         requires fits { FitsCount (length self.old.start.nodes) (fault_of fault.now) }
         requires right { IsFault (fault_of fault.now) }
@@ -147,7 +147,8 @@ impl Tables {
         self.laid
     }
 
-    /// How often a cell or the entry of a fix was written since the start, up to 2^64 - 1.
+    /// How often a count or a sum from which a cell is read, or the entry of a fix, was written
+    /// since the start, up to 2^64 - 1.
     pub fn work(&self) -> u64
         ensures { result ≡ self.now.tallies.work }
     {

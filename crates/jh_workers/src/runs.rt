@@ -327,6 +327,7 @@ where
     if !port.events(rt, alloc)?.is_empty() {
         return Err(RunError::Mismatch);
     }
+    // A plan has from 1 to as many rows as a log may have, so memory alone can be refused here.
     let Ok((slots, seat)) = Slots::new(alloc, plan.rows()) else {
         return Err(RunError::OutOfMemory);
     };
