@@ -127,7 +127,8 @@ pub(crate) fn begun_entry(value: &Value) -> Option<u64>
     natural_in(value.as_integer()?)
 }
 
-/// Whether it is the code of an answer to a step.
+/// Whether it is the code of an answer to a step: there are eight (`StepAnswer::code` of
+/// `jh_nemesis`).
 fn is_code(integer: i64) -> bool
     ensures { result ≡ rule.is_code integer }
 {

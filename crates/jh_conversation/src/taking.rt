@@ -298,9 +298,9 @@ impl Machine {
         }
     }
 
-    /// Counts a line; what was said is what is said to it.
+    /// Counts a line that was read; what was said is what is said to it. It waits for nothing.
     ///
-    /// Error: 2^64 - 1 lines were read.
+    /// Error: 2^64 - 1 lines were read, which comes out as want of memory.
     fn listen(&mut self) -> Result<(), AllocError>
         ensures { OnOk result (self.new ≡ rule.listen self.old) }
     {

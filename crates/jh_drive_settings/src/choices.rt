@@ -48,7 +48,8 @@ pub(crate) fn are_transactions(checker: Checker) -> bool
     matches!(checker, Checker::ListAppend)
 }
 
-/// Refuses a value under a key, where none may stand there.
+/// Judges whether a value may stand under a key, and refuses it where none may. (Settings are
+/// judged by what they may be; histories are, by checkers.)
 pub(crate) fn judge_standing(table: &Table, key: Key, may: bool) -> Result<(), SettingsError>
     ensures { MatchResult result
         (λ _. (may || keys.is_missing (table_view table.now) key) ≡ true)

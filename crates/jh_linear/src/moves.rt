@@ -30,7 +30,8 @@ use std::alloc::{AllocError, Global};
 pub(crate) enum Source {
     /// From the pending operations, which are known to have happened, at this index.
     Happened(usize),
-    /// From the class of operations of unknown outcome at this index, which has the next of them.
+    /// From the class of operations of unknown outcome (`Outcome::Unsure`) at this index, which has
+    /// the next of them.
     Unknown(usize),
 }
 

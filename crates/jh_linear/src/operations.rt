@@ -48,7 +48,8 @@ impl<T: Drop> From<AllocFailed<T>> for RegOpsError {
 }
 
 /// The operations of a register that pairs stand for, one each, in the order of the pairs: those
-/// that `jh_ops::pair` gives for the history. Only client operations are in pairs.
+/// that `jh_ops::pair` gives for the history, which is `ops` here. Only client operations are in
+/// pairs.
 ///
 /// The function of an operation is that of its invocation. A `:read` has the value of its `:ok`
 /// completion, which is an integer or nil. A `:read` that did not complete `:ok` has nil. A

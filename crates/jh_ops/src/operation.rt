@@ -83,7 +83,7 @@ pub struct Op {
 
 impl Op {
     /// Whether a client did it, and it is of this kind and of the function of this name, which
-    /// stands without its colon.
+    /// stands without its colon: an invocation that asks for the function, or a completion of one.
     pub fn is_asked(&self, kind: Kind, name: &str) -> bool
         ensures { result ≡ rule.is_asked kind name.now (operation self.now) }
     {

@@ -26,7 +26,8 @@ pub(crate) struct Load {
 }
 
 /// How often a client thread ticks, how large the log is, how all is chosen, and how much the
-/// judgement may take.
+/// judgement may take: numbers of the settings, where the limits of `specs/Limits.antt` are the
+/// most that such numbers may be.
 #[derive(Clone, Copy, Drop)]
 pub(crate) struct Limits {
     pub tick_every: u32,

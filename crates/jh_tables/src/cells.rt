@@ -11,7 +11,8 @@ pub enum Life {
     Killed,
 }
 
-/// The state of the link from one node to another.
+/// The state of the link from one node to another: its cell in a table, as `NodeCell` is a node's.
+/// The link itself is the pair of the two nodes.
 #[derive(Clone, Copy, Debug, PartialEq, Eq)]
 pub struct Link {
     /// Whether nothing passes.
