@@ -1,0 +1,5 @@
+pub mod StaleView
+pub mod SetFull
+pub mod Lines
+pub mod TextInside
+pub mod Inside

@@ -1,0 +1,123 @@
+//! The one line of the result. `specs/Lines.antt` has the rule.
+
+ghost use Rattle.std.specs.Prelude.{◌≡◌, IfErr, OnOk, codes, map};
+ghost use Rattle.std.specs.Io.KnownBytes.{Appends};
+ghost use Rattle.jh_edn.specs.Parts.{behind_pair_text};
+ghost use Rattle.jh_edn.specs.Print.{joined_text, print, separator_before};
+ghost use Rattle.jh_set_full.specs.Lines.{number_or_nil, set_full_value, duplicates_value};
+ghost use Rattle.jh_set_full.specs.TextInside as inside;
+
+use crate::set_full::SetFullResult;
+use crate::stale::Stale;
+use jh_check::{Duplicate, Duplicates, write_count, write_verdict};
+use jh_edn::{EdnError, Element, put, write, write_part};
+use std::io::Write;
+
+/// Writes a number, or nil where it is missing.
+fn write_number<W: Write>(number: Option<u64>, writer: &mut W) -> Result<(), EdnError>
+    ensures bytes { OnOk result
+        (Appends (W.contents writer.old) (W.contents writer.new) (print (number_or_nil number))) }
+    ensures error { IfErr result (λ e. e ≡ EdnError.Write) }
+{
+    match number {
+        Some(number) => write!(writer, "{number}").map_err(|_| EdnError::Write),
+        None => put(b"nil", writer),
+    }
+}
+
+impl Element for Stale {
+    ghost use Rattle.jh_set_full.specs.StaleView.{view_stale};
+    ghost use Rattle.jh_set_full.specs.Lines.{stale_value};
+
+    ghost value = { λ s. stale_value (view_stale s) };
+
+    fn write_to<W: Write>(&self, writer: &mut W) -> Result<(), EdnError> {
+        put(b"[", writer)?;
+        write(&self.element, writer)?;
+        put(b" ", writer)?;
+        write_number(self.milliseconds, writer)?;
+        put(b"]", writer)
+    }
+}
+
+/// What stands before an entry: nothing before the first.
+fn separate<W: Write>(first: bool, writer: &mut W) -> Result<(), EdnError>
+    ensures bytes { OnOk result
+        (Appends (W.contents writer.old) (W.contents writer.new)
+        (separator_before first (codes ", "))) }
+    ensures error { IfErr result (λ e. e ≡ EdnError.Write) }
+{
+    if first { Ok(()) } else { put(b", ", writer) }
+}
+
+/// A value, and how often it is there.
+fn write_entry<W: Write>(entry: &Duplicate, writer: &mut W) -> Result<(), EdnError>
+    ensures bytes { OnOk result
+        (Appends (W.contents writer.old) (W.contents writer.new) (inside.duplicate_text entry.now)) }
+    ensures error { IfErr result (λ e. e ≡ EdnError.Write) }
+{
+    write(&entry.id, writer)?;
+    put(b" ", writer)?;
+    write!(writer, "{}", entry.times).map_err(|_| EdnError::Write)
+}
+
+/// Values with how often each is there, with `, ` between them.
+fn write_entries<W: Write>(entries: &[Duplicate], writer: &mut W) -> Result<(), EdnError>
+    ensures bytes { OnOk result
+        (Appends (W.contents writer.old) (W.contents writer.new)
+        (joined_text (codes ", ") (map inside.duplicate_text entries.now))) }
+    ensures error { IfErr result (λ e. e ≡ EdnError.Write) }
+{
+    for (place, entry) in entries.iter().enumerate() {
+        separate(place == 0, writer)?;
+        write_entry(entry, writer)?;
+    }
+    Ok(())
+}
+
+/// Values with how often each is there, as a map.
+fn write_map<W: Write>(tally: &Duplicates, writer: &mut W) -> Result<(), EdnError>
+    ensures bytes { OnOk result
+        (Appends (W.contents writer.old) (W.contents writer.new) (print (duplicates_value tally.now))) }
+    ensures error { IfErr result (λ e. e ≡ EdnError.Write) }
+{
+    put(b"{", writer)?;
+    write_entries(tally.as_slice(), writer)?;
+    put(b"}", writer)
+}
+
+/// Writes a pair with values and how often each is there, behind others: `, :NAME {VALUE COUNT, ..}`.
+fn write_tally<W: Write>(name: &str, tally: &Duplicates, writer: &mut W) -> Result<(), EdnError>
+    ensures bytes { OnOk result
+        (Appends (W.contents writer.old) (W.contents writer.new)
+        (behind_pair_text name.now (duplicates_value tally.now))) }
+    ensures error { IfErr result (λ e. e ≡ EdnError.Write) }
+{
+    put(b", :", writer)?;
+    put(name.as_bytes(), writer)?;
+    put(b" ", writer)?;
+    write_map(tally, writer)
+}
+
+/// Writes the one line of the result for a set over time, without a line feed:
+/// `{:valid? V, :attempted N, :stable N, :lost [..], :never-read [..], :stale [[element ms] ..],
+/// :duplicated {element times, ..}}`.
+///
+/// Takes no memory. The writer may have taken a part of the line where it failed.
+///
+/// Errors: `Write` where the writer failed, and no other.
+pub fn write_set_full<W: Write>(judged: &SetFullResult, writer: &mut W) -> Result<(), EdnError>
+    ensures bytes { OnOk result
+        (Appends (W.contents writer.old) (W.contents writer.new)
+        (print (set_full_value judged.now))) }
+    ensures error { IfErr result (λ e. e ≡ EdnError.Write) }
+{
+    write_verdict(judged.verdict, writer)?;
+    write_count("attempted", judged.attempted, writer)?;
+    write_count("stable", judged.stable, writer)?;
+    write_part("lost", judged.lost.as_slice(), writer)?;
+    write_part("never-read", judged.never_read.as_slice(), writer)?;
+    write_part("stale", judged.stale.as_slice(), writer)?;
+    write_tally("duplicated", &judged.duplicated, writer)?;
+    put(b"}", writer)
+}
