@@ -1,7 +1,7 @@
 //! Where the last read was invoked that completed behind a place, for each place.
 //! `specs/Inside.antt` has the rule.
 
-ghost use Rattle.std.specs.Prelude.{◌≡◌, ℕ, ◌-◌, ◌<◌, ◌≤◌, All, IfOk, get_or, length, None, take};
+ghost use Rattle.std.specs.Prelude.{◌≡◌, ℕ, ◌-◌, ◌<◌, All, IfOk, get_or, length, None, take};
 ghost use Rattle.std.specs.Prelude.{vec_len, cond, nat_lt, replicate, Some};
 ghost use Rattle.jh_ops.specs.Pairing.{IsPairWithin};
 ghost use Rattle.jh_set_full.specs.Inside as inside;

@@ -1,7 +1,7 @@
 //! The checker of sets over time. `specs/SetFull.antt` has the rule.
 
 ghost use Rattle.std.specs.Prelude.{◌≡◌, ◌∷◌, [], ◌++◌, All, IfOk, MatchResult, OnOk, cond, filter, length};
-ghost use Rattle.std.specs.Prelude.{map, option_and_then, reverse, slice_get};
+ghost use Rattle.std.specs.Prelude.{map, reverse};
 ghost use Rattle.jh_edn.specs.Normal.{normal};
 ghost use Rattle.jh_edn.specs.View.{view, views};
 ghost use Rattle.jh_ops.specs.Operation.{operations};
@@ -13,7 +13,7 @@ ghost use Rattle.jh_set_full.specs.Inside as inside;
 ghost use Rattle.jh_set_full.specs.Inside.{AreByElement, AreTables, is_spot_in, most_by};
 ghost use Rattle.jh_set_full.specs.SetFull as rule;
 ghost use Rattle.jh_set_full.specs.SetFull.{AreReadsKnown, RefusesSetFull, all_shown, is_repeated, from_latest};
-ghost use Rattle.jh_set_full.specs.SetFull.{set_full_result_of, set_full_result};
+ghost use Rattle.jh_set_full.specs.SetFull.{set_full_result};
 ghost use Rattle.jh_set_full.specs.StaleView.{view_stales};
 
 use crate::shown::{first_bad_read, shown};

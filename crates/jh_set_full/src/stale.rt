@@ -1,6 +1,6 @@
 //! Elements that were stale.
 
-ghost use Rattle.std.specs.Prelude.{◌≡◌, ◌↔◌, [], IsTrue};
+ghost use Rattle.std.specs.Prelude.{◌≡◌};
 ghost use Rattle.jh_set_full.specs.StaleView.{view_stales};
 
 use jh_edn::Value;
