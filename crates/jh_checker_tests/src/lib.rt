@@ -8,3 +8,5 @@ mod banks;
 mod queues;
 #[cfg(test)]
 mod rows;
+#[cfg(test)]
+mod sets;
