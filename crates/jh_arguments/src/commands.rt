@@ -66,8 +66,7 @@ pub enum Command {
     Plot(bool),
 }
 
-/// The command that the arguments ask for, where it is one of these. `drive` is none of them, and
-/// is asked for apart (`test_path_of`).
+/// The command that the arguments ask for. `parse` has seen to it that there is one.
 pub fn command_of(matches: &ArgMatches<'_>) -> Option<Command>
     ensures parsed { IfSome result (SubcommandIs (subcommand_rows_of matches.now)) }
     ensures ranges { IfSome result HasNumbersInRange }

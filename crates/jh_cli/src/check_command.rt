@@ -40,8 +40,8 @@ pub struct CheckQuestion {
     /// A history with fewer operations that ended `:ok` is not called valid; counted are those of
     /// clients, of the functions that the checker judges, in all keys. None: any number is enough.
     pub at_least: Option<usize>,
-    /// Whether unread pairs are left out: those of an operation's map, a key with its value, that
-    /// no checker reads and that can't be read.
+    /// Whether pairs of an operation's map that no checker reads are left out where they can't be
+    /// read.
     pub skips_unread: bool,
 }
 

@@ -13,7 +13,7 @@ use std::alloc::Global;
 use std::io::Read;
 
 /// The history of a reader's text and what stands below it, as
-/// `jh_histories::read_history_and_below` has them; where unread pairs are skipped, of that text
+/// `jh_histories::read_history_and_below` has them; where unread keys are skipped, of that text
 /// without them, as `jh_unread::without_unread` has it.
 ///
 /// Errors: those of `read_history_and_below`, for the text that is read.
@@ -36,7 +36,7 @@ pub(crate) fn read_history_input<R: Read>(
     }
 }
 
-/// The history of a text without its unread pairs, and what stands below it.
+/// The history of a text without its unread keys, and what stands below it.
 fn history_without_unread(alloc: Global, text: &str) -> Result<HistoryAndBelow, ReadHistoryError>
     ensures parsed { IfOk result (λ parts.
         IsHistoryInput true text.now (operations parts.history.items) parts.below.items) }
@@ -51,7 +51,7 @@ fn history_without_unread(alloc: Global, text: &str) -> Result<HistoryAndBelow, 
     }
 }
 
-/// The history of a reader's text without its unread pairs, and what stands below it.
+/// The history of a reader's text without its unread keys, and what stands below it.
 fn read_without_unread<R: Read>(
     alloc: Global,
     reader: &mut R,

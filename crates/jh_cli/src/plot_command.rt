@@ -21,8 +21,8 @@ use std::alloc::{AllocError, Global};
 use std::io::{Read, Write};
 
 /// Reads a history as `jh_histories::read_history_and_below` does, also out of what `run` or
-/// `drive` printed, without its unread pairs where `skips_unread` asks for that, and writes a page
-/// in HTML with the latency of each call, percentiles of the latencies and rates over time, as
+/// `drive` printed, without its unread keys where `skips_unread` asks for that, and writes a page in
+/// HTML with the latency of each call, percentiles of the latencies and rates over time, as
 /// `jh_plots::plot_of` places them. The times of faults are there where the records of the nemesis
 /// have their steps, as those of `drive` do. The answer is the exit status, 0. All is read, and the
 /// page made, before the first byte is written.

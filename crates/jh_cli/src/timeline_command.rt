@@ -59,7 +59,7 @@ struct Shown {
 }
 
 /// Reads a history as `jh_histories::read_history_and_below` does, or all that `run` printed,
-/// without its unread pairs where that is asked for, judges it by the checker of the workload, if
+/// without its unread keys where that is asked for, judges it by the checker of the workload, if
 /// there is one, and writes a page in HTML that shows the
 /// history: what was found in one sentence on top, as `jh_timeline_sections::title_of` says it,
 /// with the line of the checker folded below, and a notice where the input says another verdict;
