@@ -41,13 +41,12 @@ node_of env a = node_at (cells_of env) a
 abbrev pub work_of : EnvValue → ℕ
 work_of env = env.tallies.work
 
--- The environment stands for these faults, each with its stamp, in ascending order of stamps: its
--- tables do. `StandsFor`, below, says the same of faults without stamps.
+-- the environment stands for these faults, each with its stamp, in ascending order of stamps
 abbrev pub StandsWith : EnvValue → List (ℕ × FaultValue) → Type 0
 StandsWith env stamped = StandsAt (tables_of env) stamped
 
--- With some stamps the environment stands for these faults, in this order: its cells are what these
--- make of its start. That follows from `stands`, and is told for who reads of faults alone.
+-- with some stamps the environment stands for these faults, in this order: its cells are what these
+-- make of its start
 pub record StandsFor (env : EnvValue) (faults : List FaultValue) : Type 0 where
   pub stamped : List (ℕ × FaultValue)
   pub are : faults_of stamped ≡ faults
