@@ -1,4 +1,4 @@
-//! Banks: each read of all balances has the total. The bank of these rows has the accounts 0, 1 and "c" and the total 100.
+//! Banks: each read of all balances has the total. The bank of these rows has the accounts 0, 1, "c" and [2] and the total 100.
 
 use crate::rows::{Judge, first_wrong, refusal};
 use jh_bank::{Bank, BankResult, check_bank, write_bank};
@@ -8,13 +8,13 @@ use std::alloc::Global;
 
 /// The checker of a bank in which balances may be negative, or may not.
 #[derive(Clone, Copy)]
-struct Balances {
-    may_be_negative: bool,
+pub(crate) struct Balances {
+    pub(crate) may_be_negative: bool,
 }
 
 /// The bank. None: memory was refused.
 fn bank_of(alloc: Global, may_be_negative: bool) -> Option<Bank> {
-    let accounts = values_in_line(alloc, "1 \"c\" 0").ok()?;
+    let accounts = values_in_line(alloc, "1 \"c\" 0 (2)").ok()?;
     Bank::of(alloc, &accounts, 100, may_be_negative).ok()
 }
 

@@ -8,7 +8,7 @@ use std::alloc::Global;
 
 /// The checker of queues as a whole.
 #[derive(Clone, Copy)]
-struct TotalQueue;
+pub(crate) struct TotalQueue;
 
 /// The line of a result. None: memory was refused.
 fn line_of(alloc: Global, found: &TotalQueueResult) -> Option<Vec<u8>> {
@@ -87,7 +87,7 @@ fn bad_drains_are_refused(rt: HostRuntime) {
 
 /// The checker of queues whose dequeues each come from somewhere.
 #[derive(Clone, Copy)]
-struct Queue;
+pub(crate) struct Queue;
 
 /// The line of a result. None: memory was refused.
 fn queue_line_of(alloc: Global, found: &QueueResult) -> Option<Vec<u8>> {
