@@ -4,7 +4,7 @@ use jh_check::{Verdict, check_set};
 use jh_checkers::{Checker, Judging};
 use jh_histories::history_in;
 use jh_independent::{check_keys_serial, verdict_of_all};
-use jh_linear::{LinVerdict, Outcome, RegCall, RegOp, check, op_end, reg_op, reg_ops};
+use jh_linear::{LinVerdict, Object, Outcome, RegCall, RegOp, check, op_end, reg_op, reg_ops};
 use jh_ops::{Op, Pair, pair};
 use std::alloc::Global;
 
@@ -68,7 +68,7 @@ fn an_element_is_lost(rt: HostRuntime) {
 /// The verdict on a register that held 0 at first, by 1,000 configurations at most.
 fn verdict_on(alloc: Global, history: &[Op]) -> Option<LinVerdict> {
     let pairs = pair(alloc, history).ok()?;
-    let ops = reg_ops(alloc, history, &pairs).ok()?;
+    let ops = reg_ops(alloc, Object::Register, history, &pairs).ok()?;
     check(alloc, &ops, Some(0), 1_000).ok()
 }
 
@@ -81,7 +81,7 @@ fn a_write_that_nobody_saw_end_may_have_happened(rt: HostRuntime) {
 
 /// The operation of a register that a pair of a history stands for.
 fn operation_of(alloc: Global, pair: Pair) -> Option<Option<RegOp>> {
-    Some(reg_op(&operations_of(alloc, REGISTER)?, pair))
+    Some(reg_op(Object::Register, &operations_of(alloc, REGISTER)?, pair))
 }
 
 /// A read that answered 5, and a pair behind the end of the history.

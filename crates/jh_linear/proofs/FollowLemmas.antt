@@ -5,7 +5,7 @@ use Rattle.std.proofs.lemmas.Bool.{false≢true, eqb-true}
 use Rattle.jh_linear.specs.declared.register.RegOp.{RegOp}
 use Rattle.jh_linear.specs.Order.{op_at, IsDone, has, Allows}
 use Rattle.jh_linear.specs.SearchInside.{LeavesValue, MayComeNext, GoesOnWith}
-use Rattle.jh_linear.proofs.PlaceSetLemmas.{eqb_self, has_self, has_append, has_kept, has_push_same, has_push_cases, or_left, or_right, or_cases, not_true, false_if, test_cases}
+use Rattle.jh_linear.proofs.NumberSetLemmas.{eqb_self, has_self, has_append, has_kept, has_push_same, has_push_cases, or_left, or_right, or_cases, not_true, false_if, test_cases}
 
 pub may_follow_same : (ops : List RegOp) (a b : List ℕ) (p : ℕ) → ((q : ℕ) → has a q ≡ has b q) → MayComeNext ops a p → MayComeNext ops b p
 may_follow_same ops a b p same may = record {

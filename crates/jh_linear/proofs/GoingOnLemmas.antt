@@ -4,11 +4,11 @@ use Rattle.std.specs.Prelude.{Result, Ok, Err, IfOk, if◌then◌else◌}
 use Rattle.std.proofs.lemmas.Bool.{cases_lt}
 use Rattle.std.proofs.lemmas.List.{length-append}
 use Rattle.std.proofs.lemmas.Option.{get_or_from_slice_get}
-use Rattle.jh_linear.specs.declared.history.Problem.{Problem}
+use Rattle.jh_linear.specs.declared.sorted_ops.Problem.{Problem}
 use Rattle.jh_linear.specs.declared.config.Config.{Config}
 use Rattle.jh_linear.specs.declared.moves.Move.{Move}
 use Rattle.jh_linear.specs.declared.moves.Source.{Source}
-use Rattle.jh_linear.specs.declared.moves.Source.TheVariants.{Happened, Unknown}
+use Rattle.jh_linear.specs.declared.moves.Source.TheVariants.{Happened, NextOfClass}
 use Rattle.jh_linear.specs.declared.search.Added.TheVariants.{Known, New}
 use Rattle.jh_linear.specs.declared.search.Furthest.{Furthest}
 use Rattle.jh_linear.specs.declared.search.Search.{Search}
@@ -19,7 +19,7 @@ use Rattle.jh_linear.specs.declared.judge.ExpansionEnd.TheVariants.{More, Comple
 use Rattle.jh_linear.specs.declared.walk.WalkEnd.TheVariants.{Several, Stuck, Complete}
 use Rattle.jh_linear.specs.Order.{Allows, has, op_at}
 use Rattle.jh_linear.specs.Reached.{order_at}
-use Rattle.jh_linear.specs.SearchInside.{Adds, AreMoves, AreSame, AreTried, CanReach, EachIsMove, EndsAs, ComesOfEntering, Grows, GrowsTo, HasGone, IsSearchSoFar, IsFurthest, IsGoneOn, IsMadeBy, IsMove, IsMoved, IsProblem, CanBePlaced, IsWholeOrder, LeadsOn, Notes, LeadsTo, ComesOfExpansion, ComesOfMove, SearchLists, WasReached, WereTried, search_lists, source_call, class_at, end_at, invocation_at, next_at, source_place, stage_place, stages_in, unknown_place}
+use Rattle.jh_linear.specs.SearchInside.{Adds, AreMoves, AreSame, AreTried, CanReach, EachIsMove, EndsAs, ComesOfEntering, Grows, GrowsTo, HasGone, IsSearchSoFar, IsFurthest, IsGoneOn, IsMadeBy, IsMove, IsMoved, IsProblem, CanBePlaced, IsWholeOrder, LeadsOn, Notes, LeadsTo, ComesOfExpansion, ComesOfMove, SearchLists, WasReached, WereTried, search_lists, source_call, class_at, end_at, invocation_at, next_at, source_number, stage_number, stages_in, unknown_number}
 use Rattle.jh_linear.proofs.GrowthLemmas.{below, grows_far, grows_none, grows_order, grows_push, grows_trans, known_leads, leads_more, new_leads, stands_copy}
 use Rattle.jh_linear.specs.WaitingInside.{IsWith, awaits, expansions_left}
 use Rattle.jh_linear.proofs.LeadLemmas.{one_leads}
@@ -33,23 +33,23 @@ if_ok (Err e) f h = h
 
 -- ---- copies
 
-pub place_same : (problem : Problem) (a b : Config) → AreSame a b → (source : Source) → source_place problem a source ≡ source_place problem b source
-place_same problem a b same (Happened i) = ap (λ xs. get_or xs i 0) same.1
-place_same problem a b same (Unknown k) = ap (λ ns. unknown_place problem.history.unsure_changes.items (next_at ns k)) same.2
+pub number_same : (problem : Problem) (a b : Config) → AreSame a b → (source : Source) → source_number problem a source ≡ source_number problem b source
+number_same problem a b same (Happened i) = ap (λ xs. get_or xs i 0) same.1
+number_same problem a b same (NextOfClass k) = ap (λ ns. unknown_number problem.sorted.unsure_changes.items (next_at ns k)) same.2
 
 there_same : (problem : Problem) (a b : Config) → AreSame a b → (source : Source) → CanBePlaced problem a source → CanBePlaced problem b source
 there_same problem a b same (Happened i) h = subst (λ xs. i < length xs) same.1 h
-there_same problem a b same (Unknown k) h = (
-  (h.0.0, subst (λ ns. next_at ns k < (class_at problem.history.classes.items k).upto) same.2 h.0.1),
-  subst (λ s. invocation_at problem.ops.now (source_place problem b (Unknown k)) ≤ end_at problem.ops.now (stage_place problem s)) same.0
-      (subst (λ p. invocation_at problem.ops.now p ≤ end_at problem.ops.now (stage_place problem a.stage)) (place_same problem a b same (Unknown k)) h.1),
+there_same problem a b same (NextOfClass k) h = (
+  (h.0.0, subst (λ ns. next_at ns k < (class_at problem.sorted.classes.items k).upto) same.2 h.0.1),
+  subst (λ s. invocation_at problem.ops.now (source_number problem b (NextOfClass k)) ≤ end_at problem.ops.now (stage_number problem s)) same.0
+      (subst (λ p. invocation_at problem.ops.now p ≤ end_at problem.ops.now (stage_number problem a.stage)) (number_same problem a b same (NextOfClass k)) h.1),
 )
 
 pub move_same : (problem : Problem) (a b : Config) → AreSame a b → (move : Move) → IsMove problem a move → IsMove problem b move
 move_same problem a b same move h = (
   there_same problem a b same move.source h.0,
   subst (λ v. Allows (source_call problem b move.source) v move.value) same.3
-      (subst (λ p. Allows (op_at problem.ops.now p).call a.value move.value) (place_same problem a b same move.source) h.1),
+      (subst (λ p. Allows (op_at problem.ops.now p).call a.value move.value) (number_same problem a b same move.source) h.1),
 )
 
 -- ---- what is kept where lists are the same
@@ -133,8 +133,8 @@ module _ (problem : Problem) (stood : IsProblem problem) (old : Search) (begun :
   pub stands_here : LeadsTo problem order copy
   stands_here = stands_copy problem order config copy same (stands_copy problem order was.0 config was.2 (begun.known.stands at was.0 was.1))
 
-  place_is : source_place problem config next_move.source ≡ source_place problem copy next_move.source
-  place_is = place_same problem config copy same next_move.source
+  place_is : source_number problem config next_move.source ≡ source_number problem copy next_move.source
+  place_is = number_same problem config copy same next_move.source
 
   stands_made : LeadsTo problem (order ++ first) made
   stands_made = subst (λ o. LeadsTo problem (order ++ o) made) (sym makes.placed_is) (makes.after.stands order stands_here)
@@ -145,7 +145,7 @@ module _ (problem : Problem) (stood : IsProblem problem) (old : Search) (begun :
   pub some_placed : 0 < length placed
   some_placed = omega (arith, gone.longer, ap length makes.placed_is)
 
-  pub reach_next : (n : ℕ) → next.stage < n → n ≤ stages_in problem → CanReach problem n (order ++ source_place problem config next_move.source ∷ []) next_move.value → CanReach problem n (order ++ placed) next.value
+  pub reach_next : (n : ℕ) → next.stage < n → n ≤ stages_in problem → CanReach problem n (order ++ source_number problem config next_move.source ∷ []) next_move.value → CanReach problem n (order ++ placed) next.value
   reach_next n past few reach =
       let here : CanReach problem n (order ++ first) next_move.value = subst (λ o. CanReach problem n (order ++ o) next_move.value) (sym makes.placed_is) (subst (λ p. CanReach problem n (order ++ p ∷ []) next_move.value) place_is reach) in
       gone.carries order stands_made n past few (subst (λ v. CanReach problem n (order ++ first) v) (sym makes.after.value_is) here)
@@ -153,7 +153,7 @@ module _ (problem : Problem) (stood : IsProblem problem) (old : Search) (begun :
   pub whole : EndsAs problem next placed Complete → IsWholeOrder problem (order ++ placed)
   whole end = (
     (next.value, stands_next.follows),
-    λ q done. let r = stood.history.each_done q done in subst (λ p. has (order ++ placed) p ≡ true) r.2 (stands_next.known.passed r.0 (omega (arith, r.1, end))),
+    λ q done. let r = stood.done.each_done q done in subst (λ p. has (order ++ placed) p ≡ true) r.2 (stands_next.known.passed r.0 (omega (arith, r.1, end))),
   )
 
   pub tried_stuck : (new : Search) → EndsAs problem next placed Stuck → Notes old new at placed next.stage → ComesOfMove problem old new at config next_move More
@@ -179,7 +179,7 @@ module _ (problem : Problem) (stood : IsProblem problem) (old : Search) (begun :
 
   pub tried_entered : (mid new : Search) → EndsAs problem next placed Several → Notes old mid at placed next.stage → (end : ExpansionEnd) → ComesOfEntering problem mid new at placed next end → ComesOfMove problem old new at config next_move end
   tried_entered mid new ends notes More entered = tried_several mid new ends notes entered
-  tried_entered mid new ends notes (Whole places) entered = absurd entered
+  tried_entered mid new ends notes (Whole numbers) entered = absurd entered
   tried_entered mid new ends notes NoRoom entered = entered
 
 -- ---- all moves
@@ -198,7 +198,7 @@ tried_more problem stood old mid new at config moves count index d low is room b
           let here : i ≡ index = omega (arith, is, high, room, new') in
           let this : get_or moves index d ≡ move = ap (λ k. get_or moves k d) (sym here) ∙ get_or_from_slice_get moves i move d there in
           let moved : IsMoved problem mid new at config move = subst (IsMoved problem mid new at config) this one in
-          subst (λ (o : List ℕ). (stages : ℕ) → new.furthest.stage < stages → stages ≤ stages_in problem → CanReach problem stages (o ++ source_place problem config move.source ∷ []) move.value → LeadsOn problem new.configs.keys new.steps.items (length o) stages)
+          subst (λ (o : List ℕ). (stages : ℕ) → new.furthest.stage < stages → stages ≤ stages_in problem → CanReach problem stages (o ++ source_number problem config move.source ∷ []) move.value → LeadsOn problem new.configs.keys new.steps.items (length o) stages)
           (before.orders at low) moved
       | inr old' ↦ moved_more problem stood old mid new at config move begun on (tried i move (omega (arith, old')) there)
     ]

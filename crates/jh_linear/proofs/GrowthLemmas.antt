@@ -5,18 +5,18 @@ use Rattle.std.proofs.lemmas.Bool.{cases_lt}
 use Rattle.std.proofs.lemmas.List.{length_push, get_or_append_left, get_or_push}
 use Rattle.std.proofs.lemmas.List.Elements.{filter_agree}
 use Rattle.std.proofs.lemmas.Option.{slice_get_within}
-use Rattle.jh_linear.specs.declared.history.Problem.{Problem}
-use Rattle.jh_linear.specs.declared.history.Stage.{Stage}
+use Rattle.jh_linear.specs.declared.sorted_ops.Problem.{Problem}
+use Rattle.jh_linear.specs.declared.sorted_ops.Stage.{Stage}
 use Rattle.jh_linear.specs.declared.config.Config.{Config}
 use Rattle.jh_linear.specs.declared.search.Furthest.{Furthest}
 use Rattle.jh_linear.specs.declared.queue.RankedConfig.{RankedConfig}
 use Rattle.jh_linear.specs.declared.verdict.Step.{Step}
 use Rattle.jh_linear.specs.Order.{has}
 use Rattle.jh_linear.specs.Reached.{order_at, root}
-use Rattle.jh_linear.specs.SearchInside.{AreSame, CanReach, GoesOnWith, Grows, IsAt, IsFurthest, IsProblem, IsSearch, LeadsOn, LeadsTo, AreNext, SearchLists, arrivals_by, furthest_order, stage_place, stages_in, places_without}
+use Rattle.jh_linear.specs.SearchInside.{AreSame, CanReach, GoesOnWith, Grows, IsAt, IsFurthest, IsProblem, IsSearch, LeadsOn, LeadsTo, AreNext, SearchLists, arrivals_by, furthest_order, stage_number, stages_in, numbers_without}
 use Rattle.jh_linear.specs.WaitingInside.{IsWith, awaits, expansions_in, expansions_left}
 use Rattle.jh_linear.proofs.WaitingLemmas.{awaits_cases, awaits_kept, awaits_own, expansions_more}
-use Rattle.jh_linear.proofs.PlaceSetLemmas.{has_append, has_without, in_without, not_true, same_tests, true_if}
+use Rattle.jh_linear.proofs.NumberSetLemmas.{has_append, has_without, in_without, not_true, same_tests, true_if}
 use Rattle.jh_linear.proofs.MoveLemmas.{get_cases, get_kept, get_last}
 use Rattle.jh_linear.proofs.NextLemmas.{same_next, same_unknown}
 use Rattle.jh_linear.proofs.OrderLemmas.{no_more}
@@ -32,48 +32,48 @@ pub stands_copy : (problem : Problem) (order : List ℕ) (a b : Config) → AreS
 stands_copy problem order a b same stands = record {
   follows = subst (λ v. GoesOnWith problem.ops.now [] problem.initial order v) same.3 stands.follows;
   searched = stands.searched;
-  known = subst (λ p. IsAt problem.history.arrivals.items problem.history.stages.items order b.stage p) same.1 (subst (λ s. IsAt problem.history.arrivals.items problem.history.stages.items order s a.happened.items) same.0 stands.known);
-  used = subst (λ n. AreNext problem.history.unsure_changes.items problem.history.classes.items order n) same.2 stands.used;
+  known = subst (λ p. IsAt problem.sorted.arrivals.items problem.sorted.stages.items order b.stage p) same.1 (subst (λ s. IsAt problem.sorted.arrivals.items problem.sorted.stages.items order s a.happened.items) same.0 stands.known);
+  used = subst (λ n. AreNext problem.sorted.unsure_changes.items problem.sorted.classes.items order n) same.2 stands.used;
   low = subst (λ s. s ≤ stages_in problem) same.0 stands.low;
-  waits = let Waits : ℕ → Type 0 = λ s. s < stages_in problem → has order (stage_place problem s) ≡ false in subst Waits same.0 stands.waits;
+  waits = let Waits : ℕ → Type 0 = λ s. s < stages_in problem → has order (stage_number problem s) ≡ false in subst Waits same.0 stands.waits;
 }
 
--- what can be reached does not hang on how the places so far stand
+-- what can be reached does not hang on how the numbers so far stand
 reach_same : (problem : Problem) (n : ℕ) (a b : List ℕ) (v w : Option ℤ) → ((q : ℕ) → has a q ≡ has b q) → v ≡ w → CanReach problem n a v → CanReach problem n b w
-reach_same problem n a b v w places value reach = (
+reach_same problem n a b v w numbers value reach = (
   reach.0,
   reach.1,
-  follows_same problem.ops.now a b reach.0 w reach.1 places (subst (λ x. GoesOnWith problem.ops.now a x reach.0 reach.1) value reach.2),
-  λ k lt. has_append b reach.0 (stage_place problem k) ∙ ap (λ t. t || has reach.0 (stage_place problem k)) (sym (places _)) ∙ sym (has_append a reach.0 (stage_place problem k)) ∙ reach.3 k lt,
+  follows_same problem.ops.now a b reach.0 w reach.1 numbers (subst (λ x. GoesOnWith problem.ops.now a x reach.0 reach.1) value reach.2),
+  λ k lt. has_append b reach.0 (stage_number problem k) ∙ ap (λ t. t || has reach.0 (stage_number problem k)) (sym (numbers _)) ∙ sym (has_append a reach.0 (stage_number problem k)) ∙ reach.3 k lt,
 )
 
 module _ (problem : Problem) (stood : IsProblem problem) where
   abbrev arrivals : List ℕ
-  arrivals = problem.history.arrivals.items
+  arrivals = problem.sorted.arrivals.items
 
   abbrev stages : List Stage
-  stages = problem.history.stages.items
+  stages = problem.sorted.stages.items
 
-  -- a place in one of the orders of a configuration is in the other
+  -- a number in one of the orders of a configuration is in the other
   placed_too : (a b : List ℕ) (x y : Config) → LeadsTo problem a x → LeadsTo problem b y → AreSame x y → y.stage < stages_in problem → (q : ℕ) → has a q ≡ true → has b q ≡ true
   placed_too a b x y ax by same lt q h =
       let also : x.stage < stages_in problem = omega (arith, same.0, lt) in
       let where' : arrivals_by arrivals stages x.stage ≡ arrivals_by arrivals stages y.stage = ap (λ k. arrivals_by arrivals stages k) same.0 in
-      let pending : places_without a (arrivals_by arrivals stages x.stage) ≡ places_without b (arrivals_by arrivals stages y.stage) = sym (ax.known.pending_is also) ∙ same.1 ∙ by.known.pending_is lt in
+      let pending : numbers_without a (arrivals_by arrivals stages x.stage) ≡ numbers_without b (arrivals_by arrivals stages y.stage) = sym (ax.known.pending_is also) ∙ same.1 ∙ by.known.pending_is lt in
       elim (ax.searched q h) as (λ _. has b q ≡ true) [
         | inl done ↦ true_if _ (λ out.
-            let here = subst (λ xs. has xs q ≡ true) where' (ax.known.arrived also q h (stood.history.all q done)) in
+            let here = subst (λ xs. has xs q ≡ true) where' (ax.known.arrived also q h (stood.done.all q done)) in
             let left = has_without b _ q here out in
             not_true _ h (in_without a _ q (subst (λ xs. has xs q ≡ true) (sym pending) left)).1)
-        | inr un ↦ sym (same_unknown problem.ops.now problem.history.unsure_changes.items problem.history.classes.items stood.classes a b x.next.items y.next.items ax.used by.used same.2 q un) ∙ h
+        | inr un ↦ sym (same_unknown problem.ops.now problem.sorted.unsure_changes.items problem.sorted.classes.items stood.classes a b x.next.items y.next.items ax.used by.used same.2 q un) ∙ h
       ]
 
-  -- the same configuration stands for the same places
-  pub same_places : (a b : List ℕ) (x y : Config) → LeadsTo problem a x → LeadsTo problem b y → AreSame x y → y.stage < stages_in problem → (q : ℕ) → has a q ≡ has b q
-  same_places a b x y ax by same lt q =
+  -- the same configuration stands for the same numbers
+  pub same_numbers : (a b : List ℕ) (x y : Config) → LeadsTo problem a x → LeadsTo problem b y → AreSame x y → y.stage < stages_in problem → (q : ℕ) → has a q ≡ has b q
+  same_numbers a b x y ax by same lt q =
       same_tests (has a q) (has b q) (placed_too a b x y ax by same lt q) (placed_too b a y x by ax (same_flip x y same) (omega (arith, same.0, lt)) q)
 
-  -- configurations with the same places and the same value are the same
+  -- configurations with the same numbers and the same value are the same
   same_stage : (a b : List ℕ) (x y : Config) → LeadsTo problem a x → LeadsTo problem b y → x.stage < stages_in problem → ((q : ℕ) → has a q ≡ has b q) → x.stage < y.stage → ⊥
   same_stage a b x y ax by low same lt = not_true _ (same _ ∙ by.known.passed x.stage lt) (ax.waits low)
 
@@ -89,13 +89,13 @@ module _ (problem : Problem) (stood : IsProblem problem) where
         one,
         ax.known.pending_is xl
             ∙ filter_agree (λ p. not (has a p)) (λ p. not (has b p)) (λ p. ap not (same p)) (arrivals_by arrivals stages x.stage)
-            ∙ ap (λ k. places_without b (arrivals_by arrivals stages k)) one
+            ∙ ap (λ k. numbers_without b (arrivals_by arrivals stages k)) one
             ∙ sym (by.known.pending_is yl),
-        same_next problem.ops.now problem.history.unsure_changes.items problem.history.classes.items stood.classes a b x.next.items y.next.items ax.used by.used same,
+        same_next problem.ops.now problem.sorted.unsure_changes.items problem.sorted.classes.items stood.classes a b x.next.items y.next.items ax.used by.used same,
         value,
       )
 
-  -- two orders with the same places are as long as each other
+  -- two orders with the same numbers are as long as each other
   same_length : (a b : List ℕ) (x y : Config) → LeadsTo problem a x → LeadsTo problem b y → ((q : ℕ) → has a q ≡ has b q) → length a ≤ length b
   same_length a b x y ax by same = no_more a b (distinct problem.ops.now [] a problem.initial x.value ax.follows) (λ q h. sym (same q) ∙ h)
 
@@ -107,9 +107,9 @@ module _ (problem : Problem) (stood : IsProblem problem) where
     pub known_leads : (config found : Config) (i size n : ℕ) (order : List ℕ) → LeadsTo problem order config → slice_get cs i ≡ Some found → AreSame config found → size < length order → CanReach problem n order config.value → LeadsOn problem cs ss size n
     known_leads config found i size n order stands is same longer reach =
         let there = search.stands i found is in
-        let places = same_places order (order_at ss i) config found stands there same (search.open' i found is) in
-        let long : length order ≤ length (order_at ss i) = same_length order (order_at ss i) config found stands there places in
-        (i, found, is, omega (arith, longer, long), reach_same problem n order (order_at ss i) config.value found.value places same.3 reach)
+        let numbers = same_numbers order (order_at ss i) config found stands there same (search.open' i found is) in
+        let long : length order ≤ length (order_at ss i) = same_length order (order_at ss i) config found stands there numbers in
+        (i, found, is, omega (arith, longer, long), reach_same problem n order (order_at ss i) config.value found.value numbers same.3 reach)
 
     pub new_leads : (config : Config) (step : Step) (size n : ℕ) → size < length (order_at ss step.parent ++ step.placed) → CanReach problem n (order_at ss step.parent ++ step.placed) config.value
         → LeadsOn problem (cs ++ config ∷ []) (ss ++ step ∷ []) size n
@@ -167,7 +167,7 @@ module _ (problem : Problem) (stood : IsProblem problem) where
           open' = far.open';
           value = far.value;
           follows = subst (λ o. GoesOnWith problem.ops.now [] problem.initial o far.value) (sym same) far.follows;
-          passed = λ k lt. subst (λ o. has o (stage_place problem k) ≡ true) (sym same) (far.passed k lt);
+          passed = λ k lt. subst (λ o. has o (stage_number problem k) ≡ true) (sym same) (far.passed k lt);
           most = λ i c is. elim (get_cases cs config c i is) as (λ _. c.stage ≤ furthest.stage) [
             | inl old ↦ far.most i c old
             | inr new ↦ subst (λ d. d.stage ≤ furthest.stage) new.1 low

@@ -5,7 +5,7 @@ use Rattle.std.specs.List.{list_any}
 use Rattle.std.proofs.lemmas.Bool.{false≢true}
 use Rattle.std.proofs.lemmas.Map.Steps.{length-le_from_distinct_below}
 use Rattle.jh_linear.specs.declared.register.RegOp.{RegOp}
-use Rattle.jh_linear.specs.declared.history.Problem.{Problem}
+use Rattle.jh_linear.specs.declared.sorted_ops.Problem.{Problem}
 use Rattle.jh_linear.specs.declared.config.Config.{Config}
 use Rattle.jh_linear.specs.declared.queue.RankedConfig.{RankedConfig}
 use Rattle.jh_linear.specs.declared.search.Furthest.{Furthest}
@@ -15,10 +15,10 @@ use Rattle.jh_linear.specs.Order.{has, IsDone, IsOrder}
 use Rattle.jh_linear.specs.Reached.{AreReached, order_at, root}
 use Rattle.jh_linear.specs.SearchInside.{CanReach, IsExhausted, IsFull, IsFurthest, IsGoneOn, IsSearchKept, IsProblem, IsSearch, IsExpanded, IsWholeOrder, LeadsTo, search_lists, stages_in}
 use Rattle.jh_linear.specs.WaitingInside.{IsWith, awaits, expansions_in}
-use Rattle.jh_linear.proofs.PlaceSetLemmas.{or_cases, or_left, or_right, place_of}
+use Rattle.jh_linear.proofs.NumberSetLemmas.{or_cases, or_left, or_right, place_of}
 use Rattle.jh_linear.proofs.WaitingLemmas.{awaits_both, awaits_cases, awaits_kept, awaits_own, expansions_both, expansions_more}
 use Rattle.jh_linear.proofs.MoveLemmas.{get_cases, nothing_there}
-use Rattle.jh_linear.proofs.PartialLemmas.{distinct, one_last, partial, places, runs}
+use Rattle.jh_linear.proofs.PartialLemmas.{distinct, one_last, partial, are_there, runs}
 use Rattle.jh_linear.proofs.OrderLemmas.{member_is}
 use Rattle.jh_linear.proofs.StepLemmas.{order_first}
 use Rattle.jh_linear.proofs.GrowthLemmas.{are_alike, below, leads_more}
@@ -189,7 +189,7 @@ module _ (problem : Problem) (stood : IsProblem problem) where
         let ops : List RegOp = problem.ops.now in
         let order : List ℕ = order_at search.steps.items i in
         let stands = done.0.begun.known.stands i c is in
-        let there = places ops [] order problem.initial c.value stands.follows in
+        let there = are_there ops [] order problem.initial c.value stands.follows in
         let short = length-le_from_distinct_below order (length ops) (distinct ops [] order problem.initial c.value stands.follows)
         (λ q h. let r = place_of order q (turned order q h) in subst (λ p. p < length ops) r.2 (there r.0 0 r.1)) in
         omega (arith, long, short)

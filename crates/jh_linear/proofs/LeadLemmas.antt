@@ -7,13 +7,13 @@ use Rattle.jh_linear.specs.declared.register.Outcome.{Outcome}
 use Rattle.jh_linear.specs.declared.register.Outcome.TheVariants.{Done, Failed, Unsure}
 use Rattle.jh_linear.specs.declared.register.RegCall.{RegCall}
 use Rattle.jh_linear.specs.declared.register.RegCall.TheVariants.{Read, Write, Cas}
-use Rattle.jh_linear.specs.declared.history.Problem.{Problem}
+use Rattle.jh_linear.specs.declared.sorted_ops.Problem.{Problem}
 use Rattle.jh_linear.specs.declared.config.Config.{Config}
 use Rattle.jh_linear.specs.declared.moves.Move.{Move}
-use Rattle.jh_linear.specs.declared.moves.Source.TheVariants.{Happened, Unknown}
+use Rattle.jh_linear.specs.declared.moves.Source.TheVariants.{Happened, NextOfClass}
 use Rattle.jh_linear.specs.Order.{op_at, IsDone, Precedes, IsPossible, EndsBefore, has, Allows}
-use Rattle.jh_linear.specs.SearchInside.{AreMoves, CanReach, GoesOnWith, HasHappened, HasUnknown, IsNoneSettled, IsProblem, IsReady, IsUnsureChange, IsWanted, LeavesValue, MayComeNext, Needs, LeadsTo, source_call, class_at, is_unsure_change, next_at, source_place, stage_place, stages_in}
-use Rattle.jh_linear.proofs.PlaceSetLemmas.{has_append, has_here, has_kept, has_one, has_self, not_true, or_cases, or_left, or_right, place_of as index_of, test_cases}
+use Rattle.jh_linear.specs.SearchInside.{AreMoves, CanReach, GoesOnWith, HasHappened, HasUnknown, IsNoneSettled, IsProblem, IsReady, IsUnsureChange, IsWanted, LeavesValue, MayComeNext, Needs, LeadsTo, source_call, class_at, is_unsure_change, next_at, source_number, stage_number, stages_in}
+use Rattle.jh_linear.proofs.NumberSetLemmas.{has_append, has_here, has_kept, has_one, has_self, not_true, or_cases, or_left, or_right, place_of as index_of, test_cases}
 use Rattle.jh_linear.proofs.StageLemmas.{is_pending, of_pending, unknown_not_done}
 use Rattle.jh_linear.proofs.NextLemmas.{class_of, is_unknown_at}
 use Rattle.jh_linear.proofs.FollowLemmas.{after_twin, follows_less, follows_more, may_without, taken_out}
@@ -83,10 +83,10 @@ module _ (problem : Problem) (stood : IsProblem problem) (n : ℕ) (few : n ≤ 
   ops = problem.ops.now
 
   abbrev Covers : List ℕ → Type 0
-  Covers order = (k : ℕ) → k < n → has order (stage_place problem k) ≡ true
+  Covers order = (k : ℕ) → k < n → has order (stage_number problem k) ≡ true
 
-  done : (k : ℕ) → k < n → IsDone ops (stage_place problem k)
-  done k lt = stood.history.are_done k (omega (arith, lt, few))
+  done : (k : ℕ) → k < n → IsDone ops (stage_number problem k)
+  done k lt = stood.done.are_done k (omega (arith, lt, few))
 
   -- an operation that leaves the value is placed at once
   settled_leads : (order : List ℕ) (value : Option ℤ) (p : ℕ) → LeavesValue (op_at ops p).call → has order p ≡ false → CanReach problem n order value → CanReach problem n (order ++ p ∷ []) value
@@ -97,9 +97,9 @@ module _ (problem : Problem) (stood : IsProblem problem) (n : ℕ) (few : n ≤ 
               t.0,
               reach.1,
               t.2,
-              λ k lt. join (order ++ p ∷ []) t.0 _ (elim (halves order reach.0 _ (reach.3 k lt)) as (λ _. (has (order ++ p ∷ []) (stage_place problem k) ≡ true) ⊎ (has t.0 (stage_place problem k) ≡ true)) [
+              λ k lt. join (order ++ p ∷ []) t.0 _ (elim (halves order reach.0 _ (reach.3 k lt)) as (λ _. (has (order ++ p ∷ []) (stage_number problem k) ≡ true) ⊎ (has t.0 (stage_number problem k) ≡ true)) [
                 | inl old ↦ inl (has_kept order p _ old)
-                | inr later ↦ elim (t.3 _ later) as (λ _. (has (order ++ p ∷ []) (stage_place problem k) ≡ true) ⊎ (has t.0 (stage_place problem k) ≡ true)) [
+                | inr later ↦ elim (t.3 _ later) as (λ _. (has (order ++ p ∷ []) (stage_number problem k) ≡ true) ⊎ (has t.0 (stage_number problem k) ≡ true)) [
                   | inl is ↦ inl (subst (λ q. has (order ++ p ∷ []) q ≡ true) is (has_self order p))
                   | inr rest ↦ inr rest
                 ]
@@ -109,7 +109,7 @@ module _ (problem : Problem) (stood : IsProblem problem) (n : ℕ) (few : n ≤ 
           reach.0,
           reach.1,
           follows_more ops p order reach.0 value reach.1 none reach.2,
-          λ k lt. join (order ++ p ∷ []) reach.0 _ (elim (halves order reach.0 _ (reach.3 k lt)) as (λ _. (has (order ++ p ∷ []) (stage_place problem k) ≡ true) ⊎ (has reach.0 (stage_place problem k) ≡ true)) [
+          λ k lt. join (order ++ p ∷ []) reach.0 _ (elim (halves order reach.0 _ (reach.3 k lt)) as (λ _. (has (order ++ p ∷ []) (stage_number problem k) ≡ true) ⊎ (has reach.0 (stage_number problem k) ≡ true)) [
             | inl old ↦ inl (has_kept order p _ old)
             | inr later ↦ inr later
           ]),
@@ -122,9 +122,9 @@ module _ (problem : Problem) (stood : IsProblem problem) (n : ℕ) (few : n ≤ 
     rest,
     last,
     follows,
-    λ k lt. join (order ++ x ∷ []) rest _ (elim (halves order (x ∷ rest) _ (covers k lt)) as (λ _. (has (order ++ x ∷ []) (stage_place problem k) ≡ true) ⊎ (has rest (stage_place problem k) ≡ true)) [
+    λ k lt. join (order ++ x ∷ []) rest _ (elim (halves order (x ∷ rest) _ (covers k lt)) as (λ _. (has (order ++ x ∷ []) (stage_number problem k) ≡ true) ⊎ (has rest (stage_number problem k) ≡ true)) [
       | inl old ↦ inl (has_kept order x _ old)
-      | inr later ↦ elim (or_cases (eqb x (stage_place problem k)) (has rest (stage_place problem k)) later) as (λ _. (has (order ++ x ∷ []) (stage_place problem k) ≡ true) ⊎ (has rest (stage_place problem k) ≡ true)) [
+      | inr later ↦ elim (or_cases (eqb x (stage_number problem k)) (has rest (stage_number problem k)) later) as (λ _. (has (order ++ x ∷ []) (stage_number problem k) ≡ true) ⊎ (has rest (stage_number problem k) ≡ true)) [
         | inl is ↦ inl (subst (λ q. has (order ++ x ∷ []) q ≡ true) (eqb-true x _ is) (has_self order x))
         | inr on ↦ inr on
       ]
@@ -134,9 +134,9 @@ module _ (problem : Problem) (stood : IsProblem problem) (n : ℕ) (few : n ≤ 
   -- what did not surely happen is not needed for a stage
   without_first : (order : List ℕ) (x : ℕ) (rest : List ℕ) → (IsDone ops x → ⊥) → Covers (order ++ x ∷ rest) → Covers (order ++ rest)
   without_first order x rest not_done covers k lt =
-      join order rest _ (elim (halves order (x ∷ rest) _ (covers k lt)) as (λ _. (has order (stage_place problem k) ≡ true) ⊎ (has rest (stage_place problem k) ≡ true)) [
+      join order rest _ (elim (halves order (x ∷ rest) _ (covers k lt)) as (λ _. (has order (stage_number problem k) ≡ true) ⊎ (has rest (stage_number problem k) ≡ true)) [
         | inl old ↦ inl old
-        | inr later ↦ elim (or_cases (eqb x (stage_place problem k)) (has rest (stage_place problem k)) later) as (λ _. (has order (stage_place problem k) ≡ true) ⊎ (has rest (stage_place problem k) ≡ true)) [
+        | inr later ↦ elim (or_cases (eqb x (stage_number problem k)) (has rest (stage_number problem k)) later) as (λ _. (has order (stage_number problem k) ≡ true) ⊎ (has rest (stage_number problem k) ≡ true)) [
           | inl is ↦ absurd (not_done (subst (IsDone ops) (sym (eqb-true x _ is)) (done k lt)))
           | inr on ↦ inr on
         ]
@@ -144,20 +144,20 @@ module _ (problem : Problem) (stood : IsProblem problem) (n : ℕ) (few : n ≤ 
 
   without_second : (order : List ℕ) (x y : ℕ) (rest : List ℕ) → (IsDone ops y → ⊥) → Covers (order ++ x ∷ y ∷ rest) → Covers (order ++ x ∷ rest)
   without_second order x y rest not_done covers k lt =
-      join order (x ∷ rest) _ (elim (halves order (x ∷ y ∷ rest) _ (covers k lt)) as (λ _. (has order (stage_place problem k) ≡ true) ⊎ (has (x ∷ rest) (stage_place problem k) ≡ true)) [
+      join order (x ∷ rest) _ (elim (halves order (x ∷ y ∷ rest) _ (covers k lt)) as (λ _. (has order (stage_number problem k) ≡ true) ⊎ (has (x ∷ rest) (stage_number problem k) ≡ true)) [
         | inl old ↦ inl old
-        | inr later ↦ elim (or_cases (eqb x (stage_place problem k)) (has (y ∷ rest) (stage_place problem k)) later) as (λ _. (has order (stage_place problem k) ≡ true) ⊎ (has (x ∷ rest) (stage_place problem k) ≡ true)) [
-          | inl is ↦ inr (or_left (eqb x (stage_place problem k)) _ is)
-          | inr on ↦ elim (or_cases (eqb y (stage_place problem k)) (has rest (stage_place problem k)) on) as (λ _. (has order (stage_place problem k) ≡ true) ⊎ (has (x ∷ rest) (stage_place problem k) ≡ true)) [
+        | inr later ↦ elim (or_cases (eqb x (stage_number problem k)) (has (y ∷ rest) (stage_number problem k)) later) as (λ _. (has order (stage_number problem k) ≡ true) ⊎ (has (x ∷ rest) (stage_number problem k) ≡ true)) [
+          | inl is ↦ inr (or_left (eqb x (stage_number problem k)) _ is)
+          | inr on ↦ elim (or_cases (eqb y (stage_number problem k)) (has rest (stage_number problem k)) on) as (λ _. (has order (stage_number problem k) ≡ true) ⊎ (has (x ∷ rest) (stage_number problem k) ≡ true)) [
             | inl is ↦ absurd (not_done (subst (IsDone ops) (sym (eqb-true y _ is)) (done k lt)))
-            | inr far ↦ inr (or_right (eqb x (stage_place problem k)) _ far)
+            | inr far ↦ inr (or_right (eqb x (stage_number problem k)) _ far)
           ]
         ]
       ])
 
   module _ (order : List ℕ) (config : Config) (stands : LeadsTo problem order config) (open'' : config.stage < n) where
     abbrev Last : ℕ
-    Last = stage_place problem config.stage
+    Last = stage_number problem config.stage
 
     room : config.stage < stages_in problem
     room = omega (arith, open'', few)
@@ -165,13 +165,13 @@ module _ (problem : Problem) (stood : IsProblem problem) (n : ℕ) (few : n ≤ 
     -- the class of an operation of unknown outcome that is not placed, and may come before the end of the stage
     abbrev Class : ℕ → Type 0
     Class z =
-        (k : ℕ) × IsReady problem config k × (source_call problem config (Unknown k) ≡ (op_at ops z).call)
-        × (has order (source_place problem config (Unknown k)) ≡ false) × IsUnsureChange ops (source_place problem config (Unknown k))
+        (k : ℕ) × IsReady problem config k × (source_call problem config (NextOfClass k) ≡ (op_at ops z).call)
+        × (has order (source_number problem config (NextOfClass k)) ≡ false) × IsUnsureChange ops (source_number problem config (NextOfClass k))
 
     ready_class : (z : ℕ) → IsUnsureChange ops z → has order z ≡ false → (Precedes ops Last z → ⊥) → Class z
     ready_class z un fresh early =
         let classes = stood.classes in
-        let r = class_of ops problem.history.unsure_changes.items problem.history.classes.items classes z un in
+        let r = class_of ops problem.sorted.unsure_changes.items problem.sorted.classes.items classes z un in
         let k : ℕ = r.0 in
         let j : ℕ = r.1 in
         let m : ℕ = next_at config.next.items k in
@@ -180,29 +180,29 @@ module _ (problem : Problem) (stood : IsProblem problem) (n : ℕ) (few : n ≤ 
           | inl lt ↦ absurd (not_true _ (stands.used.placed k j r.2 r.3 ∙ lt-ltb j m lt) (subst (λ q. has order q ≡ false) (sym r.4) fresh))
           | inr ge ↦ ge
         ] in
-        let left : m < (class_at problem.history.classes.items k).upto = omega (arith, later, r.3.1) in
+        let left : m < (class_at problem.sorted.classes.items k).upto = omega (arith, later, r.3.1) in
         let twins = classes.twins k m j r.2 (bounds.0, left) r.3 later in
-        let p : ℕ = source_place problem config (Unknown k) in
+        let p : ℕ = source_number problem config (NextOfClass k) in
         let call : (op_at ops p).call ≡ (op_at ops z).call = twins.0 ∙ ap (λ q. (op_at ops q).call) r.4 in
         let sooner : (op_at ops p).invoked ≤ (op_at ops z).invoked = subst (λ q. (op_at ops p).invoked ≤ (op_at ops q).invoked) r.4 twins.1 in (
           k,
           ((r.2, left), λ before. early (before.0, ends_sooner (op_at ops Last).ended (op_at ops p).invoked (op_at ops z).invoked sooner before.1)),
           call,
           stands.used.placed k m r.2 (bounds.0, left) ∙ le-ltb m m (omega arith),
-          is_unknown_at ops problem.history.unsure_changes.items problem.history.classes.items classes m (omega (arith, left, (classes.bounded k r.2).1)),
+          is_unknown_at ops problem.sorted.unsure_changes.items problem.sorted.classes.items classes m (omega (arith, left, (classes.bounded k r.2).1)),
         )
 
     -- a move that leads on
     abbrev Led : List Move → Type 0
-    Led moves = (i : ℕ) × (move : Move) × (slice_get moves i ≡ Some move) × CanReach problem n (order ++ source_place problem config move.source ∷ []) move.value
+    Led moves = (i : ℕ) × (move : Move) × (slice_get moves i ≡ Some move) × CanReach problem n (order ++ source_number problem config move.source ∷ []) move.value
 
-    led_by : (moves : List Move) (i : ℕ) (move : Move) (p : ℕ) (next : Option ℤ) → slice_get moves i ≡ Some move → source_place problem config move.source ≡ p → move.value ≡ next → CanReach problem n (order ++ p ∷ []) next → Led moves
-    led_by moves i move p next is place value reach =
-        (i, move, is, subst (λ q. CanReach problem n (order ++ q ∷ []) move.value) (sym place) (subst (λ v. CanReach problem n (order ++ p ∷ []) v) (sym value) reach))
+    led_by : (moves : List Move) (i : ℕ) (move : Move) (p : ℕ) (next : Option ℤ) → slice_get moves i ≡ Some move → source_number problem config move.source ≡ p → move.value ≡ next → CanReach problem n (order ++ p ∷ []) next → Led moves
+    led_by moves i move p next is number value reach =
+        (i, move, is, subst (λ q. CanReach problem n (order ++ q ∷ []) move.value) (sym number) (subst (λ v. CanReach problem n (order ++ p ∷ []) v) (sym value) reach))
 
-    pending_at : (x : ℕ) → IsDone ops x → MayComeNext ops order x → (i : ℕ) × (i < length config.happened.items) × (source_place problem config (Happened i) ≡ x)
+    pending_at : (x : ℕ) → IsDone ops x → MayComeNext ops order x → (i : ℕ) × (i < length config.happened.items) × (source_number problem config (Happened i) ≡ x)
     pending_at x is may =
-        index_of config.happened.items x (is_pending ops problem.history.arrivals.items problem.history.stages.items stood.history order config.stage config.happened.items x stands.known room (stands.waits room) is may)
+        index_of config.happened.items x (is_pending ops problem.sorted.arrivals.items problem.sorted.stages.items stood.done order config.stage config.happened.items x stands.known room (stands.waits room) is may)
 
     -- what needs the value and may come behind an unknown operation is wanted
     wanted_by : (x y : ℕ) (next : Option ℤ) → (IsDone ops x → ⊥) → MayComeNext ops (order ++ x ∷ []) y → Needs (op_at ops y).call next → IsDone ops y ⊎ IsUnsureChange ops y → IsWanted problem config next
@@ -219,35 +219,35 @@ module _ (problem : Problem) (stood : IsProblem problem) (n : ℕ) (few : n ≤ 
     module _ (moves : List Move) (are : AreMoves problem config moves) where
       -- the first one left of the class is tried, and stands for the one that comes first
       class_leads : (x : ℕ) (rest : List ℕ) (next last : Option ℤ) → IsUnsureChange ops x → MayComeNext ops order x → Allows (op_at ops x).call config.value next → IsWanted problem config next
-          → ((k : ℕ) → IsReady problem config k → Allows (source_call problem config (Unknown k)) config.value next → (i : ℕ) × (move : Move) × (slice_get moves i ≡ Some move) × (move.source ≡ Unknown k) × (move.value ≡ next))
+          → ((k : ℕ) → IsReady problem config k → Allows (source_call problem config (NextOfClass k)) config.value next → (i : ℕ) × (move : Move) × (slice_get moves i ≡ Some move) × (move.source ≡ NextOfClass k) × (move.value ≡ next))
           → GoesOnWith ops (order ++ x ∷ []) next rest last → Covers (order ++ x ∷ rest) → Led moves
       class_leads x rest next last un may allowed wanted tried follows covers =
           let c = ready_class x un may.fresh (λ late. not_true _ (may.ready Last late) (stands.waits room)) in
-          let p : ℕ = source_place problem config (Unknown c.0) in
+          let p : ℕ = source_number problem config (NextOfClass c.0) in
           let m = tried c.0 c.1 (subst (λ (call : RegCall). Allows call config.value next) (sym c.2) allowed) in
           let not_x : IsDone ops x → ⊥ = unknown_not_done ops x un in
           let not_p : IsDone ops p → ⊥ = unknown_not_done ops p c.4 in
           let t = after_twin ops x not_x p (sym c.2) not_p order rest next last may c.3 follows in
-          let place : source_place problem config m.1.source ≡ p = ap (source_place problem config) m.3 in
-          led_by moves m.0 m.1 p next m.2 place m.4 (
+          let number : source_number problem config m.1.source ≡ p = ap (source_number problem config) m.3 in
+          led_by moves m.0 m.1 p next m.2 number m.4 (
             t.0,
             last,
             t.2,
-            λ k lt. join (order ++ p ∷ []) t.0 _ (elim (halves order rest _ (without_first order x rest not_x covers k lt)) as (λ _. (has (order ++ p ∷ []) (stage_place problem k) ≡ true) ⊎ (has t.0 (stage_place problem k) ≡ true)) [
+            λ k lt. join (order ++ p ∷ []) t.0 _ (elim (halves order rest _ (without_first order x rest not_x covers k lt)) as (λ _. (has (order ++ p ∷ []) (stage_number problem k) ≡ true) ⊎ (has t.0 (stage_number problem k) ≡ true)) [
               | inl old ↦ inl (has_kept order p _ old)
               | inr later ↦ inr (t.3 _ (done k lt) later)
             ]),
           )
 
-      module _ (happened : HasHappened problem config moves (length config.happened.items)) (unknown : HasUnknown problem config moves (length problem.history.classes.items)) (none : IsNoneSettled problem config (length config.happened.items)) where
+      module _ (happened : HasHappened problem config moves (length config.happened.items)) (unknown : HasUnknown problem config moves (length problem.sorted.classes.items)) (none : IsNoneSettled problem config (length config.happened.items)) where
         done_leads : (x : ℕ) (rest : List ℕ) (next last : Option ℤ) → IsDone ops x → MayComeNext ops order x → Allows (op_at ops x).call config.value next → GoesOnWith ops (order ++ x ∷ []) next rest last → Covers (order ++ x ∷ rest) → Led moves
         done_leads x rest next last is may allowed follows covers =
             let r = pending_at x is may in
             let m = happened r.0 next r.1 (subst (λ q. Allows (op_at ops q).call config.value next) (sym r.2) allowed) in
-            led_by moves m.0 m.1 x next m.2 (ap (source_place problem config) m.3 ∙ r.2) m.4 (first_leads order x rest next last follows covers)
+            led_by moves m.0 m.1 x next m.2 (ap (source_number problem config) m.3 ∙ r.2) m.4 (first_leads order x rest next last follows covers)
 
-        tried_by : (next : Option ℤ) → IsWanted problem config next → (k : ℕ) → IsReady problem config k → Allows (source_call problem config (Unknown k)) config.value next
-            → (i : ℕ) × (move : Move) × (slice_get moves i ≡ Some move) × (move.source ≡ Unknown k) × (move.value ≡ next)
+        tried_by : (next : Option ℤ) → IsWanted problem config next → (k : ℕ) → IsReady problem config k → Allows (source_call problem config (NextOfClass k)) config.value next
+            → (i : ℕ) × (move : Move) × (slice_get moves i ≡ Some move) × (move.source ≡ NextOfClass k) × (move.value ≡ next)
         tried_by next wanted k ready allowed = unknown k next ready.0.0 ready allowed wanted
 
         by_size : (size : ℕ) (back : List ℕ) (last : Option ℤ) → length back ≤ size → GoesOnWith ops order config.value back last → Covers (order ++ back) → Led moves
@@ -311,9 +311,9 @@ module _ (problem : Problem) (stood : IsProblem problem) (n : ℕ) (few : n ≤ 
       pub one_leads : CanReach problem n order config.value → Led moves
       one_leads reach = elim are.enough as (λ _. Led moves) [
         | inl s ↦
-            let p : ℕ = source_place problem config (Happened s.0) in
-            let fresh = (of_pending ops problem.history.arrivals.items problem.history.stages.items stood.history order config.stage config.happened.items p stands.known room (has_here config.happened.items s.0 s.1.0)).1 in
+            let p : ℕ = source_number problem config (Happened s.0) in
+            let fresh = (of_pending ops problem.sorted.arrivals.items problem.sorted.stages.items stood.done order config.stage config.happened.items p stands.known room (has_here config.happened.items s.0 s.1.0)).1 in
             let m = s.2 in
-            led_by moves m.0 m.1 p config.value m.2 (ap (source_place problem config) m.3) m.4 (settled_leads order config.value p s.1.1.1 fresh reach)
+            led_by moves m.0 m.1 p config.value m.2 (ap (source_number problem config) m.3) m.4 (settled_leads order config.value p s.1.1.1 fresh reach)
         | inr r ↦ by_size r.0 r.1 r.2 (length reach.0) reach.0 reach.1 (omega arith) reach.2 reach.3
       ]

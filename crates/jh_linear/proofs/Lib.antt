@@ -1,4 +1,4 @@
-pub mod PlaceSetLemmas
+pub mod NumberSetLemmas
 pub mod StageLemmas
 pub mod NextLemmas
 pub mod FollowLemmas
@@ -12,7 +12,7 @@ pub mod WaitingLemmas
 pub mod PartialLemmas
 pub mod OrderLemmas
 pub mod EntryLemmas
-pub mod HistoryLemmas
+pub mod SortedLemmas
 pub mod OperationLemmas
 pub mod GrowthLemmas
 pub mod GoingOnLemmas

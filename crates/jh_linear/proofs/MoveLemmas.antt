@@ -2,10 +2,10 @@
 use Rattle.std.proofs.Common.{◌≡◌, ℕ, zero, suc, ◌+◌, ◌<◌, ℤ, Option, Some, List, [], ◌∷◌, ◌++◌, length, get_or, slice_get, take, refl, sym, ap, subst, inl, inr, arith}
 use Rattle.std.specs.Prelude.{◌⊎◌}
 use Rattle.std.proofs.lemmas.Bool.{cases_lt}
-use Rattle.jh_linear.specs.declared.history.Problem.{Problem}
+use Rattle.jh_linear.specs.declared.sorted_ops.Problem.{Problem}
 use Rattle.jh_linear.specs.declared.config.Config.{Config}
 use Rattle.jh_linear.specs.declared.moves.Move.{Move}
-use Rattle.jh_linear.specs.declared.moves.Source.TheVariants.{Happened, Unknown}
+use Rattle.jh_linear.specs.declared.moves.Source.TheVariants.{Happened, NextOfClass}
 use Rattle.jh_linear.specs.Order.{Allows}
 use Rattle.jh_linear.specs.SearchInside.{EachIsMove, HasHappened, HasUnknown, IsAmong, IsMove, IsReady, IsWanted, MovesMore, source_call}
 
@@ -70,14 +70,14 @@ module _ (problem : Problem) (config : Config) where
 
   -- one more class was looked at
   pub unknown_more : (moves moves' : List Move) (bound : ℕ) → MovesMore problem config moves moves'
-      → (IsReady problem config bound → (next : Option ℤ) → Allows (source_call problem config (Unknown bound)) config.value next → IsWanted problem config next → IsAmong moves' (Unknown bound) next)
+      → (IsReady problem config bound → (next : Option ℤ) → Allows (source_call problem config (NextOfClass bound)) config.value next → IsWanted problem config next → IsAmong moves' (NextOfClass bound) next)
       → HasUnknown problem config moves bound → HasUnknown problem config moves' (bound + 1)
-  unknown_more moves moves' bound more here before k next lt ready allowed wanted = elim (cases_lt k bound) as (λ _. IsAmong moves' (Unknown k) next) [
-    | inl low ↦ more.kept (Unknown k) next (before k next low ready allowed wanted)
+  unknown_more moves moves' bound more here before k next lt ready allowed wanted = elim (cases_lt k bound) as (λ _. IsAmong moves' (NextOfClass k) next) [
+    | inl low ↦ more.kept (NextOfClass k) next (before k next low ready allowed wanted)
     | inr high ↦
         let is : bound ≡ k = omega (arith, lt, high) in
-        subst (λ c. IsAmong moves' (Unknown c) next) is
-        (here (subst (IsReady problem config) (sym is) ready) next (subst (λ c. Allows (source_call problem config (Unknown c)) config.value next) (sym is) allowed) wanted)
+        subst (λ c. IsAmong moves' (NextOfClass c) next) is
+        (here (subst (IsReady problem config) (sym is) ready) next (subst (λ c. Allows (source_call problem config (NextOfClass c)) config.value next) (sym is) allowed) wanted)
   ]
 
   pub each_none : (moves : List Move) → moves ≡ [] → EachIsMove problem config moves

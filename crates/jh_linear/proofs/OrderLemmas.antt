@@ -12,8 +12,8 @@ use Rattle.jh_linear.specs.declared.register.Outcome.{Outcome}
 use Rattle.jh_linear.specs.declared.register.Outcome.TheVariants.{Done, Failed, Unsure}
 use Rattle.jh_linear.specs.declared.register.RegOp.{RegOp}
 use Rattle.jh_linear.specs.Order.{op_at, IsDone, Precedes, EndsBefore, has, StandBefore, HasNoneTwice, HasAllDone, KeepsPrecedence, EndAfterInvoked}
-use Rattle.jh_linear.specs.CheckingInside.{IsNoneLate, is_outcome_done, is_op_done, done_places_below}
-use Rattle.jh_linear.proofs.PlaceSetLemmas.{eqb_self, or_left, or_right, or_cases, not_true, true_if, false_if, same_tests, has_here, place_of, has_filter, passes_filter, distinct_filter}
+use Rattle.jh_linear.specs.CheckingInside.{IsNoneLate, is_outcome_done, is_op_done, done_numbers_below}
+use Rattle.jh_linear.proofs.NumberSetLemmas.{eqb_self, or_left, or_right, or_cases, not_true, true_if, false_if, same_tests, has_here, place_of, has_filter, passes_filter, distinct_filter}
 use Rattle.jh_linear.proofs.StageLemmas.{not_before_itself, done_there}
 
 pub ends_later : (end : Option ℕ) (a b : ℕ) → EndsBefore end a → a ≤ b → EndsBefore end b
@@ -24,7 +24,7 @@ pub not_at_zero : (end : Option ℕ) → EndsBefore end 0 → ⊥
 not_at_zero None h = h
 not_at_zero (Some end) h = absurd (omega (arith, h))
 
--- One more place, of an operation that is not over at the latest invocation so far.
+-- One more number, of an operation that is not over at the latest invocation so far.
 module _ (ops : List RegOp) (order : List ℕ) (n latest : ℕ) where
   abbrev Invoked : ℕ → ℕ
   Invoked i = (op_at ops (get_or order i 0)).invoked
@@ -68,7 +68,7 @@ each_more xs p n below here i low is =
       | inr ge ↦ let at : n ≡ i = omega (arith, low, ge) in here (ap (λ k. get_or xs k 0) at ∙ is)
     ]
 
--- What stands behind a place, where all stand apart.
+-- What stands behind a number, where all stand apart.
 
 behind_at : (order : List ℕ) (i j : ℕ) → i < j → j < length order → has (drop (i + 1) order) (get_or order j 0) ≡ true
 behind_at order i j before low =
@@ -110,11 +110,11 @@ stand_at (x ∷ order) i zero before low = absurd (omega (arith, before))
 stand_at (x ∷ order) zero (suc j) before low = inl (refl, has_here order j (omega (arith, low)))
 stand_at (x ∷ order) (suc i) (suc j) before low = inr (stand_at order i j (omega (arith, before)) (omega (arith, low)))
 
-stand_places : (order : List ℕ) (a b : ℕ) → StandBefore order a b → (i : ℕ) × (j : ℕ) × (i < j) × (j < length order) × (get_or order i 0 ≡ a) × (get_or order j 0 ≡ b)
-stand_places [] a b h = absurd h
-stand_places (x ∷ order) a b h = elim h as (λ _. (i : ℕ) × (j : ℕ) × (i < j) × (j < length (x ∷ order)) × (get_or (x ∷ order) i 0 ≡ a) × (get_or (x ∷ order) j 0 ≡ b)) [
+stand_indexes : (order : List ℕ) (a b : ℕ) → StandBefore order a b → (i : ℕ) × (j : ℕ) × (i < j) × (j < length order) × (get_or order i 0 ≡ a) × (get_or order j 0 ≡ b)
+stand_indexes [] a b h = absurd h
+stand_indexes (x ∷ order) a b h = elim h as (λ _. (i : ℕ) × (j : ℕ) × (i < j) × (j < length (x ∷ order)) × (get_or (x ∷ order) i 0 ≡ a) × (get_or (x ∷ order) j 0 ≡ b)) [
   | inl here ↦ let r = place_of order b here.1 in (0, suc r.0, omega arith, omega (arith, r.1), here.0, r.2)
-  | inr there ↦ let r = stand_places order a b there in (suc r.0, suc r.1, omega (arith, r.2), omega (arith, r.3), r.4, r.5)
+  | inr there ↦ let r = stand_indexes order a b there in (suc r.0, suc r.1, omega (arith, r.2), omega (arith, r.3), r.4, r.5)
 ]
 
 shifted : (order : List ℕ) (k n : ℕ) → get_or (get_or order k 0 ∷ drop (k + 1) order) n 0 ≡ get_or order (k + n) 0
@@ -125,7 +125,7 @@ module _ (ops : List RegOp) (order : List ℕ) where
   pub late_if : HasNoneTwice order → KeepsPrecedence ops order → IsNoneLate ops order
   late_if apart keeps i j before low is =
       let first : i < length order = omega (arith, before, low) in
-      let s = stand_places order _ _ (keeps _ _ is (has_here order i first)) in
+      let s = stand_indexes order _ _ (keeps _ _ is (has_here order i first)) in
       let one : s.0 ≡ j = same_place order s.0 j apart (omega (arith, s.2, s.3)) low s.4 in
       let two : s.1 ≡ i = same_place order s.1 i apart s.3 first s.5 in
       absurd (omega (arith, one, two, s.2, before))
@@ -145,17 +145,17 @@ module _ (ops : List RegOp) (order : List ℕ) where
         ]
       ]
 
-  -- where none is late, those behind a place are not late either
+  -- where none is late, those behind a number are not late either
   pub none_behind : (k : ℕ) → k < length order → IsNoneLate ops order → IsNoneLate ops (get_or order k 0 ∷ drop (k + 1) order)
   none_behind k low none i j before inside is =
       let at : (n : ℕ) → get_or (get_or order k 0 ∷ drop (k + 1) order) n 0 ≡ get_or order (k + n) 0 = shifted order k in
       none (k + i) (k + j) (omega (arith, before)) (omega (arith, inside, length-drop (k + 1) order, low))
       (subst (λ x. Precedes ops x (get_or order (k + i) 0)) (at j) (subst (λ y. Precedes ops (get_or (get_or order k 0 ∷ drop (k + 1) order) j 0) y) (at i) is))
 
--- a place is not behind another where it would be late
-pub not_behind : (ops : List RegOp) (place : ℕ) (behind : List ℕ) (k : ℕ) → k < length behind → IsNoneLate ops (place ∷ behind) → Precedes ops place (get_or behind k 0) → ((i : ℕ) → i < k + 1 → get_or behind i 0 ≡ place → ⊥) → has behind place ≡ false
-not_behind ops place behind k low none late so_far = false_if _ (λ there.
-    let r = place_of behind place there in
+-- a number is not behind another where it would be late
+pub not_behind : (ops : List RegOp) (number : ℕ) (behind : List ℕ) (k : ℕ) → k < length behind → IsNoneLate ops (number ∷ behind) → Precedes ops number (get_or behind k 0) → ((i : ℕ) → i < k + 1 → get_or behind i 0 ≡ number → ⊥) → has behind number ≡ false
+not_behind ops number behind k low none late so_far = false_if _ (λ there.
+    let r = place_of behind number there in
     elim (cases_lt r.0 (k + 1)) as (λ _. ⊥) [
       | inl before ↦ so_far r.0 before r.2
       | inr after ↦ none (suc k) (suc r.0) (omega (arith, after)) (omega (arith, r.1)) (subst (λ x. Precedes ops x (get_or behind k 0)) (sym r.2) late)
@@ -168,36 +168,36 @@ done_test Done h = refl
 done_test Failed h = absurd (false≢true h)
 done_test Unsure h = absurd (false≢true h)
 
-pub is_done_if : (ops : List RegOp) (place : ℕ) → IsDone ops place → is_op_done ops place ≡ true
-is_done_if ops place done = ap is_outcome_done done
+pub is_done_if : (ops : List RegOp) (number : ℕ) → IsDone ops number → is_op_done ops number ≡ true
+is_done_if ops number done = ap is_outcome_done done
 
 module _ (ops : List RegOp) where
-  pub below_more : (n : ℕ) → done_places_below ops (n + 1) ≡ cond (is_op_done ops n) (n ∷ done_places_below ops n) (done_places_below ops n)
-  below_more n = ap (done_places_below ops) (add-one n)
+  pub below_more : (n : ℕ) → done_numbers_below ops (n + 1) ≡ cond (is_op_done ops n) (n ∷ done_numbers_below ops n) (done_numbers_below ops n)
+  below_more n = ap (done_numbers_below ops) (add-one n)
 
-  below_all : (n place : ℕ) → place < n → IsDone ops place → has (done_places_below ops n) place ≡ true
-  below_all zero place low done = absurd (omega (arith, low))
-  below_all (suc n) place low done =
-      elim (cases_lt place n) as (λ _. has (done_places_below ops (suc n)) place ≡ true) [
-        | inl lt ↦ elim (is_op_done ops n) as (λ v. has (cond v (n ∷ done_places_below ops n) (done_places_below ops n)) place ≡ true) [
-          | true ↦ or_right (eqb n place) _ (below_all n place lt done)
-          | false ↦ below_all n place lt done
+  below_all : (n number : ℕ) → number < n → IsDone ops number → has (done_numbers_below ops n) number ≡ true
+  below_all zero number low done = absurd (omega (arith, low))
+  below_all (suc n) number low done =
+      elim (cases_lt number n) as (λ _. has (done_numbers_below ops (suc n)) number ≡ true) [
+        | inl lt ↦ elim (is_op_done ops n) as (λ v. has (cond v (n ∷ done_numbers_below ops n) (done_numbers_below ops n)) number ≡ true) [
+          | true ↦ or_right (eqb n number) _ (below_all n number lt done)
+          | false ↦ below_all n number lt done
         ]
         | inr ge ↦
-            let is : n ≡ place = omega (arith, low, ge) in
+            let is : n ≡ number = omega (arith, low, ge) in
             let here : is_op_done ops n ≡ true = is_done_if ops n (subst (IsDone ops) (sym is) done) in
-            rw here (or_left (eqb n place) _ (eq-eqb n place is))
+            rw here (or_left (eqb n number) _ (eq-eqb n number is))
       ]
 
-  below_each : (n place : ℕ) → has (done_places_below ops n) place ≡ true → (place < n) × (is_op_done ops place ≡ true)
-  below_each zero place h = absurd (false≢true h)
-  below_each (suc n) place h =
-      elim (is_op_done ops n) as (λ v. is_op_done ops n ≡ v → has (cond v (n ∷ done_places_below ops n) (done_places_below ops n)) place ≡ true → (place < suc n) × (is_op_done ops place ≡ true)) [
-        | true ↦ λ e k. elim (or_cases (eqb n place) (has (done_places_below ops n) place) k) as (λ _. (place < suc n) × (is_op_done ops place ≡ true)) [
-          | inl s ↦ let is : n ≡ place = eqb-true n place s in (omega (arith, is), subst (λ x. is_op_done ops x ≡ true) is e)
-          | inr s ↦ let r = below_each n place s in (omega (arith, r.0), r.1)
+  below_each : (n number : ℕ) → has (done_numbers_below ops n) number ≡ true → (number < n) × (is_op_done ops number ≡ true)
+  below_each zero number h = absurd (false≢true h)
+  below_each (suc n) number h =
+      elim (is_op_done ops n) as (λ v. is_op_done ops n ≡ v → has (cond v (n ∷ done_numbers_below ops n) (done_numbers_below ops n)) number ≡ true → (number < suc n) × (is_op_done ops number ≡ true)) [
+        | true ↦ λ e k. elim (or_cases (eqb n number) (has (done_numbers_below ops n) number) k) as (λ _. (number < suc n) × (is_op_done ops number ≡ true)) [
+          | inl s ↦ let is : n ≡ number = eqb-true n number s in (omega (arith, is), subst (λ x. is_op_done ops x ≡ true) is e)
+          | inr s ↦ let r = below_each n number s in (omega (arith, r.0), r.1)
         ]
-        | false ↦ λ e k. let r = below_each n place k in (omega (arith, r.0), r.1)
+        | false ↦ λ e k. let r = below_each n number k in (omega (arith, r.0), r.1)
       ] refl h
 
   apart_from_low : (n : ℕ) (xs : List ℕ) → ((q : ℕ) → has xs q ≡ true → q < n) → AllByRecursion (λ y. eqb n y ≡ false) xs
@@ -207,11 +207,11 @@ module _ (ops : List RegOp) where
     apart_from_low n xs (λ q h. low q (or_right (eqb x q) (has xs q) h)),
   )
 
-  below_apart : (n : ℕ) → IsDistinct eqb (done_places_below ops n)
+  below_apart : (n : ℕ) → IsDistinct eqb (done_numbers_below ops n)
   below_apart zero = IsDistinct-from_apart eqb [] (λ i j d lt inside. absurd (omega (arith, inside)))
   below_apart (suc n) =
-      elim (is_op_done ops n) as (λ v. IsDistinct eqb (cond v (n ∷ done_places_below ops n) (done_places_below ops n))) [
-        | true ↦ IsDistinct-cons eqb n (done_places_below ops n) (apart_from_low n (done_places_below ops n) (λ q h. (below_each n q h).0)) (below_apart n)
+      elim (is_op_done ops n) as (λ v. IsDistinct eqb (cond v (n ∷ done_numbers_below ops n) (done_numbers_below ops n))) [
+        | true ↦ IsDistinct-cons eqb n (done_numbers_below ops n) (apart_from_low n (done_numbers_below ops n) (λ q h. (below_each n q h).0)) (below_apart n)
         | false ↦ below_apart n
       ]
 
@@ -222,7 +222,7 @@ pub member_is : (xs : List ℕ) (q : ℕ) → is_member eqb xs q ≡ has xs q
 member_is [] q = refl
 member_is (x ∷ xs) q = ap (λ b. b || is_member eqb xs q) (flips q x) ∙ ap (λ b. eqb x q || b) (member_is xs q)
 
--- distinct places that are all among others are no more than those
+-- distinct numbers that are all among others are no more than those
 pub no_more : (xs ys : List ℕ) → IsDistinct eqb xs → ((q : ℕ) → has xs q ≡ true → has ys q ≡ true) → length xs ≤ length ys
 no_more xs ys apart inside = length-le_from_is_member nat_eq_equiv xs ys apart (λ q h. member_is ys q ∙ inside q (sym (member_is xs q) ∙ h))
 
@@ -237,24 +237,24 @@ module _ (ops : List RegOp) (order : List ℕ) (apart : HasNoneTwice order) wher
   abbrev pub done_in : List ℕ
   done_in = filter (is_op_done ops) order
 
-  in_all : (q : ℕ) → is_op_done ops q ≡ true → has (done_places_below ops (length ops)) q ≡ true
+  in_all : (q : ℕ) → is_op_done ops q ≡ true → has (done_numbers_below ops (length ops)) q ≡ true
   in_all q h = let done = done_test _ h in below_all ops (length ops) q (done_there ops q done) done
 
-  pub whole_if : length done_in ≡ length (done_places_below ops (length ops)) → HasAllDone ops order
-  whole_if same place done = true_if _ (λ out.
-      let t = is_done_if ops place done in
-      let outside : has done_in place ≡ false = false_if _ (λ h. not_true _ (passes_filter (is_op_done ops) order place h).0 out) in
-      let more = no_more (place ∷ done_in) (done_places_below ops (length ops)) (IsDistinct-cons eqb place done_in (outside_all place done_in outside) (distinct_filter (is_op_done ops) order apart))
-      (λ q h. elim (or_cases (eqb place q) (has done_in q) h) as (λ _. has (done_places_below ops (length ops)) q ≡ true) [
-        | inl is ↦ in_all q (subst (λ x. is_op_done ops x ≡ true) (eqb-true place q is) t)
+  pub whole_if : length done_in ≡ length (done_numbers_below ops (length ops)) → HasAllDone ops order
+  whole_if same number done = true_if _ (λ out.
+      let t = is_done_if ops number done in
+      let outside : has done_in number ≡ false = false_if _ (λ h. not_true _ (passes_filter (is_op_done ops) order number h).0 out) in
+      let more = no_more (number ∷ done_in) (done_numbers_below ops (length ops)) (IsDistinct-cons eqb number done_in (outside_all number done_in outside) (distinct_filter (is_op_done ops) order apart))
+      (λ q h. elim (or_cases (eqb number q) (has done_in q) h) as (λ _. has (done_numbers_below ops (length ops)) q ≡ true) [
+        | inl is ↦ in_all q (subst (λ x. is_op_done ops x ≡ true) (eqb-true number q is) t)
         | inr in' ↦ in_all q (passes_filter (is_op_done ops) order q in').1
       ]) in
       absurd (omega (arith, more, same)))
 
-  pub counted_if : HasAllDone ops order → length done_in ≡ length (done_places_below ops (length ops))
+  pub counted_if : HasAllDone ops order → length done_in ≡ length (done_numbers_below ops (length ops))
   counted_if whole =
-      let low = no_more done_in (done_places_below ops (length ops)) (distinct_filter (is_op_done ops) order apart) (λ q h. in_all q (passes_filter (is_op_done ops) order q h).1) in
-      let high = no_more (done_places_below ops (length ops)) done_in (below_apart ops (length ops)) (λ q h.
+      let low = no_more done_in (done_numbers_below ops (length ops)) (distinct_filter (is_op_done ops) order apart) (λ q h. in_all q (passes_filter (is_op_done ops) order q h).1) in
+      let high = no_more (done_numbers_below ops (length ops)) done_in (below_apart ops (length ops)) (λ q h.
       let t = (below_each ops (length ops) q h).1 in
       has_filter (is_op_done ops) order q (whole q (done_test _ t)) t) in
       omega (arith, low, high)

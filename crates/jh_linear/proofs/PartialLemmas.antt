@@ -1,4 +1,4 @@
--- Partial orders, place by place.
+-- Partial orders, number by number.
 use Rattle.std.proofs.Common.{◌≡◌, ℕ, ◌<◌, ℤ, true, false, eqb, Option, Some, None, List, [], ◌∷◌, ◌++◌, length, refl, sym, subst, ◌∙◌, inl, inr, arith, eq-eqb, ne_eqb}
 use Rattle.std.specs.Prelude.{◌⊎◌}
 use Rattle.std.specs.List.{All, IsDistinct, AllByRecursion}
@@ -10,7 +10,7 @@ use Rattle.jh_linear.specs.declared.register.RegCall.{RegCall}
 use Rattle.jh_linear.specs.declared.register.RegCall.TheVariants.{Read, Write, Cas}
 use Rattle.jh_linear.specs.Order.{op_at, IsPossible, Precedes, has, Allows, IsLegalFrom, StandBefore, IsPartialOrder}
 use Rattle.jh_linear.specs.SearchInside.{GoesOnWith}
-use Rattle.jh_linear.proofs.PlaceSetLemmas.{has_self, has_kept, has_push_cases, or_left, or_right, or_cases, eqb_self, not_true, false_if, apart_head}
+use Rattle.jh_linear.proofs.NumberSetLemmas.{has_self, has_kept, has_push_cases, or_left, or_right, or_cases, eqb_self, not_true, false_if, apart_head}
 
 pub second_there : (order : List ℕ) (a b : ℕ) → StandBefore order a b → has order b ≡ true
 second_there [] a b h = absurd h
@@ -24,9 +24,9 @@ abbrev pub Away : List ℕ → List ℕ → Type 0
 Away front order = (q : ℕ) → has order q ≡ true → has front q ≡ false
 
 module _ (ops : List RegOp) where
-  pub places : (front order : List ℕ) (v last : Option ℤ) → GoesOnWith ops front v order last → All (λ p. p < length ops) order
-  places front [] v last f = All-nil (λ p. p < length ops)
-  places front (p ∷ order) v last f = All-cons (λ p. p < length ops) p order f.0.there (places (front ++ p ∷ []) order f.1.0 last f.1.2)
+  pub are_there : (front order : List ℕ) (v last : Option ℤ) → GoesOnWith ops front v order last → All (λ p. p < length ops) order
+  are_there front [] v last f = All-nil (λ p. p < length ops)
+  are_there front (p ∷ order) v last f = All-cons (λ p. p < length ops) p order f.0.there (are_there (front ++ p ∷ []) order f.1.0 last f.1.2)
 
   pub possible : (front order : List ℕ) (v last : Option ℤ) → GoesOnWith ops front v order last → All (IsPossible ops) order
   possible front [] v last f = All-nil (IsPossible ops)
@@ -73,7 +73,7 @@ module _ (ops : List RegOp) where
 
   pub partial : (initial : Option ℤ) (order : List ℕ) (last : Option ℤ) → GoesOnWith ops [] initial order last → IsPartialOrder ops initial order last
   partial initial order last f = record {
-    places = places [] order initial last f;
+    there = are_there [] order initial last f;
     distinct = distinct [] order initial last f;
     possible = possible [] order initial last f;
     precedence = λ a b before h. elim (keeps [] order initial last f a b before h) as (λ _. StandBefore order a b) [ inl none ↦ absurd (false≢true none) | inr s ↦ s ];
@@ -113,7 +113,7 @@ module _ (ops : List RegOp) where
       )
 
   pub follows_of : (initial : Option ℤ) (order : List ℕ) (last : Option ℤ) → IsPartialOrder ops initial order last → GoesOnWith ops [] initial order last
-  follows_of initial order last is = follows [] order initial last is.places is.possible is.distinct (λ q h. refl) (λ a b before h. inr (is.precedence a b before h)) is.runs
+  follows_of initial order last is = follows [] order initial last is.there is.possible is.distinct (λ q h. refl) (λ a b before h. inr (is.precedence a b before h)) is.runs
 
   one_value : (call : RegCall) (v a b : Option ℤ) → Allows call v a → Allows call v b → a ≡ b
   one_value (Read None) v a b h k = h ∙ sym k

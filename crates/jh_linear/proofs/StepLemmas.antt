@@ -52,7 +52,7 @@ step_in known (s ∷ steps) (suc k) i is lt low =
     let one : List ℕ = get_or known s.parent [] ++ s.placed in
     step_in (known ++ one ∷ []) steps k i (omega (arith, length_push known one, is)) (omega (arith, lt)) low
 
--- an order is an earlier one and one more place
+-- an order is an earlier one and one more number
 pub order_step : (steps : List Step) (i : ℕ) → 0 < i → i < length steps → NameEarlier steps → order_at steps i ≡ order_at steps (get_or steps i root).parent ++ (get_or steps i root).placed
 order_step [] i low high earlier = absurd (omega arith)
 order_step (s ∷ steps) zero low high earlier = absurd (omega arith)

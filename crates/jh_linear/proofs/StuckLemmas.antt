@@ -6,16 +6,16 @@ use Rattle.std.proofs.lemmas.List.{get_or-map, get_or-take, get_or_default, get_
 use Rattle.jh_linear.specs.declared.register.Outcome.{Outcome}
 use Rattle.jh_linear.specs.declared.register.Outcome.TheVariants.{Done, Failed, Unsure}
 use Rattle.jh_linear.specs.declared.register.RegOp.{RegOp}
-use Rattle.jh_linear.specs.declared.history.Problem.{Problem}
+use Rattle.jh_linear.specs.declared.sorted_ops.Problem.{Problem}
 use Rattle.jh_linear.specs.declared.search.Search.{Search}
 use Rattle.jh_linear.specs.declared.verdict.Stuck.{Stuck}
 use Rattle.jh_linear.specs.CheckingInside.{IsNoneLate, is_outcome_done}
 use Rattle.jh_linear.specs.Order.{Allows, HasNoneTwice, EndAfterInvoked, EndsBefore, HasAllDone, Precedes, IsDone, IsOrder, IsPartialOrder, IsPossible, IsLegalFrom, has, no_op, op_at}
-use Rattle.jh_linear.specs.SearchInside.{CanReach, IsExhausted, IsProblem, end_at, furthest_order, stage_place, stages_in}
+use Rattle.jh_linear.specs.SearchInside.{CanReach, IsExhausted, IsProblem, end_at, furthest_order, stage_number, stages_in}
 use Rattle.jh_linear.specs.Stuck.{IsStuck, ops_before, op_end, op_in, outcome_before_end, outcome_in}
 use Rattle.jh_linear.specs.StuckInside.{IsKnownUntil, is_known, is_known_at}
 use Rattle.jh_linear.specs.Verdict.{HaveNoOrder}
-use Rattle.jh_linear.proofs.PlaceSetLemmas.{has_here, place_of, not_true}
+use Rattle.jh_linear.proofs.NumberSetLemmas.{has_here, place_of, not_true}
 use Rattle.jh_linear.proofs.StageLemmas.{distinct_take, not_before_itself, possible_there}
 use Rattle.jh_linear.proofs.OrderLemmas.{keeps_if, late_if}
 use Rattle.jh_linear.proofs.PartialLemmas.{follows_of, partial}
@@ -135,7 +135,7 @@ module _ (ops : List RegOp) (n : ℕ) where
     -- an order of the cut history is a partial order of the whole
     pub partial_of_cut : (initial : Option ℤ) (order : List ℕ) (last : Option ℤ) → IsPartialOrder (ops_before ops n) initial order last → IsPartialOrder ops initial order last
     partial_of_cut initial order last is = record {
-      places = λ k d lt. subst (λ m. get_or order k d < m) (length-map ops (op_in n)) (is.places k d lt);
+      there = λ k d lt. subst (λ m. get_or order k d < m) (length-map ops (op_in n)) (is.there k d lt);
       distinct = is.distinct;
       possible = λ k d lt. (possible_cut _ (is.possible k d lt)).0;
       precedence = λ a b before there.
@@ -162,7 +162,7 @@ known_done op n h = elim op.outcome as (λ o. op.outcome ≡ o → (is_outcome_d
 done_known : (op : RegOp) (n : ℕ) → op.outcome ≡ Done → op_end op < n → is_known op n ≡ true
 done_known op n done end = rw done (lt-ltb (op_end op) n end)
 
--- there is such a part for each place
+-- there is such a part for each number
 until : (ops : List RegOp) (order : List ℕ) (n k : ℕ) → k ≤ length order → ((i : ℕ) → k ≤ i → i < length order → is_known_at ops order n i ≡ false) → (count : ℕ) × IsKnownUntil ops order n count
 until ops order n zero low behind = (0, record { bounded = omega arith; last = λ i is. absurd (omega (arith, is)); behind = behind })
 until ops order n (suc k) low behind = elim (is_known_at ops order n k) as (λ b. is_known_at ops order n k ≡ b → (count : ℕ) × IsKnownUntil ops order n count) [
@@ -226,7 +226,7 @@ module _ (ops : List RegOp) (ends : EndAfterInvoked ops) (bounded : (p : ℕ) �
       let zero' : get_or order i 0 ≡ get_or order i d = get_or_default order i 0 d inside in
       subst (IsPossible (ops_before ops n)) (sym here) (cut_possible ops n _ (is.possible i d inside) (subst (λ p. (op_at ops p).invoked < n) zero' (invoked_there i low))) in
       record {
-        places = λ i d lt. possible_there (ops_before ops n) _ (possible i d lt);
+        there = λ i d lt. possible_there (ops_before ops n) _ (possible i d lt);
         distinct = apart;
         possible = possible;
         precedence = keeps_if (ops_before ops n) (take count order) (ends_cut ops n ends) whole_cut (λ i j before lt late.
@@ -247,16 +247,16 @@ module _ (problem : Problem) (stood : IsProblem problem) (search : Search) (done
   stage = search.furthest.stage
 
   abbrev pub End : ℕ
-  End = end_at ops (stage_place problem stage)
+  End = end_at ops (stage_number problem stage)
 
   abbrev order : List ℕ
   order = furthest_order search.steps.items search.furthest
 
   bounded : (p : ℕ) → IsDone ops p → (op_at ops p).invoked ≤ end_at ops p
   bounded p is =
-      let r = stood.history.each_done p is in
-      let here = stood.history.enough r.0 (stage_place problem r.0) r.1 (stood.history.are_done r.0 r.1) (not_before_itself ops stood.ends (stage_place problem r.0)) in
-      subst (λ q. (op_at ops q).invoked ≤ end_at ops q) r.2 (stood.history.in_time r.0 (stage_place problem r.0) r.1 here)
+      let r = stood.done.each_done p is in
+      let here = stood.done.enough r.0 (stage_number problem r.0) r.1 (stood.done.are_done r.0 r.1) (not_before_itself ops stood.ends (stage_number problem r.0)) in
+      subst (λ q. (op_at ops q).invoked ≤ end_at ops q) r.2 (stood.done.in_time r.0 (stage_number problem r.0) r.1 here)
 
   is_partial : IsPartialOrder ops problem.initial order done.0.begun.far.value
   is_partial = partial ops problem.initial order done.0.begun.far.value done.0.begun.far.follows
@@ -264,29 +264,29 @@ module _ (problem : Problem) (stood : IsProblem problem) (search : Search) (done
   -- what ended before the end of the stage is there
   all_before : (n : ℕ) → n ≤ End → (p : ℕ) → IsDone ops p → end_at ops p < n → has order p ≡ true
   all_before n le p is end =
-      let r = stood.history.each_done p is in
+      let r = stood.done.each_done p is in
       elim (cases_lt r.0 stage) as (λ _. has order p ≡ true) [
         | inl lt ↦ subst (λ q. has order q ≡ true) r.2 (done.0.begun.far.passed r.0 lt)
         | inr ge ↦
-            let rise = stood.history.ends_rise stage r.0 ge r.1 in
-            let same : end_at ops (stage_place problem r.0) ≡ end_at ops p = ap (end_at ops) r.2 in
+            let rise = stood.done.ends_rise stage r.0 ge r.1 in
+            let same : end_at ops (stage_number problem r.0) ≡ end_at ops p = ap (end_at ops) r.2 in
             absurd (omega (arith, rise, same, end, le))
       ]
 
-  reach_of : (n : ℕ) (o : List ℕ) (last : Option ℤ) → IsPartialOrder ops problem.initial o last → ((k : ℕ) → k < n → has o (stage_place problem k) ≡ true) → CanReach problem n [] problem.initial
+  reach_of : (n : ℕ) (o : List ℕ) (last : Option ℤ) → IsPartialOrder ops problem.initial o last → ((k : ℕ) → k < n → has o (stage_number problem k) ≡ true) → CanReach problem n [] problem.initial
   reach_of n o last is covers = (o, last, follows_of ops problem.initial o last is, covers)
 
   pub no_order : HaveNoOrder ops problem.initial
   no_order o is = none_reaches problem stood search done (stages_in problem) done.0.begun.far.open' (omega arith)
-      (reach_of (stages_in problem) o is.last is.partial (λ k lt. is.whole _ (stood.history.are_done k lt)))
+      (reach_of (stages_in problem) o is.last is.partial (λ k lt. is.whole _ (stood.done.are_done k lt)))
 
   pub none_behind : (o : List ℕ) → IsOrder (ops_before ops (End + 1)) problem.initial o → ⊥
   none_behind o is = none_reaches problem stood search done (stage + 1) (omega arith) (omega (arith, done.0.begun.far.open'))
       (reach_of (stage + 1) o is.last (partial_of_cut ops (End + 1) stood.ends problem.initial o is.last is.partial) (λ k lt.
       let room : k < stages_in problem = omega (arith, lt, done.0.begun.far.open') in
-      let there = stood.history.are_done k room in
-      let rise = stood.history.ends_rise k stage (omega (arith, lt)) done.0.begun.far.open' in
-      is.whole _ (cut_done ops (End + 1) (stage_place problem k) there (omega (arith, bounded (stage_place problem k) there, rise)) (omega (arith, rise)))))
+      let there = stood.done.are_done k room in
+      let rise = stood.done.ends_rise k stage (omega (arith, lt)) done.0.begun.far.open' in
+      is.whole _ (cut_done ops (End + 1) (stage_number problem k) there (omega (arith, bounded (stage_number problem k) there, rise)) (omega (arith, rise)))))
 
   pub stuck_is : (stuck : Stuck) (count : ℕ) → IsKnownUntil ops order End count → End ≤ 2 ^ 64 - 1 → stuck.end ≡ End → stuck.order ≡ take count order → ((last : Option ℤ) → IsLegalFrom ops problem.initial (take count order) last → stuck.value ≡ last) → IsStuck ops problem.initial stuck
   stuck_is stuck count known small end_is order_is value_is =
@@ -294,7 +294,7 @@ module _ (problem : Problem) (stood : IsProblem problem) (search : Search) (done
       let one = partial_cut ops stood.ends bounded problem.initial order done.0.begun.far.value is_partial End small (all_before End (omega arith)) count known mid.0 mid.1 in
       let all = whole_cut ops stood.ends bounded problem.initial order done.0.begun.far.value is_partial End small (all_before End (omega arith)) count known in
       record {
-        completion = (stage_place problem stage, stood.history.are_done stage done.0.begun.far.open', sym end_is);
+        completion = (stage_number problem stage, stood.done.are_done stage done.0.begun.far.open', sym end_is);
         before = subst (λ e. IsPartialOrder (ops_before ops e) problem.initial stuck.order stuck.value) (sym end_is)
             (subst (λ o. IsPartialOrder (ops_before ops End) problem.initial o stuck.value) (sym order_is) (subst (λ v. IsPartialOrder (ops_before ops End) problem.initial (take count order) v) (sym (value_is mid.0 mid.1)) one));
         whole = subst (λ e. HasAllDone (ops_before ops e) stuck.order) (sym end_is) (subst (λ o. HasAllDone (ops_before ops End) o) (sym order_is) all);

@@ -7,7 +7,7 @@ use Rattle.std.proofs.lemmas.List.Folds.{list_any-append}
 use Rattle.std.proofs.lemmas.List.Sorted.{list_any-IsPermutation, sum_by-IsPermutation}
 use Rattle.jh_linear.specs.declared.queue.RankedConfig.{RankedConfig}
 use Rattle.jh_linear.specs.WaitingInside.{IsWith, awaits, expansions_in, expansions_left}
-use Rattle.jh_linear.proofs.PlaceSetLemmas.{eqb_self, or_cases, or_left, or_right}
+use Rattle.jh_linear.proofs.NumberSetLemmas.{eqb_self, or_cases, or_left, or_right}
 
 pub awaits_is : (ranked : RankedConfig) (ws ws' : List RankedConfig) → IsWith ranked ws ws' → (i : ℕ) → (eqb ranked.at i || awaits ws i) ≡ awaits ws' i
 awaits_is ranked ws ws' h i = list_any-IsPermutation (λ (t : RankedConfig). eqb t.at i) (ranked ∷ ws) ws' h

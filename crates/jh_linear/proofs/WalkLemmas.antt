@@ -1,10 +1,10 @@
 -- A configuration that goes on in place.
 use Rattle.std.proofs.Common.{◌≡◌, ℕ, Some, List, [], ◌∷◌, ◌++◌, length, slice_get, refl, sym, ap, subst, ◌∙◌, arith}
 use Rattle.std.proofs.lemmas.List.{append_assoc, length_push}
-use Rattle.jh_linear.specs.declared.history.Problem.{Problem}
+use Rattle.jh_linear.specs.declared.sorted_ops.Problem.{Problem}
 use Rattle.jh_linear.specs.declared.config.Config.{Config}
 use Rattle.jh_linear.specs.declared.moves.Move.{Move}
-use Rattle.jh_linear.specs.SearchInside.{AreMoves, CanReach, HasGone, IsDead, IsMadeBy, IsProblem, LeadsTo, source_place}
+use Rattle.jh_linear.specs.SearchInside.{AreMoves, CanReach, HasGone, IsDead, IsMadeBy, IsProblem, LeadsTo, source_number}
 use Rattle.jh_linear.proofs.LeadLemmas.{one_leads}
 use Rattle.jh_linear.proofs.MoveLemmas.{nothing_there}
 
@@ -26,7 +26,7 @@ module _ (problem : Problem) (stood : IsProblem problem) where
       → HasGone problem first placed config placed' → AreMoves problem config moves → ((i : ℕ) (m : Move) → slice_get moves i ≡ Some m → m ≡ move)
       → IsMadeBy problem config placed' move next placed'' → HasGone problem first placed next placed''
   gone_on first placed config placed' next placed'' moves move gone are only made =
-      let p : ℕ = source_place problem config move.source in
+      let p : ℕ = source_number problem config move.source in
       let after = made.after in
       let order : (front : List ℕ) → front ++ placed'' ≡ (front ++ placed') ++ p ∷ [] = λ front. ap (λ o. front ++ o) made.placed_is ∙ sym (append_assoc front placed' (p ∷ [])) in
       record {
@@ -38,7 +38,7 @@ module _ (problem : Problem) (stood : IsProblem problem) where
             let now = gone.carries front stands n (omega (arith, past, after.rises)) few reach in
             let led = one_leads problem stood n few (front ++ placed') config (gone.stands front stands) (omega (arith, past, after.rises)) moves are now in
             let is : led.1 ≡ move = only led.0 led.1 led.2 in
-            let on : CanReach problem n ((front ++ placed') ++ p ∷ []) move.value = subst (λ m. CanReach problem n ((front ++ placed') ++ source_place problem config m.source ∷ []) m.value) is led.3 in
+            let on : CanReach problem n ((front ++ placed') ++ p ∷ []) move.value = subst (λ m. CanReach problem n ((front ++ placed') ++ source_number problem config m.source ∷ []) m.value) is led.3 in
             subst (λ o. CanReach problem n o next.value) (sym (order front)) (subst (λ v. CanReach problem n ((front ++ placed') ++ p ∷ []) v) (sym after.value_is) on);
       }
 

@@ -22,15 +22,15 @@ is_outcome_done Unsure = false
 
 -- whether the operation with a number is known to have happened
 abbrev pub is_op_done : List RegOp → ℕ → Bool
-is_op_done ops place = is_outcome_done (op_at ops place).outcome
+is_op_done ops number = is_outcome_done (op_at ops number).outcome
 
 -- the numbers, below a bound, of the operations that are known to have happened
-abbrev pub done_places_below : List RegOp → ℕ → List ℕ
-done_places_below ops zero = []
-done_places_below ops (suc n) =
-    if is_op_done ops n then n ∷ done_places_below ops n else done_places_below ops n
+abbrev pub done_numbers_below : List RegOp → ℕ → List ℕ
+done_numbers_below ops zero = []
+done_numbers_below ops (suc n) =
+    if is_op_done ops n then n ∷ done_numbers_below ops n else done_numbers_below ops n
 
--- the lesser of two places of a history, of which one or both may be missing
+-- the lesser of two places, of which one or both may be missing
 abbrev pub lesser_place : Option ℕ → Option ℕ → Option ℕ
 lesser_place None other = other
 lesser_place (Some one) None = Some one

@@ -1,7 +1,8 @@
 -- The orders in which the operations of a register can have happened: linearizations (Herlihy and
 -- Wing 1990), as Jepsen's page on its checkers means them (`linearizable`), on the model
--- `cas-register`, where a read of nil matches any value. An operation is named by its number,
--- which is its place in a list of operations, from 0, and not in the history.
+-- `cas-register`, where a read of nil matches any value. An operation is an invocation with its
+-- completion. Its number is its index in the list of operations, and the place of an invocation or
+-- of a completion is the index of that in the history. Both count from 0.
 use Rattle.std.specs.Prelude.{◌≡◌, ◌≢◌, ◌==◌, ◌⊎◌, ℕ, ◌<◌, ℤ, Bool, true, Option, Some, None, List}
 use Rattle.std.specs.Prelude.{[], ◌∷◌, length, slice_index_or}
 use Rattle.std.specs.List.{list_any, All, IsDistinct}
@@ -23,17 +24,17 @@ no_op = record { invoked = 0; ended = None; outcome = Failed; call = Read None }
 
 -- the operation with a number
 abbrev pub op_at : List RegOp → ℕ → RegOp
-op_at ops place = slice_index_or ops place no_op
+op_at ops number = slice_index_or ops number no_op
 
 -- the operation did not fail
 abbrev pub IsPossible : List RegOp → ℕ → Type 0
-IsPossible ops place = (op_at ops place).outcome ≢ Failed
+IsPossible ops number = (op_at ops number).outcome ≢ Failed
 
 -- the operation is known to have happened
 abbrev pub IsDone : List RegOp → ℕ → Type 0
-IsDone ops place = (op_at ops place).outcome ≡ Done
+IsDone ops number = (op_at ops number).outcome ≡ Done
 
--- There is an end, and it is before this place of the history.
+-- There is an end, and it is before this place.
 abbrev pub EndsBefore : Option ℕ → ℕ → Type 0
 EndsBefore None at = ⊥
 EndsBefore (Some end) at = end < at
@@ -45,7 +46,7 @@ Precedes ops first second =
 
 -- whether a number stands in an order
 abbrev pub has : List ℕ → ℕ → Bool
-has order place = list_any (λ x. x == place) order
+has order number = list_any (λ x. x == number) order
 
 -- the first number stands in the order, and the second one after it
 abbrev pub StandBefore : List ℕ → ℕ → ℕ → Type 0
@@ -55,7 +56,7 @@ StandBefore (x ∷ order) first second =
 
 -- each number of the order is that of an operation
 abbrev pub AreThere : List RegOp → List ℕ → Type 0
-AreThere ops order = All (λ place. place < length ops) order
+AreThere ops order = All (λ number. number < length ops) order
 
 -- no number stands in the order twice
 abbrev pub HasNoneTwice : List ℕ → Type 0
@@ -67,7 +68,7 @@ ArePossible ops order = All (IsPossible ops) order
 
 -- each operation that is known to have happened stands in the order
 abbrev pub HasAllDone : List RegOp → List ℕ → Type 0
-HasAllDone ops order = (place : ℕ) → IsDone ops place → has order place ≡ true
+HasAllDone ops order = (number : ℕ) → IsDone ops number → has order number ≡ true
 
 -- Where an operation stands in the order, each one that is known to have happened and ended before
 -- that one was invoked stands before it.
@@ -80,13 +81,13 @@ KeepsPrecedence ops order =
 -- another.
 abbrev pub IsLegalFrom : List RegOp → Option ℤ → List ℕ → Option ℤ → Type 0
 IsLegalFrom ops value [] last = last ≡ value
-IsLegalFrom ops value (place ∷ order) last =
-    (next : Option ℤ) × Allows (op_at ops place).call value next × IsLegalFrom ops next order last
+IsLegalFrom ops value (number ∷ order) last =
+    (next : Option ℤ) × Allows (op_at ops number).call value next × IsLegalFrom ops next order last
 
 -- An order in which some of the operations can have happened, and which leads to this value.
 pub record IsPartialOrder (ops : List RegOp) (initial : Option ℤ) (order : List ℕ)
     (last : Option ℤ) : Type 0 where
-  pub places : AreThere ops order
+  pub there : AreThere ops order
   pub distinct : HasNoneTwice order
   pub possible : ArePossible ops order
   pub precedence : KeepsPrecedence ops order
@@ -102,4 +103,4 @@ pub record IsOrder (ops : List RegOp) (initial : Option ℤ) (order : List ℕ) 
 -- each operation ends after its invocation
 abbrev pub EndAfterInvoked : List RegOp → Type 0
 EndAfterInvoked ops =
-    (place end : ℕ) → (op_at ops place).ended ≡ Some end → (op_at ops place).invoked < end
+    (number end : ℕ) → (op_at ops number).ended ≡ Some end → (op_at ops number).invoked < end

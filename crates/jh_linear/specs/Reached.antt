@@ -42,4 +42,4 @@ pub record AreReached (ops : List RegOp) (initial : Option ℤ) (budget : ℕ)
   pub apart : (i j : ℕ) (last : Option ℤ) → i < j → j < length steps
       → IsPartialOrder ops initial (order_at steps i) last
       → IsPartialOrder ops initial (order_at steps j) last
-      → ((place : ℕ) → has (order_at steps i) place ≡ has (order_at steps j) place) → ⊥
+      → ((number : ℕ) → has (order_at steps i) number ≡ has (order_at steps j) number) → ⊥

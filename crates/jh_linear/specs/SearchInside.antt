@@ -10,14 +10,14 @@ use Rattle.jh_linear.specs.declared.register.Outcome.TheVariants.{Done, Failed, 
 use Rattle.jh_linear.specs.declared.register.RegCall.{RegCall}
 use Rattle.jh_linear.specs.declared.register.RegCall.TheVariants.{Read, Write, Cas}
 use Rattle.jh_linear.specs.declared.register.RegOp.{RegOp}
-use Rattle.jh_linear.specs.Stuck.{op_end}
-use Rattle.jh_linear.specs.declared.history.Stage.{Stage}
-use Rattle.jh_linear.specs.declared.history.Class.{Class}
-use Rattle.jh_linear.specs.declared.history.Problem.{Problem}
+use Rattle.jh_linear.specs.Stuck.{behind_all, op_end}
+use Rattle.jh_linear.specs.declared.sorted_ops.Stage.{Stage}
+use Rattle.jh_linear.specs.declared.sorted_ops.Class.{Class}
+use Rattle.jh_linear.specs.declared.sorted_ops.Problem.{Problem}
 use Rattle.jh_linear.specs.declared.config.Config.{Config}
 use Rattle.jh_linear.specs.declared.moves.Move.{Move}
 use Rattle.jh_linear.specs.declared.moves.Source.{Source}
-use Rattle.jh_linear.specs.declared.moves.Source.TheVariants.{Happened, Unknown}
+use Rattle.jh_linear.specs.declared.moves.Source.TheVariants.{Happened, NextOfClass}
 use Rattle.jh_linear.specs.declared.search.Search.{Search}
 use Rattle.jh_linear.specs.declared.search.Added.{Added}
 use Rattle.jh_linear.specs.declared.search.Added.TheVariants.{Known, New, Full}
@@ -37,20 +37,20 @@ use Rattle.jh_linear.specs.WaitingInside.{IsWith, awaits, expansions_in, expansi
 -- ---- orders, number by number
 
 -- The operation with a number may come next behind an order.
-pub record MayComeNext (ops : List RegOp) (front : List ℕ) (place : ℕ) : Type 0 where
-  pub there : place < length ops
-  pub possible : IsPossible ops place
-  pub fresh : has front place ≡ false
-  pub ready : (first : ℕ) → Precedes ops first place → has front first ≡ true
+pub record MayComeNext (ops : List RegOp) (front : List ℕ) (number : ℕ) : Type 0 where
+  pub there : number < length ops
+  pub possible : IsPossible ops number
+  pub fresh : has front number ≡ false
+  pub ready : (first : ℕ) → Precedes ops first number → has front first ≡ true
 
 -- Behind those in front, each operation of an order may come next when those before it have come,
 -- and they lead the register from one value to the last.
 abbrev pub GoesOnWith : List RegOp → List ℕ → Option ℤ → List ℕ → Option ℤ → Type 0
 GoesOnWith ops front value [] last = last ≡ value
-GoesOnWith ops front value (place ∷ order) last =
-    MayComeNext ops front place
-    × ((next : Option ℤ) × Allows (op_at ops place).call value next
-    × GoesOnWith ops (front ++ place ∷ []) next order last)
+GoesOnWith ops front value (number ∷ order) last =
+    MayComeNext ops front number
+    × ((next : Option ℤ) × Allows (op_at ops number).call value next
+    × GoesOnWith ops (front ++ number ∷ []) next order last)
 
 -- ---- what is placed
 
@@ -64,7 +64,8 @@ is_unsure_change Unsure (Write new) = true
 is_unsure_change Unsure (Cas old new) = true
 
 abbrev pub IsUnsureChange : List RegOp → ℕ → Type 0
-IsUnsureChange ops place = is_unsure_change (op_at ops place).outcome (op_at ops place).call ≡ true
+IsUnsureChange ops number =
+    is_unsure_change (op_at ops number).outcome (op_at ops number).call ≡ true
 
 -- Where the call is allowed, it leaves the value as it is.
 abbrev pub LeavesValue : RegCall → Type 0
@@ -82,15 +83,15 @@ Needs (Read (Some seen)) value = value ≡ Some seen
 Needs (Write new) value = ⊥
 Needs (Cas old new) value = value ≡ Some old
 
--- ---- the history, sorted
+-- ---- the operations, sorted
 
--- where an operation was invoked
+-- the place of the invocation of an operation
 abbrev pub invocation_at : List RegOp → ℕ → ℕ
-invocation_at ops place = (op_at ops place).invoked
+invocation_at ops number = (op_at ops number).invoked
 
--- where in the history an operation ended; one with no such place ends after all others
+-- the place where an operation ended; one with no such place ends after all others
 abbrev pub end_at : List RegOp → ℕ → ℕ
-end_at ops place = op_end (op_at ops place)
+end_at ops number = op_end (op_at ops number)
 
 -- what stands past the end of a list of stages
 abbrev pub no_stage : Stage
@@ -105,30 +106,31 @@ arrivals_by arrivals stages k = take (stage_at stages k).arrived arrivals
 
 -- The operations that are known to have happened, in the order of their invocations (`arrivals`),
 -- and once more in the order of their ends (`stages`).
-pub record IsHistory (ops : List RegOp) (arrivals : List ℕ) (stages : List Stage) : Type 0 where
+pub record AreDoneSorted (ops : List RegOp) (arrivals : List ℕ) (stages : List Stage) : Type 0 where
   pub distinct : IsDistinct ◌==◌ arrivals
   pub happened : All (IsDone ops) arrivals
-  pub all : (place : ℕ) → IsDone ops place → has arrivals place ≡ true
+  pub all : (number : ℕ) → IsDone ops number → has arrivals number ≡ true
   pub bounded : (k : ℕ) → k < length stages → (stage_at stages k).arrived ≤ length arrivals
   pub rises : (k : ℕ) → k + 1 < length stages
       → (stage_at stages k).arrived ≤ (stage_at stages (k + 1)).arrived
-  pub each_done : (place : ℕ) → IsDone ops place → (k : ℕ) × (k < length stages)
-      × ((stage_at stages k).number ≡ place)
+  pub each_done : (number : ℕ) → IsDone ops number → (k : ℕ) × (k < length stages)
+      × ((stage_at stages k).number ≡ number)
   pub are_done : (k : ℕ) → k < length stages → IsDone ops (stage_at stages k).number
   pub ends_rise : (j k : ℕ) → j ≤ k → k < length stages
       → end_at ops (stage_at stages j).number ≤ end_at ops (stage_at stages k).number
   pub needs : (k first second : ℕ) → k < length stages
       → invocation_at ops second ≤ end_at ops (stage_at stages k).number → Precedes ops first second
       → (j : ℕ) × (j < k) × ((stage_at stages j).number ≡ first)
-  pub in_time : (k place : ℕ) → k < length stages → has (arrivals_by arrivals stages k) place ≡ true
-      → invocation_at ops place ≤ end_at ops (stage_at stages k).number
-  pub enough : (k place : ℕ) → k < length stages → IsDone ops place
-      → (Precedes ops (stage_at stages k).number place → ⊥)
-      → has (arrivals_by arrivals stages k) place ≡ true
+  pub in_time : (k number : ℕ) → k < length stages
+      → has (arrivals_by arrivals stages k) number ≡ true
+      → invocation_at ops number ≤ end_at ops (stage_at stages k).number
+  pub enough : (k number : ℕ) → k < length stages → IsDone ops number
+      → (Precedes ops (stage_at stages k).number number → ⊥)
+      → has (arrivals_by arrivals stages k) number ≡ true
 
 -- an operation of unknown outcome as an entry, sorted by its call and then by its invocation
 abbrev pub unknown_entry : List RegOp → ℕ → RegCall × ℕ × ℕ
-unknown_entry ops place = ((op_at ops place).call, invocation_at ops place, place)
+unknown_entry ops number = ((op_at ops number).call, invocation_at ops number, number)
 
 -- Two entries have the same call, and the first is not invoked after the second.
 abbrev pub AreTwinEntries : RegCall × ℕ × ℕ → RegCall × ℕ × ℕ → Type 0
@@ -150,15 +152,15 @@ abbrev pub IsOfClass : List Class → ℕ → ℕ → Type 0
 IsOfClass classes k j = ((class_at classes k).from ≤ j) × (j < (class_at classes k).upto)
 
 -- the number of the operation of unknown outcome at an index
-abbrev pub unknown_place : List ℕ → ℕ → ℕ
-unknown_place unknown j = slice_index_or unknown j 0
+abbrev pub unknown_number : List ℕ → ℕ → ℕ
+unknown_number unknown j = slice_index_or unknown j 0
 
 -- The operations of unknown outcome that are tried, each in one class; those of a class are twins,
 -- in the order of invocation.
 pub record AreClasses (ops : List RegOp) (unknown : List ℕ) (classes : List Class) : Type 0 where
   pub distinct : IsDistinct ◌==◌ unknown
   pub each : All (IsUnsureChange ops) unknown
-  pub all : (place : ℕ) → IsUnsureChange ops place → has unknown place ≡ true
+  pub all : (number : ℕ) → IsUnsureChange ops number → has unknown number ≡ true
   pub bounded : (k : ℕ) → k < length classes
       → ((class_at classes k).from ≤ (class_at classes k).upto)
       × ((class_at classes k).upto ≤ length unknown)
@@ -167,29 +169,29 @@ pub record AreClasses (ops : List RegOp) (unknown : List ℕ) (classes : List Cl
   pub rises : (k l : ℕ) → k < l → l < length classes
       → (class_at classes k).upto ≤ (class_at classes l).from
   pub twins : (k i j : ℕ) → k < length classes → IsOfClass classes k i → IsOfClass classes k j
-      → i ≤ j → AreTwins ops (unknown_place unknown i) (unknown_place unknown j)
+      → i ≤ j → AreTwins ops (unknown_number unknown i) (unknown_number unknown j)
 
 -- What a search takes for granted: operations end after their invocations, and are sorted rightly.
 pub record IsProblem (problem : Problem) : Type 0 where
   pub ends : EndAfterInvoked problem.ops.now
-  pub history : IsHistory problem.ops.now problem.history.arrivals.items
-      problem.history.stages.items
-  pub classes : AreClasses problem.ops.now problem.history.unsure_changes.items
-      problem.history.classes.items
+  pub done : AreDoneSorted problem.ops.now problem.sorted.arrivals.items
+      problem.sorted.stages.items
+  pub classes : AreClasses problem.ops.now problem.sorted.unsure_changes.items
+      problem.sorted.classes.items
 
 -- how many stages there are
 abbrev pub stages_in : Problem → ℕ
-stages_in problem = length problem.history.stages.items
+stages_in problem = length problem.sorted.stages.items
 
 -- the operation of a stage
-abbrev pub stage_place : Problem → ℕ → ℕ
-stage_place problem k = (stage_at problem.history.stages.items k).number
+abbrev pub stage_number : Problem → ℕ → ℕ
+stage_number problem k = (stage_at problem.sorted.stages.items k).number
 
 -- ---- configurations
 
 -- those of some numbers that do not stand in an order
-abbrev pub places_without : List ℕ → List ℕ → List ℕ
-places_without order places = filter (λ place. not (has order place)) places
+abbrev pub numbers_without : List ℕ → List ℕ → List ℕ
+numbers_without order numbers = filter (λ number. not (has order number)) numbers
 
 -- The stage at which an order is, and which operations are pending there: those that are known to
 -- have happened, were invoked before the end of the stage, and do not stand in the order.
@@ -197,9 +199,9 @@ pub record IsAt (arrivals : List ℕ) (stages : List Stage) (order : List ℕ) (
     (pending : List ℕ) : Type 0 where
   pub passed : (k : ℕ) → k < stage → has order (stage_at stages k).number ≡ true
   pub pending_is : stage < length stages
-      → pending ≡ places_without order (arrivals_by arrivals stages stage)
-  pub arrived : stage < length stages → (place : ℕ) → has order place ≡ true
-      → has arrivals place ≡ true → has (arrivals_by arrivals stages stage) place ≡ true
+      → pending ≡ numbers_without order (arrivals_by arrivals stages stage)
+  pub arrived : stage < length stages → (number : ℕ) → has order number ≡ true
+      → has arrivals number ≡ true → has (arrivals_by arrivals stages stage) number ≡ true
 
 -- the index of the next operation of a class
 abbrev pub next_at : List ℕ → ℕ → ℕ
@@ -212,21 +214,21 @@ pub record AreNext (unknown : List ℕ) (classes : List Class) (order : List ℕ
   pub bounds : (k : ℕ) → k < length classes → ((class_at classes k).from ≤ next_at next k)
       × (next_at next k ≤ (class_at classes k).upto)
   pub placed : (k j : ℕ) → k < length classes → IsOfClass classes k j
-      → has order (unknown_place unknown j) ≡ nat_lt j (next_at next k)
+      → has order (unknown_number unknown j) ≡ nat_lt j (next_at next k)
 
 -- A configuration stands for an order: that leads to its value, and has the operations that the
 -- configuration says to be placed.
 pub record LeadsTo (problem : Problem) (order : List ℕ) (config : Config) : Type 0 where
   pub follows : GoesOnWith problem.ops.now [] problem.initial order config.value
-  pub searched : (place : ℕ) → has order place ≡ true → IsDone problem.ops.now place
-      ⊎ IsUnsureChange problem.ops.now place
-  pub known : IsAt problem.history.arrivals.items problem.history.stages.items order config.stage
+  pub searched : (number : ℕ) → has order number ≡ true → IsDone problem.ops.now number
+      ⊎ IsUnsureChange problem.ops.now number
+  pub known : IsAt problem.sorted.arrivals.items problem.sorted.stages.items order config.stage
       config.happened.items
-  pub used : AreNext problem.history.unsure_changes.items problem.history.classes.items order
+  pub used : AreNext problem.sorted.unsure_changes.items problem.sorted.classes.items order
       config.next.items
   pub low : config.stage ≤ stages_in problem
   pub waits : config.stage < stages_in problem
-      → has order (stage_place problem config.stage) ≡ false
+      → has order (stage_number problem config.stage) ≡ false
 
 -- Two configurations have the same stage, the same numbers pending and next, and the same value.
 abbrev pub AreSame : Config → Config → Type 0
@@ -238,7 +240,7 @@ AreSame a b =
 abbrev pub CanReach : Problem → ℕ → List ℕ → Option ℤ → Type 0
 CanReach problem stages order value =
     (back : List ℕ) × (last : Option ℤ) × GoesOnWith problem.ops.now order value back last
-    × ((k : ℕ) → k < stages → has (order ++ back) (stage_place problem k) ≡ true)
+    × ((k : ℕ) → k < stages → has (order ++ back) (stage_number problem k) ≡ true)
 
 -- If one order can be continued past this stage, to some number of stages, so can another one.
 abbrev pub Carries : Problem → ℕ → List ℕ → Option ℤ → List ℕ → Option ℤ → Type 0
@@ -255,14 +257,14 @@ IsDead problem stage order value =
 -- ---- moves
 
 -- the number of the operation that a move places
-abbrev pub source_place : Problem → Config → Source → ℕ
-source_place problem config (Happened index) = slice_index_or config.happened.items index 0
-source_place problem config (Unknown k) =
-    unknown_place problem.history.unsure_changes.items (next_at config.next.items k)
+abbrev pub source_number : Problem → Config → Source → ℕ
+source_number problem config (Happened index) = slice_index_or config.happened.items index 0
+source_number problem config (NextOfClass k) =
+    unknown_number problem.sorted.unsure_changes.items (next_at config.next.items k)
 
 -- that operation
 abbrev pub op_of : Problem → Config → Source → RegOp
-op_of problem config source = op_at problem.ops.now (source_place problem config source)
+op_of problem config source = op_at problem.ops.now (source_number problem config source)
 
 -- its call
 abbrev pub source_call : Problem → Config → Source → RegCall
@@ -271,16 +273,16 @@ source_call problem config source = (op_of problem config source).call
 -- The class has an operation that is not placed.
 abbrev pub IsLeft : Problem → Config → ℕ → Type 0
 IsLeft problem config k =
-    (k < length problem.history.classes.items)
-    × (next_at config.next.items k < (class_at problem.history.classes.items k).upto)
+    (k < length problem.sorted.classes.items)
+    × (next_at config.next.items k < (class_at problem.sorted.classes.items k).upto)
 
 -- There is such an operation, which is not placed and was invoked before the end of the stage.
 abbrev pub CanBePlaced : Problem → Config → Source → Type 0
 CanBePlaced problem config (Happened index) = index < length config.happened.items
-CanBePlaced problem config (Unknown k) =
+CanBePlaced problem config (NextOfClass k) =
     IsLeft problem config k
-    × (invocation_at problem.ops.now (source_place problem config (Unknown k))
-    ≤ end_at problem.ops.now (stage_place problem config.stage))
+    × (invocation_at problem.ops.now (source_number problem config (NextOfClass k))
+    ≤ end_at problem.ops.now (stage_number problem config.stage))
 
 -- A move can be made: its operation can be placed, and leads from the value to that of the move.
 abbrev pub IsMove : Problem → Config → Move → Type 0
@@ -293,15 +295,16 @@ IsMove problem config move =
 abbrev pub IsReady : Problem → Config → ℕ → Type 0
 IsReady problem config k =
     IsLeft problem config k
-    × (Precedes problem.ops.now (stage_place problem config.stage)
-    (source_place problem config (Unknown k)) → ⊥)
+    × (Precedes problem.ops.now (stage_number problem config.stage)
+    (source_number problem config (NextOfClass k)) → ⊥)
 
 -- Some operation that may come next needs the register to have this value.
 abbrev pub IsWanted : Problem → Config → Option ℤ → Type 0
 IsWanted problem config value =
     ((index : ℕ) × (index < length config.happened.items)
     × Needs (source_call problem config (Happened index)) value)
-    ⊎ ((k : ℕ) × IsReady problem config k × Needs (source_call problem config (Unknown k)) value)
+    ⊎ ((k : ℕ) × IsReady problem config k
+    × Needs (source_call problem config (NextOfClass k)) value)
 
 -- There is a move with this source and value.
 abbrev pub IsAmong : List Move → Source → Option ℤ → Type 0
@@ -321,14 +324,14 @@ HasHappened problem config moves bound =
 abbrev pub HasUnknown : Problem → Config → List Move → ℕ → Type 0
 HasUnknown problem config moves bound =
     (k : ℕ) (next : Option ℤ) → k < bound → IsReady problem config k
-    → Allows (source_call problem config (Unknown k)) config.value next
-    → IsWanted problem config next → IsAmong moves (Unknown k) next
+    → Allows (source_call problem config (NextOfClass k)) config.value next
+    → IsWanted problem config next → IsAmong moves (NextOfClass k) next
 
 -- No pending operation below an index is a read of any value.
 abbrev pub IsNoneSettled : Problem → Config → ℕ → Type 0
 IsNoneSettled problem config bound =
     (index : ℕ) → index < bound
-    → IsDone problem.ops.now (source_place problem config (Happened index))
+    → IsDone problem.ops.now (source_number problem config (Happened index))
     → source_call problem config (Happened index) ≡ Read None → ⊥
 
 -- The pending operation at an index can be placed at once and alone.
@@ -344,7 +347,7 @@ abbrev pub AreEnough : Problem → Config → List Move → Type 0
 AreEnough problem config moves =
     ((index : ℕ) × IsSettledAt problem config index × IsAmong moves (Happened index) config.value)
     ⊎ (HasHappened problem config moves (length config.happened.items)
-    × HasUnknown problem config moves (length problem.history.classes.items)
+    × HasUnknown problem config moves (length problem.sorted.classes.items)
     × IsNoneSettled problem config (length config.happened.items))
 
 -- Each of the moves can be made.
@@ -384,26 +387,26 @@ pub record PassesStages (problem : Problem) (stage : ℕ) (pending : List ℕ) (
     (left : List ℕ) : Type 0 where
   pub rises : stage ≤ later
   pub low : later ≤ stages_in problem
-  pub waits : later < stages_in problem → has left (stage_place problem later) ≡ true
+  pub waits : later < stages_in problem → has left (stage_number problem later) ≡ true
   pub at : (order : List ℕ)
-      → IsAt problem.history.arrivals.items problem.history.stages.items order stage pending
-      → IsAt problem.history.arrivals.items problem.history.stages.items order later left
+      → IsAt problem.sorted.arrivals.items problem.sorted.stages.items order stage pending
+      → IsAt problem.sorted.arrivals.items problem.sorted.stages.items order later left
 
 -- A configuration with this value stands for every order that the other one stands for, with one
 -- more number.
-pub record IsAfter (problem : Problem) (config : Config) (place : ℕ) (value : Option ℤ)
+pub record IsAfter (problem : Problem) (config : Config) (number : ℕ) (value : Option ℤ)
     (config' : Config) : Type 0 where
   pub rises : config.stage ≤ config'.stage
   pub value_is : config'.value ≡ value
   pub sizes : length config'.next.items ≡ length config.next.items
   pub stands : (order : List ℕ) → LeadsTo problem order config
-      → LeadsTo problem (order ++ place ∷ []) config'
+      → LeadsTo problem (order ++ number ∷ []) config'
 
 -- A move was made, and its operation appended to those that were placed.
 pub record IsMadeBy (problem : Problem) (config : Config) (placed : List ℕ) (move : Move)
     (config' : Config) (placed' : List ℕ) : Type 0 where
-  pub after : IsAfter problem config (source_place problem config move.source) move.value config'
-  pub placed_is : placed' ≡ placed ++ source_place problem config move.source ∷ []
+  pub after : IsAfter problem config (source_number problem config move.source) move.value config'
+  pub placed_is : placed' ≡ placed ++ source_number problem config move.source ∷ []
 
 -- A walk led from one configuration to another: that stands for every order that the first one
 -- stands for, with the operations behind that were placed, and no order is lost.
@@ -456,7 +459,7 @@ pub record IsFurthest (problem : Problem) (configs : List Config) (steps : List 
   pub value : Option ℤ
   pub follows : GoesOnWith problem.ops.now [] problem.initial (furthest_order steps furthest) value
   pub passed : (k : ℕ) → k < furthest.stage
-      → has (furthest_order steps furthest) (stage_place problem k) ≡ true
+      → has (furthest_order steps furthest) (stage_number problem k) ≡ true
   pub most : (i : ℕ) (config : Config) → slice_get configs i ≡ Some config
       → config.stage ≤ furthest.stage
 
@@ -572,7 +575,7 @@ abbrev pub IsMoved : Problem → Search → Search → ℕ → Config → Move �
 IsMoved problem old new at config move =
     (stages : ℕ) → new.furthest.stage < stages → stages ≤ stages_in problem
     → CanReach problem stages
-    (order_at old.steps.items at ++ source_place problem config move.source ∷ []) move.value
+    (order_at old.steps.items at ++ source_number problem config move.source ∷ []) move.value
     → LeadsOn problem new.configs.keys new.steps.items (length (order_at old.steps.items at)) stages
 
 -- What came of entering a configuration, which was reached from the order at an index by placing
@@ -583,7 +586,7 @@ ComesOfEntering problem old new at placed config More =
     × ((stages : ℕ) → CanReach problem stages (order_at old.steps.items at ++ placed) config.value
     → LeadsOn problem new.configs.keys new.steps.items
     (length (order_at old.steps.items at)) stages)
-ComesOfEntering problem old new at placed config (Whole places) = ⊥
+ComesOfEntering problem old new at placed config (Whole numbers) = ⊥
 ComesOfEntering problem old new at placed config NoRoom = IsFull problem new
 
 -- What came of making one move behind the order at an index.
@@ -657,26 +660,26 @@ IsExhausted problem search = IsSearchKept problem search × (search.waiting ≡ 
 -- ---- sorting
 
 -- Entries with a number in each, one for each number below a bound that is to have one.
-pub record ArePlaceEntries {X : Type 0} (Kept : ℕ → Type 0) (entry : ℕ → X) (place : X → ℕ)
+pub record AreNumberEntries {X : Type 0} (Kept : ℕ → Type 0) (entry : ℕ → X) (number : X → ℕ)
     (bound : ℕ) (entries : List X) : Type 0 where
-  pub each : All (λ x. (place x < bound) × Kept (place x) × (entry (place x) ≡ x)) entries
+  pub each : All (λ x. (number x < bound) × Kept (number x) × (entry (number x) ≡ x)) entries
   pub all : (p : ℕ) → p < bound → Kept p → Contains entries (entry p)
-  pub distinct : IsDistinct ◌==◌ (map place entries)
+  pub distinct : IsDistinct ◌==◌ (map number entries)
 
 -- the number of an operation behind the place of its invocation, or behind that of its end
 abbrev pub arrival_entry : List RegOp → ℕ → ℕ × ℕ
-arrival_entry ops place = (invocation_at ops place, place)
+arrival_entry ops number = (invocation_at ops number, number)
 
 abbrev pub end_entry : List RegOp → ℕ → ℕ × ℕ
-end_entry ops place = (end_at ops place, place)
+end_entry ops number = (end_at ops number, number)
 
--- The first numbers of the pairs do not fall.
+-- What entries are sorted by, the first of each, does not fall.
 abbrev pub DoNotFall : List (ℕ × ℕ) → Type 0
-DoNotFall pairs =
-    (i j : ℕ) (d : ℕ × ℕ) → i ≤ j → j < length pairs
-    → (slice_index_or pairs i d).0 ≤ (slice_index_or pairs j d).0
+DoNotFall entries =
+    (i j : ℕ) (d : ℕ × ℕ) → i ≤ j → j < length entries
+    → (slice_index_or entries i d).0 ≤ (slice_index_or entries j d).0
 
--- what stands past the end of a list of pairs
+-- what stands past the end of a list of entries
 abbrev pub no_entry : ℕ × ℕ
 no_entry = (0, 0)
 
@@ -691,7 +694,7 @@ pub record AreStages (invocations ends : List (ℕ × ℕ)) (stages : List Stage
   pub above : (k : ℕ) → k < length stages → (stage_at stages k).arrived < length invocations
       → ((slice_index_or ends k no_entry).0
       < (slice_index_or invocations (stage_at stages k).arrived no_entry).0)
-      × ((slice_index_or ends k no_entry).0 < 2 ^ 64 - 1)
+      × ((slice_index_or ends k no_entry).0 < behind_all)
 
 -- what stands past the end of a list of entries with calls
 abbrev pub no_call : RegCall × ℕ × ℕ

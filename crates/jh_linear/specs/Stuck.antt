@@ -9,9 +9,13 @@ use Rattle.jh_linear.specs.declared.register.RegOp.{RegOp}
 use Rattle.jh_linear.specs.declared.verdict.Stuck.{Stuck}
 use Rattle.jh_linear.specs.Order.{op_at, IsDone, HasAllDone, IsPartialOrder, IsOrder}
 
+-- the greatest number that stands for a place (`usize::MAX`), which is behind all places
+abbrev pub behind_all : ℕ
+behind_all = 2 ^ 64 - 1
+
 -- where an operation ended; one with no such place ends after all others
 abbrev pub op_end : RegOp → ℕ
-op_end op = unwrap_or op.ended (2 ^ 64 - 1)
+op_end op = unwrap_or op.ended behind_all
 
 -- What is known of an operation that has not ended yet. One that is going to fail is taken to have
 -- failed from the start.
@@ -20,29 +24,29 @@ outcome_before_end Done = Unsure
 outcome_before_end Failed = Failed
 outcome_before_end Unsure = Unsure
 
--- What the places of a history below a number show of an operation: one that is not invoked there
--- did not happen, and of one that does not end there it is not known whether it did.
+-- What a history that is cut right before a place shows of an operation: one that is not invoked
+-- there did not happen, and of one that does not end there it is not known whether it did.
 abbrev pub outcome_in : ℕ → RegOp → Outcome
-outcome_in count op =
-    if nat_lt op.invoked count
-    then (if nat_lt (op_end op) count then op.outcome else outcome_before_end op.outcome)
+outcome_in cut op =
+    if nat_lt op.invoked cut
+    then (if nat_lt (op_end op) cut then op.outcome else outcome_before_end op.outcome)
     else Failed
 
--- the operation, as the places below a number show it
+-- the operation, as a history that is cut right before a place shows it
 abbrev pub op_in : ℕ → RegOp → RegOp
-op_in count op = record op { outcome = outcome_in count op }
+op_in cut op = record op { outcome = outcome_in cut op }
 
--- the operations, as the places of the history below a number show them
+-- the operations, as a history that is cut right before a place shows them
 abbrev pub ops_before : List RegOp → ℕ → List RegOp
-ops_before ops count = map (op_in count) ops
+ops_before ops cut = map (op_in cut) ops
 
 -- It names the place of a completion. Where the history is cut right before that place, the
 -- operations have an order, which leads to the value that is given; where it is cut right behind,
 -- they have none. They have one wherever the history is cut before.
 pub record IsStuck (ops : List RegOp) (initial : Option ℤ) (stuck : Stuck) : Type 0 where
-  pub completion : (place : ℕ) × IsDone ops place × (op_end (op_at ops place) ≡ stuck.end)
+  pub completion : (number : ℕ) × IsDone ops number × (op_end (op_at ops number) ≡ stuck.end)
   pub before : IsPartialOrder (ops_before ops stuck.end) initial stuck.order stuck.value
   pub whole : HasAllDone (ops_before ops stuck.end) stuck.order
   pub behind : (order : List ℕ) → IsOrder (ops_before ops (stuck.end + 1)) initial order → ⊥
-  pub least : (count : ℕ) → count ≤ stuck.end → (order : List ℕ)
-      × IsOrder (ops_before ops count) initial order
+  pub least : (cut : ℕ) → cut ≤ stuck.end → (order : List ℕ)
+      × IsOrder (ops_before ops cut) initial order

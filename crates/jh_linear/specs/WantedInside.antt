@@ -5,8 +5,8 @@ use Rattle.std.specs.Prelude.{◌≡◌, ℕ, ◌<◌, ℤ, true, Option, Some}
 use Rattle.std.specs.Ordering.{int_eq}
 use Rattle.std.specs.HashSet.{contains}
 use Rattle.jh_linear.specs.declared.config.Config.{Config}
-use Rattle.jh_linear.specs.declared.history.Problem.{Problem}
-use Rattle.jh_linear.specs.declared.moves.Source.TheVariants.{Happened, Unknown}
+use Rattle.jh_linear.specs.declared.sorted_ops.Problem.{Problem}
+use Rattle.jh_linear.specs.declared.moves.Source.TheVariants.{Happened, NextOfClass}
 use Rattle.jh_linear.specs.declared.wanted.Wanted.{Wanted}
 use Rattle.jh_linear.specs.SearchInside.{IsReady, Needs, source_call}
 
@@ -28,4 +28,4 @@ HoldsHappened problem config wanted bound =
 abbrev pub HoldsUnknown : Problem → Config → Wanted → ℕ → Type 0
 HoldsUnknown problem config wanted bound =
     (k : ℕ) (value : Option ℤ) → k < bound → IsReady problem config k
-    → Needs (source_call problem config (Unknown k)) value → Holds wanted value
+    → Needs (source_call problem config (NextOfClass k)) value → Holds wanted value

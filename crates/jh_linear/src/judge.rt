@@ -15,7 +15,7 @@
 //! - A read of unknown outcome is left out: `is_unsure_change` in `register.rt`, `follows_less` in
 //!   `FollowLemmas.antt`.
 //! - Of the operations of unknown outcome with one call, only the one that was invoked first is
-//!   tried: `Class` in `history.rt`, `after_twin` in `FollowLemmas.antt` and `class_leads` in
+//!   tried: `Class` in `sorted_ops.rt`, `after_twin` in `FollowLemmas.antt` and `class_leads` in
 //!   `LeadLemmas.antt`.
 //! - An operation of unknown outcome is tried only where some operation that may come next needs
 //!   the value that it leads to: `wanted.rt`, and `is_worth` in `moves.rt`; `wanted_by` and
@@ -40,11 +40,11 @@ ghost use Rattle.jh_linear.specs.SearchInside.{IsSearchKept, IsMove, IsProblem, 
 ghost use Rattle.jh_linear.specs.SearchInside.{ComesOfMove, WasReached, WereTried, stages_in};
 
 use crate::config::{Config, copy_config, first_config};
-use crate::history::{Problem, sorted_history};
 use crate::moves::{Move, Source, find_moves};
 use crate::queue::{Queue, RankedConfig, rank_of, second_expansion};
 use crate::register::RegOp;
 use crate::search::{Added, Furthest, Search, add, note};
+use crate::sorted_ops::{Problem, sort_ops};
 use crate::stuck::{order_of, stuck_of};
 use crate::verdict::{LinVerdict, Linearization, Reached, Step};
 use crate::walk::{WalkEnd, make, walk};
@@ -158,7 +158,7 @@ fn happened_in(moves: &[Move]) -> usize
     ensures { result ≤ length moves.now }
 {
     for (index, next_move) in moves.iter().enumerate() {
-        if let Source::Unknown(_) = next_move.source {
+        if let Source::NextOfClass(_) = next_move.source {
             return index;
         }
     }
@@ -279,14 +279,14 @@ pub fn check(
     if budget == 0 {
         return Ok(LinVerdict::Unknown(Reached::of(Vec::new(alloc))));
     }
-    let history = sorted_history(alloc, ops)?;
-    if history.stages.is_empty() {
+    let sorted = sort_ops(alloc, ops)?;
+    if sorted.stages.is_empty() {
         return Ok(LinVerdict::Valid(Linearization::of(Vec::new(alloc))));
     }
     let problem = Problem {
         ops,
         initial,
-        history,
+        sorted,
         budget,
     };
     let mut search = start(alloc, &problem)?;

@@ -19,20 +19,20 @@ ghost use Rattle.jh_linear.specs.Stuck.{op_end};
 ghost use Rattle.jh_linear.specs.declared.moves.Source.TheVariants as source;
 
 use crate::config::Config;
-use crate::history::{Class, Problem};
 use crate::order_check::op_at;
 use crate::register::{RegOp, after, is_settled};
+use crate::sorted_ops::{Class, Problem};
 use crate::wanted::{Wanted, is_held, wanted_by};
 use std::alloc::{AllocError, Global};
 
 /// Where a move takes its operation from.
 #[derive(Clone, Copy, Debug)]
 pub(crate) enum Source {
-    /// From the pending operations, which are known to have happened, at this index.
+    /// The pending operation at this index, which is known to have happened.
     Happened(usize),
-    /// From the class of operations of unknown outcome (`Outcome::Unsure`) at this index, which has
-    /// the next of them.
-    Unknown(usize),
+    /// The next operation of the class at this index, whose operations are of unknown outcome
+    /// (`Outcome::Unsure`).
+    NextOfClass(usize),
 }
 
 /// An operation that may be placed next, with the value that it leads to.
@@ -53,23 +53,23 @@ fn class_at(classes: &[Class], class: usize) -> Class
 }
 
 /// What stands at an index. Past the end it is 0.
-fn at_or_zero(places: &[usize], index: usize) -> usize
-    ensures { result ≡ rule.next_at places.now index }
+fn at_or_zero(numbers: &[usize], index: usize) -> usize
+    ensures { result ≡ rule.next_at numbers.now index }
 {
-    match places.get(index) {
-        Some(place) => *place,
+    match numbers.get(index) {
+        Some(number) => *number,
         None => 0,
     }
 }
 
 /// The number of the operation that a move places.
 pub(crate) fn number_of(problem: &Problem, config: &Config, source: Source) -> usize
-    ensures { result ≡ rule.source_place problem.now config.now source }
+    ensures { result ≡ rule.source_number problem.now config.now source }
 {
     match source {
         Source::Happened(index) => at_or_zero(config.happened.as_slice(), index),
-        Source::Unknown(class) => at_or_zero(
-            problem.history.unsure_changes.as_slice(),
+        Source::NextOfClass(class) => at_or_zero(
+            problem.sorted.unsure_changes.as_slice(),
             at_or_zero(config.next.as_slice(), class),
         ),
     }
@@ -98,14 +98,14 @@ fn is_in_time(op: RegOp, other: RegOp) -> bool
 pub(crate) fn is_ready(problem: &Problem, config: &Config, class: usize) -> bool
     requires problem { IsProblem problem.now }
     requires stage { config.now.stage < stages_in problem.now }
-    requires class { class < length problem.now.history.classes.items }
-    ensures ready { result ≡ true → CanBePlaced problem.now config.now (source.Unknown class) }
+    requires class { class < length problem.now.sorted.classes.items }
+    ensures ready { result ≡ true → CanBePlaced problem.now config.now (source.NextOfClass class) }
     ensures other { result ≡ false → IsReady problem.now config.now class → ⊥ }
 {
     let next = at_or_zero(config.next.as_slice(), class);
-    let upto = class_at(problem.history.classes.as_slice(), class).upto;
-    let last = op_at(problem.ops, problem.history.stages[config.stage].number);
-    next < upto && is_in_time(op_of(problem, config, Source::Unknown(class)), last)
+    let upto = class_at(problem.sorted.classes.as_slice(), class).upto;
+    let last = op_at(problem.ops, problem.sorted.stages[config.stage].number);
+    next < upto && is_in_time(op_of(problem, config, Source::NextOfClass(class)), last)
 }
 
 /// The index of the first pending operation that may be placed at once and alone, if there is one.
@@ -167,17 +167,18 @@ fn push_happened(
 fn is_worth(problem: &Problem, config: &Config, wanted: &Wanted, class: usize) -> bool
     requires problem { IsProblem problem.now }
     requires stage { config.now.stage < stages_in problem.now }
-    requires class { class < length problem.now.history.classes.items }
-    ensures ready { result ≡ true → CanBePlaced problem.now config.now (source.Unknown class) }
+    requires class { class < length problem.now.sorted.classes.items }
+    ensures ready { result ≡ true → CanBePlaced problem.now config.now (source.NextOfClass class) }
     ensures other { result ≡ false → IsReady problem.now config.now class → (next : Option ℤ)
-        → Allows (source_call problem.now config.now (source.Unknown class)) config.now.value next
+        → Allows
+        (source_call problem.now config.now (source.NextOfClass class)) config.now.value next
         → Holds wanted.now next → ⊥ }
 {
     if !is_ready(problem, config, class) {
         return false;
     }
     match after(
-        op_of(problem, config, Source::Unknown(class)).call,
+        op_of(problem, config, Source::NextOfClass(class)).call,
         config.value,
     ) {
         Some(next) => is_held(wanted, next),
@@ -199,11 +200,11 @@ fn push_unknown(
     ensures more { OnOk result (MovesMore problem.now config.now moves.old.items moves.new.items) }
     ensures unknown { OnOk result
         (HasUnknown problem.now config.now moves.new.items
-        (length problem.now.history.classes.items)) }
+        (length problem.now.sorted.classes.items)) }
 {
-    for class in 0..problem.history.classes.len() {
+    for class in 0..problem.sorted.classes.len() {
         if is_worth(problem, config, wanted, class) {
-            push_move(problem, config, Source::Unknown(class), moves)?;
+            push_move(problem, config, Source::NextOfClass(class), moves)?;
         }
     }
     Ok(())
@@ -227,7 +228,7 @@ pub(crate) fn find_moves(
         return Ok(());
     }
     push_happened(problem, config, moves)?;
-    if problem.history.classes.is_empty() {
+    if problem.sorted.classes.is_empty() {
         return Ok(());
     }
     let wanted = wanted_by(alloc, problem, config)?;

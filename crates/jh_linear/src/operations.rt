@@ -1,5 +1,6 @@
-//! The operations of a register in a history: one for each pair of an invocation and its
-//! completion.
+//! The operations in a history of an object that clients share: one for each pair of an invocation
+//! and its completion. All are operations of a register: a mutex is one too, which has one number
+//! while it is free and another while it is held.
 //!
 //! `specs/Operations.antt` says which operation each pair stands for, and where a bad value is
 //! reported.
@@ -9,7 +10,7 @@ ghost use Rattle.jh_edn.specs.View.{view};
 ghost use Rattle.jh_ops.specs.Operation.{operation, operations};
 ghost use Rattle.jh_ops.specs.Pairing.{IsPairWithin};
 ghost use Rattle.jh_linear.specs.Operations as rule;
-ghost use Rattle.jh_linear.specs.CheckingInside as place;
+ghost use Rattle.jh_linear.specs.CheckingInside as inside;
 ghost use Rattle.jh_linear.specs.Operations.{AreRegOps, IsLeastBad, RefusesPairs};
 ghost use Rattle.jh_linear.specs.Order.{EndAfterInvoked};
 ghost use Rattle.jh_linear.specs.declared.operations.RegOpsError.TheVariants.{OutOfMemory};
@@ -20,11 +21,29 @@ use jh_ops::{Kind, Op, Pair};
 use std::alloc::{AllocError, AllocFailed, Global};
 use thiserror::Error;
 
-/// Why a history has no operations of a register.
+/// What object the operations of a history are of (Herlihy and Wing 1990 call what clients share an
+/// object).
+#[derive(Clone, Copy, Debug, PartialEq, Eq)]
+pub enum Object {
+    /// A register with read, write and compare-and-set, as the model `cas-register` of
+    /// `knossos.model` has it.
+    Register,
+    /// A lock that is free or held, whoever holds it, as the model `mutex` of `knossos.model` has
+    /// it. It is judged as a register that has `FREE` or `HELD`.
+    Mutex,
+}
+
+/// The value of a mutex that is free.
+pub const FREE: i64 = 0;
+
+/// The value of a mutex that is held.
+pub const HELD: i64 = 1;
+
+/// Why a history has no operations of an object.
 #[derive(Clone, Copy, Debug, PartialEq, Eq, Error)]
 pub enum RegOpsError {
     /// The invocation or completion at this place of the history, from 0, has a value that its
-    /// function does not take, or a function that no register has.
+    /// function does not take, or a function that the object does not have.
     #[error("operation {0}: bad value")]
     BadValue(usize),
     #[error("out of memory")]
@@ -47,50 +66,61 @@ impl<T: Drop> From<AllocFailed<T>> for RegOpsError {
     }
 }
 
-/// The operations of a register that pairs stand for, one each, in the order of the pairs: those
-/// that `jh_ops::pair` gives for the history, which is `ops` here. Only client operations are in
-/// pairs.
+/// The operations of an object that pairs stand for, one each, in the order of the pairs: those
+/// that `jh_ops::pair` gives for the history. Only what clients did is in pairs.
 ///
-/// The function of an operation is that of its invocation. A `:read` has the value of its `:ok`
-/// completion, which is an integer or nil. A `:read` that did not complete `:ok` has nil. A
-/// `:write` has the integer that it was invoked with, and a `:cas` the two integers `[old new]`, in
-/// a vector or a list. An operation that completed `:ok` happened, and one that completed `:fail`
-/// did not. Of one that completed `:info`, or has no completion, it is not known. An operation
-/// ended at the place of its completion, whatever that was.
+/// The function of an operation is that of its invocation. An operation that completed `:ok`
+/// happened, and one that completed `:fail` did not. Of one that completed `:info`, or has no
+/// completion, it is not known. An operation ended at the place of its completion, whatever that
+/// was.
+///
+/// Of a register, a `:read` has the value of its `:ok` completion, which is an integer or nil. A
+/// `:read` that did not complete `:ok` has nil. A `:write` has the integer that it was invoked
+/// with, and a `:cas` the two integers `[old new]`, in a vector or a list.
+///
+/// Of a mutex, `:acquire` is the compare-and-set from `FREE` to `HELD`, and `:release` that from
+/// `HELD` to `FREE`. Values are not looked at. A mutex is free at first, so it is judged from the
+/// initial value `Some(FREE)`.
 ///
 /// The operations meet the condition of `check` and `check_order`.
 ///
-/// Errors: `BadValue` at the least place of a bad value. That of a `:read` is reported at its
-/// completion, that of any other operation at its invocation, and so is a function that is none of
-/// the three. `OutOfMemory` only where no value is bad.
+/// Errors: `BadValue` at the least place of a bad value. That of a `:read` of a register is
+/// reported at its completion, that of any other operation at its invocation, and so is a function
+/// that the object does not have. `OutOfMemory` only where no value is bad.
 ///
 /// Takes time linear in the pairs.
-pub fn reg_ops(alloc: Global, ops: &[Op], pairs: &[Pair]) -> Result<Vec<RegOp>, RegOpsError>
-    requires within { All (IsPairWithin (length ops.now)) pairs.now }
+pub fn reg_ops(
+    alloc: Global,
+    object: Object,
+    history: &[Op],
+    pairs: &[Pair],
+) -> Result<Vec<RegOp>, RegOpsError>
+    requires within { All (IsPairWithin (length history.now)) pairs.now }
     ensures parsed { MatchResult result
-        (λ register_ops. AreRegOps (operations ops.now) pairs.now register_ops.items)
-        (RefusesPairs (operations ops.now) pairs.now) }
-    ensures ends { IfOk result (λ register_ops. EndAfterInvoked register_ops.items) }
+        (λ ops. AreRegOps object (operations history.now) pairs.now ops.items)
+        (RefusesPairs object (operations history.now) pairs.now) }
+    ensures ends { IfOk result (λ ops. EndAfterInvoked ops.items) }
 {
-    if let Some(place) = least_bad(ops, pairs) {
+    if let Some(place) = least_bad(object, history, pairs) {
         return Err(RegOpsError::BadValue(place));
     }
-    let mut register_ops = Vec::with_capacity(alloc, pairs.len())?;
+    let mut ops = Vec::with_capacity(alloc, pairs.len())?;
     for pair in pairs {
-        if let Some(operation) = reg_op(ops, *pair) {
-            register_ops.push(operation)?;
+        if let Some(op) = reg_op(object, history, *pair) {
+            ops.push(op)?;
         }
     }
-    Ok(register_ops)
+    Ok(ops)
 }
 
 // Each of these functions computes the definition of nearly the same name in specs/Operations.antt.
 
 /// The invocation or completion at a place of the history, if there is one.
-fn history_op_at(ops: &[Op], place: usize) -> Option<&Op>
-    ensures { option_map (λ op. operation op.now) result ≡ slice_get (operations ops.now) place }
+fn record_at(history: &[Op], place: usize) -> Option<&Op>
+    ensures { option_map (λ found. operation found.now) result
+        ≡ slice_get (operations history.now) place }
 {
-    ops.get(place)
+    history.get(place)
 }
 
 /// The read that answered this value, which has to be an integer or nil.
@@ -122,11 +152,11 @@ fn cas_of(value: &Value) -> Option<RegCall>
     }
 }
 
-/// What an invocation asks of the register. The value of a read is its answer, and not that of its
+/// What an invocation asks of a register. The value of a read is its answer, and not that of its
 /// invocation.
-fn call_of(invocation: &Op, answer: Option<&Value>) -> Option<RegCall>
+fn register_call_of(invocation: &Op, answer: Option<&Value>) -> Option<RegCall>
     ensures { result
-        ≡ rule.reg_call_of (view invocation.now.f) (view invocation.now.value)
+        ≡ rule.register_call_of (view invocation.now.f) (view invocation.now.value)
         (option_map (λ v. view v.now) answer.entry) }
 {
     if invocation.f.is_keyword("read") {
@@ -143,23 +173,48 @@ fn call_of(invocation: &Op, answer: Option<&Value>) -> Option<RegCall>
     }
 }
 
+/// What an invocation asks of a mutex, by its function alone.
+fn mutex_call_of(invocation: &Op) -> Option<RegCall>
+    ensures { result ≡ rule.mutex_call_of (view invocation.now.f) }
+{
+    if invocation.f.is_keyword("acquire") {
+        Some(RegCall::Cas(FREE, HELD))
+    } else if invocation.f.is_keyword("release") {
+        Some(RegCall::Cas(HELD, FREE))
+    } else {
+        None
+    }
+}
+
+/// What an invocation asks of the object.
+fn call_of(object: Object, invocation: &Op, answer: Option<&Value>) -> Option<RegCall>
+    ensures { result
+        ≡ rule.reg_call_of object (view invocation.now.f) (view invocation.now.value)
+        (option_map (λ v. view v.now) answer.entry) }
+{
+    match object {
+        Object::Register => register_call_of(invocation, answer),
+        Object::Mutex => mutex_call_of(invocation),
+    }
+}
+
 /// The completion of a pair, if it has one.
-fn completion_of(ops: &[Op], pair: Pair) -> Option<&Op>
-    ensures { option_map (λ op. operation op.now) result
-        ≡ rule.completion_of (operations ops.now) pair }
+fn completion_of(history: &[Op], pair: Pair) -> Option<&Op>
+    ensures { option_map (λ found. operation found.now) result
+        ≡ rule.completion_of (operations history.now) pair }
 {
     let place = pair.outcome?;
-    history_op_at(ops, place)
+    record_at(history, place)
 }
 
 /// How an operation with this completion ended. One without a completion may have happened.
 fn outcome_of(completion: Option<&Op>) -> Outcome
-    ensures { result ≡ rule.outcome_of (option_map (λ op. op.now.kind) completion.entry) }
+    ensures { result ≡ rule.outcome_of (option_map (λ found. found.now.kind) completion.entry) }
 {
-    let Some(op) = completion else {
+    let Some(found) = completion else {
         return Outcome::Unsure;
     };
-    match op.kind {
+    match found.kind {
         Kind::Ok => Outcome::Done,
         Kind::Fail => Outcome::Failed,
         _ => Outcome::Unsure,
@@ -169,24 +224,24 @@ fn outcome_of(completion: Option<&Op>) -> Outcome
 /// The value of a completion, where that is `:ok`.
 fn answer_of(completion: Option<&Op>) -> Option<&Value>
     ensures { option_map (λ v. view v.now) result
-        ≡ rule.answered_value (option_map (λ op. operation op.now) completion.entry) }
+        ≡ rule.answered_value (option_map (λ found. operation found.now) completion.entry) }
 {
-    let op = completion?;
-    match op.kind {
-        Kind::Ok => Some(&op.value),
+    let found = completion?;
+    match found.kind {
+        Kind::Ok => Some(&found.value),
         _ => None,
     }
 }
 
-/// The operation of a register that a pair of the history stands for, as `reg_ops` gives them. None
+/// The operation of an object that a pair of the history stands for, as `reg_ops` gives them. None
 /// where its function or its value is one that `reg_ops` refuses, or where the history has no such
 /// invocation.
-pub fn reg_op(ops: &[Op], pair: Pair) -> Option<RegOp>
-    ensures { result ≡ rule.reg_op_of (operations ops.now) pair }
+pub fn reg_op(object: Object, history: &[Op], pair: Pair) -> Option<RegOp>
+    ensures { result ≡ rule.reg_op_of object (operations history.now) pair }
 {
-    let invocation = history_op_at(ops, pair.invoke)?;
-    let completion = completion_of(ops, pair);
-    let call = call_of(invocation, answer_of(completion))?;
+    let invocation = record_at(history, pair.invoke)?;
+    let completion = completion_of(history, pair);
+    let call = call_of(object, invocation, answer_of(completion))?;
     Some(RegOp {
         invoked: pair.invoke,
         ended: pair.outcome,
@@ -196,32 +251,49 @@ pub fn reg_op(ops: &[Op], pair: Pair) -> Option<RegOp>
 }
 
 /// Whether a read is invoked at a place.
-fn reads_at(ops: &[Op], place: usize) -> bool
-    ensures { result ≡ rule.reads_at (operations ops.now) place }
+fn is_read_at(history: &[Op], place: usize) -> bool
+    ensures { result ≡ rule.is_read_at (operations history.now) place }
 {
-    match history_op_at(ops, place) {
-        Some(op) => op.f.is_keyword("read"),
+    match record_at(history, place) {
+        Some(found) => found.f.is_keyword("read"),
         None => false,
     }
 }
 
-/// The place at which a bad value of a pair is reported, if it has one.
-fn bad_place(ops: &[Op], pair: Pair) -> Option<usize>
-    ensures { result ≡ rule.bad_place (operations ops.now) pair }
+/// The place at which a bad value of a pair would be reported, of a register.
+fn register_place(history: &[Op], pair: Pair) -> usize
+    ensures { result ≡ rule.register_place (operations history.now) pair }
 {
-    if reg_op(ops, pair).is_some() {
+    if is_read_at(history, pair.invoke) {
+        pair.outcome.unwrap_or(pair.invoke)
+    } else {
+        pair.invoke
+    }
+}
+
+/// The place at which a bad value of a pair would be reported.
+fn place_of_value(object: Object, history: &[Op], pair: Pair) -> usize
+    ensures { result ≡ rule.place_of_value object (operations history.now) pair }
+{
+    match object {
+        Object::Register => register_place(history, pair),
+        Object::Mutex => pair.invoke,
+    }
+}
+
+/// The place at which a bad value of a pair is reported, if it has one.
+fn bad_place(object: Object, history: &[Op], pair: Pair) -> Option<usize>
+    ensures { result ≡ rule.bad_place object (operations history.now) pair }
+{
+    if reg_op(object, history, pair).is_some() {
         return None;
     }
-    if reads_at(ops, pair.invoke) {
-        Some(pair.outcome.unwrap_or(pair.invoke))
-    } else {
-        Some(pair.invoke)
-    }
+    Some(place_of_value(object, history, pair))
 }
 
 /// The lesser of two places, of which one or both may be missing.
 fn lesser(first: Option<usize>, second: Option<usize>) -> Option<usize>
-    ensures { result ≡ place.lesser_place first second }
+    ensures { result ≡ inside.lesser_place first second }
 {
     match (first, second) {
         (Some(one), Some(other)) => Some(one.min(other)),
@@ -231,12 +303,12 @@ fn lesser(first: Option<usize>, second: Option<usize>) -> Option<usize>
 }
 
 /// The least place at which a bad value of the pairs is reported, if there is one.
-fn least_bad(ops: &[Op], pairs: &[Pair]) -> Option<usize>
-    ensures { IsLeastBad (operations ops.now) pairs.now result }
+fn least_bad(object: Object, history: &[Op], pairs: &[Pair]) -> Option<usize>
+    ensures { IsLeastBad object (operations history.now) pairs.now result }
 {
     let mut least = None;
     for pair in pairs {
-        least = lesser(least, bad_place(ops, *pair));
+        least = lesser(least, bad_place(object, history, *pair));
     }
     least
 }

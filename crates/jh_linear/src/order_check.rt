@@ -5,7 +5,7 @@
 
 ghost use Rattle.std.specs.Prelude.{◌≡◌, ◌+◌, ◌<◌, ◌↔◌, ◌∷◌, ℤ, Option, length, drop, filter, true};
 ghost use Rattle.std.specs.Prelude.{IsTrue, MatchResult};
-ghost use Rattle.jh_linear.specs.CheckingInside.{IsNoneLate, is_op_done, done_places_below};
+ghost use Rattle.jh_linear.specs.CheckingInside.{IsNoneLate, is_op_done, done_numbers_below};
 ghost use Rattle.jh_linear.specs.Order.{IsOrder, AreThere, HasNoneTwice, ArePossible, HasAllDone};
 ghost use Rattle.jh_linear.specs.Order.{IsLegalFrom};
 ghost use Rattle.jh_linear.specs.Order.{IsPossible, EndAfterInvoked, EndsBefore, has};
@@ -77,10 +77,10 @@ pub fn check_order(ops: &[RegOp], initial: Option<i64>, order: &[usize]) -> Resu
 }
 
 /// The operation with a number. Past the end it is one that failed.
-pub(crate) fn op_at(ops: &[RegOp], place: usize) -> RegOp
-    ensures { result ≡ rule.op_at ops.now place }
+pub(crate) fn op_at(ops: &[RegOp], number: usize) -> RegOp
+    ensures { result ≡ rule.op_at ops.now number }
 {
-    match ops.get(place) {
+    match ops.get(number) {
         Some(op) => *op,
         None => RegOp {
             invoked: 0,
@@ -95,14 +95,14 @@ pub(crate) fn op_at(ops: &[RegOp], place: usize) -> RegOp
 fn are_there(ops: &[RegOp], order: &[usize]) -> bool
     ensures { IsTrue result ↔ AreThere ops.now order.now }
 {
-    order.iter().all(|place| *place < ops.len())
+    order.iter().all(|number| *number < ops.len())
 }
 
 /// Whether the operation with a number did not fail.
-fn is_possible(ops: &[RegOp], place: usize) -> bool
-    ensures { IsTrue result ↔ IsPossible ops.now place }
+fn is_possible(ops: &[RegOp], number: usize) -> bool
+    ensures { IsTrue result ↔ IsPossible ops.now number }
 {
-    match op_at(ops, place).outcome {
+    match op_at(ops, number).outcome {
         Outcome::Failed => false,
         _ => true,
     }
@@ -112,14 +112,14 @@ fn is_possible(ops: &[RegOp], place: usize) -> bool
 fn are_possible(ops: &[RegOp], order: &[usize]) -> bool
     ensures { IsTrue result ↔ ArePossible ops.now order.now }
 {
-    order.iter().all(|place| is_possible(ops, *place))
+    order.iter().all(|number| is_possible(ops, *number))
 }
 
 /// Whether the operation with a number is known to have happened.
-fn is_done_at(ops: &[RegOp], place: usize) -> bool
-    ensures { result ≡ is_op_done ops.now place }
+fn is_done_at(ops: &[RegOp], number: usize) -> bool
+    ensures { result ≡ is_op_done ops.now number }
 {
-    is_done(op_at(ops, place))
+    is_done(op_at(ops, number))
 }
 
 /// How many of the numbers are those of operations that are known to have happened.
@@ -127,8 +127,8 @@ fn count_done(ops: &[RegOp], order: &[usize]) -> usize
     ensures { result ≡ length (filter (is_op_done ops.now) order.now) }
 {
     let mut count = 0;
-    for place in order {
-        if is_done_at(ops, *place) {
+    for number in order {
+        if is_done_at(ops, *number) {
             count += 1;
         }
     }
@@ -137,11 +137,11 @@ fn count_done(ops: &[RegOp], order: &[usize]) -> usize
 
 /// How many operations are known to have happened.
 fn count_all_done(ops: &[RegOp]) -> usize
-    ensures { result ≡ length (done_places_below ops.now (length ops.now)) }
+    ensures { result ≡ length (done_numbers_below ops.now (length ops.now)) }
 {
     let mut count = 0;
-    for place in 0..ops.len() {
-        if is_done_at(ops, place) {
+    for number in 0..ops.len() {
+        if is_done_at(ops, number) {
             count += 1;
         }
     }
@@ -157,7 +157,7 @@ fn has_all_done(ops: &[RegOp], order: &[usize]) -> bool
     count_done(ops, order) == count_all_done(ops)
 }
 
-/// Whether an operation is known to have happened, and ended before this place in the history.
+/// Whether an operation is known to have happened, and ended before this place.
 fn is_over(op: RegOp, at: usize) -> bool
     ensures { IsTrue result ↔ ((op.outcome ≡ Done) × EndsBefore op.ended at) }
 {
@@ -173,8 +173,8 @@ fn none_late(ops: &[RegOp], order: &[usize]) -> bool
     ensures { IsTrue result ↔ IsNoneLate ops.now order.now }
 {
     let mut latest = 0;
-    for place in order {
-        let op = op_at(ops, *place);
+    for number in order {
+        let op = op_at(ops, *number);
         if is_over(op, latest) {
             return false;
         }
@@ -185,13 +185,13 @@ fn none_late(ops: &[RegOp], order: &[usize]) -> bool
 
 /// Whether a number is among those behind it. Where these keep precedence (`in_time`), it can stand
 /// only before the first of them that was invoked after its end.
-fn stands_again(ops: &[RegOp], place: usize, behind: &[usize], in_time: bool) -> bool
-    requires in_time { in_time ≡ true → IsNoneLate ops.now (place ∷ behind.now) }
-    ensures { result ≡ has behind.now place }
+fn stands_again(ops: &[RegOp], number: usize, behind: &[usize], in_time: bool) -> bool
+    requires in_time { in_time ≡ true → IsNoneLate ops.now (number ∷ behind.now) }
+    ensures { result ≡ has behind.now number }
 {
-    let op = op_at(ops, place);
+    let op = op_at(ops, number);
     for other in behind {
-        if *other == place {
+        if *other == number {
             return true;
         }
         if in_time && is_over(op, op_at(ops, *other).invoked) {
@@ -214,8 +214,8 @@ fn are_apart(ops: &[RegOp], order: &[usize]) -> bool
     ensures { IsTrue result ↔ HasNoneTwice order.now }
 {
     let in_time = none_late(ops, order);
-    for (index, place) in order.iter().enumerate() {
-        if stands_again(ops, *place, behind(order, index), in_time) {
+    for (index, number) in order.iter().enumerate() {
+        if stands_again(ops, *number, behind(order, index), in_time) {
             return false;
         }
     }
@@ -227,8 +227,8 @@ fn runs(ops: &[RegOp], initial: Option<i64>, order: &[usize]) -> bool
     ensures { IsTrue result ↔ ((last : Option ℤ) × IsLegalFrom ops.now initial order.now last) }
 {
     let mut value = initial;
-    for place in order {
-        let Some(next) = after(op_at(ops, *place).call, value) else {
+    for number in order {
+        let Some(next) = after(op_at(ops, *number).call, value) else {
             return false;
         };
         value = next;

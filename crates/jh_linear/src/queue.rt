@@ -14,7 +14,7 @@ ghost use Rattle.jh_linear.specs.WaitingInside.{IsWith};
 ghost use Rattle.jh_linear.specs.declared.queue.RankedConfig.{RankedConfig};
 
 use crate::config::Config;
-use crate::history::{Problem, Sorted};
+use crate::sorted_ops::{Problem, SortedOps};
 use std::alloc::{AllocError, Global};
 use std::collections::BinaryHeap;
 use std::marker::Model;
@@ -77,12 +77,8 @@ impl Queue {
 
 /// How many stages one operation of unknown outcome costs: the number of stages divided by the
 /// number of these operations, at least 1, and up to a limit.
-fn price(history: &Sorted) -> usize {
-    match history
-        .stages
-        .len()
-        .checked_div(history.unsure_changes.len())
-    {
+fn price(sorted: &SortedOps) -> usize {
+    match sorted.stages.len().checked_div(sorted.unsure_changes.len()) {
         Some(stages) => stages.clamp(1, MAX_PRICE),
         None => MAX_PRICE,
     }
@@ -92,10 +88,10 @@ fn price(history: &Sorted) -> usize {
 /// unknown outcome that it has not placed.
 pub(crate) fn rank_of(problem: &Problem, config: &Config) -> usize {
     let mut left = 0usize;
-    for (class, next) in problem.history.classes.iter().zip(config.next.as_slice()) {
+    for (class, next) in problem.sorted.classes.iter().zip(config.next.as_slice()) {
         left = left.saturating_add(class.upto.saturating_sub(*next));
     }
-    left.saturating_mul(price(&problem.history))
+    left.saturating_mul(price(&problem.sorted))
         .saturating_add(config.stage)
 }
 
@@ -106,7 +102,7 @@ pub(crate) fn second_expansion(problem: &Problem, ranked: RankedConfig) -> Ranke
     ensures last { result.is_last ≡ true }
 {
     RankedConfig {
-        rank: ranked.rank.saturating_sub(price(&problem.history)),
+        rank: ranked.rank.saturating_sub(price(&problem.sorted)),
         at: ranked.at,
         is_last: true,
     }

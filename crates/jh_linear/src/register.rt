@@ -38,7 +38,7 @@ pub enum RegCall {
     Cas(i64, i64),
 }
 
-/// One operation: an invocation with its outcome.
+/// One operation: an invocation with its completion, if it has one.
 #[derive(Clone, Copy, Debug, PartialEq, Eq)]
 pub struct RegOp {
     /// The place of its invocation in the history, `invoke` of a pair of `jh_ops`.

@@ -10,10 +10,10 @@ ghost use Rattle.jh_linear.specs.Stuck.{IsStuck};
 ghost use Rattle.jh_linear.specs.StuckInside as inside;
 ghost use Rattle.jh_linear.specs.StuckInside.{IsKnownUntil};
 
-use crate::history::Problem;
 use crate::order_check::op_at;
 use crate::register::{Outcome, RegOp, after, op_end};
 use crate::search::Search;
+use crate::sorted_ops::Problem;
 use crate::verdict::{Linearization, Step, Stuck};
 use std::alloc::{AllocError, Global};
 
@@ -45,8 +45,7 @@ fn push_reversed(order: &mut Vec<usize>, placed: &[usize]) -> Result<(), AllocEr
     Ok(())
 }
 
-/// Whether an operation is known to have happened by a history that is cut right before a place of
-/// it.
+/// Whether an operation is known to have happened by a history that is cut right before a place.
 fn is_known(op: RegOp, cut: usize) -> bool
     ensures { result ≡ inside.is_known op cut }
 {
@@ -57,13 +56,13 @@ fn is_known(op: RegOp, cut: usize) -> bool
 }
 
 /// How many numbers of an order there are up to the last operation that is known to have happened,
-/// by a history that is cut right before a place of it.
+/// by a history that is cut right before a place.
 fn known_until(ops: &[RegOp], order: &[usize], cut: usize) -> usize
     ensures { IsKnownUntil ops.now order.now cut result }
 {
     let mut count = 0;
-    for (index, place) in order.iter().enumerate() {
-        if is_known(op_at(ops, *place), cut) {
+    for (index, number) in order.iter().enumerate() {
+        if is_known(op_at(ops, *number), cut) {
             count = index + 1;
         }
     }
@@ -75,8 +74,8 @@ fn value_after(ops: &[RegOp], initial: Option<i64>, order: &[usize]) -> Option<i
     ensures { (last : Option ℤ) → IsLegalFrom ops.now initial order.now last → result ≡ last }
 {
     let mut value = initial;
-    for place in order {
-        if let Some(next) = after(op_at(ops, *place).call, value) {
+    for number in order {
+        if let Some(next) = after(op_at(ops, *number).call, value) {
             value = next;
         }
     }
@@ -96,7 +95,7 @@ pub(crate) fn stuck_of(
     let furthest = &search.furthest;
     let mut order = order_of(alloc, search.steps.as_slice(), furthest.step.parent)?;
     order.extend_from_slice(furthest.step.placed.as_slice())?;
-    let end = op_end(op_at(problem.ops, problem.history.stages[furthest.stage].number));
+    let end = op_end(op_at(problem.ops, problem.sorted.stages[furthest.stage].number));
     order.truncate(known_until(problem.ops, order.as_slice(), end));
     let value = value_after(problem.ops, problem.initial, order.as_slice());
     Ok(Stuck {

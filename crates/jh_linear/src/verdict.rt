@@ -7,8 +7,8 @@ ghost use Rattle.std.specs.Prelude.{◌≡◌};
 use std::marker::Model;
 
 /// The numbers of operations in the order in which these are linearized: a linearization, or a part
-/// of one. The numbers of operations are places in the list that `reg_ops` gives, from 0, and not
-/// in the history. A contract sees a list.
+/// of one. The number of an operation is its index in the list that `reg_ops` gives, from 0, and no
+/// place of the history. A contract sees a list.
 #[derive(Debug, Drop)]
 pub struct Linearization {
     numbers: Vec<usize>,

@@ -6,8 +6,8 @@ ghost use Rattle.std.specs.Prelude.{◌≡◌, ◌<◌, length, vec_len, IfOk, O
 ghost use Rattle.jh_linear.specs.SearchInside.{EndsAs, HasGone, IsMadeBy, IsMove, IsProblem, stages_in};
 
 use crate::config::{Config, place};
-use crate::history::Problem;
 use crate::moves::{Move, find_moves, number_of};
+use crate::sorted_ops::Problem;
 use std::alloc::{AllocError, Global};
 
 /// How a walk ended.
@@ -29,7 +29,7 @@ pub(crate) fn make(
 ) -> Result<(), AllocError>
     requires problem { IsProblem problem.now }
     requires stage { config.old.stage < stages_in problem.now }
-    requires sizes { vec_len config.old.next ≡ length problem.now.history.classes.items }
+    requires sizes { vec_len config.old.next ≡ length problem.now.sorted.classes.items }
     requires moves { IsMove problem.now config.old next_move }
     ensures { OnOk result
         (IsMadeBy problem.now config.old placed.old.items next_move config.new placed.new.items) }
@@ -48,13 +48,13 @@ pub(crate) fn walk(
     moves: &mut Vec<Move>,
 ) -> Result<WalkEnd, AllocError>
     requires problem { IsProblem problem.now }
-    requires sizes { vec_len config.old.next ≡ length problem.now.history.classes.items }
+    requires sizes { vec_len config.old.next ≡ length problem.now.sorted.classes.items }
     ensures gone { OnOk result
         (HasGone problem.now config.old placed.old.items config.new placed.new.items) }
     ensures ends { IfOk result (λ walk. EndsAs problem.now config.new placed.new.items walk) }
 {
     for _ in 0..problem.ops.len() {
-        if config.stage >= problem.history.stages.len() {
+        if config.stage >= problem.sorted.stages.len() {
             return Ok(WalkEnd::Complete);
         }
         find_moves(alloc, problem, config, moves)?;
@@ -64,7 +64,7 @@ pub(crate) fn walk(
             _ => return Ok(WalkEnd::Several),
         }
     }
-    if config.stage >= problem.history.stages.len() {
+    if config.stage >= problem.sorted.stages.len() {
         return Ok(WalkEnd::Complete);
     }
     Ok(WalkEnd::Several)

@@ -12,9 +12,9 @@ ghost use Rattle.jh_linear.specs.declared.moves.Source.TheVariants as source;
 ghost use Rattle.jh_linear.specs.WantedInside.{Holds, HoldsHappened, HoldsMore, HoldsUnknown};
 
 use crate::config::Config;
-use crate::history::Problem;
 use crate::moves::{Source, is_ready, op_of};
 use crate::register::{RegCall, needed};
+use crate::sorted_ops::Problem;
 use std::alloc::{AllocError, Global};
 use std::collections::HashSet;
 
@@ -66,14 +66,17 @@ fn put_next(
 ) -> Result<(), AllocError>
     requires problem { IsProblem problem.now }
     requires stage { config.now.stage < stages_in problem.now }
-    requires class { class < length problem.now.history.classes.items }
+    requires class { class < length problem.now.sorted.classes.items }
     ensures needs { OnOk result ((value : Option ℤ) → IsReady problem.now config.now class
-        → Needs (source_call problem.now config.now (source.Unknown class)) value
+        → Needs (source_call problem.now config.now (source.NextOfClass class)) value
         → Holds wanted.new value) }
     ensures more { OnOk result (HoldsMore wanted.old wanted.new) }
 {
     if is_ready(problem, config, class) {
-        put(wanted, op_of(problem, config, Source::Unknown(class)).call)?;
+        put(
+            wanted,
+            op_of(problem, config, Source::NextOfClass(class)).call,
+        )?;
     }
     Ok(())
 }
@@ -84,10 +87,10 @@ fn put_unknown(problem: &Problem, config: &Config, wanted: &mut Wanted) -> Resul
     requires stage { config.now.stage < stages_in problem.now }
     ensures unknown { OnOk result
         (HoldsUnknown problem.now config.now wanted.new
-        (length problem.now.history.classes.items)) }
+        (length problem.now.sorted.classes.items)) }
     ensures more { OnOk result (HoldsMore wanted.old wanted.new) }
 {
-    for class in 0..problem.history.classes.len() {
+    for class in 0..problem.sorted.classes.len() {
         put_next(problem, config, class, wanted)?;
     }
     Ok(())

@@ -12,7 +12,7 @@ use jh_check::{
     CheckError, check_counter, check_set, check_unique, write_counter, write_ids, write_set,
 };
 use jh_edn::EdnError;
-use jh_linear::{LinVerdict, RegOp, RegOpsError, check, check_order, reg_ops};
+use jh_linear::{LinVerdict, Object, RegOp, RegOpsError, check, check_order, reg_ops};
 use jh_ops::{Op, Workload, pair};
 use std::alloc::Global;
 use std::test::Fail;
@@ -35,7 +35,7 @@ pub(crate) fn calls_in(alloc: Global, history: &str) -> Option<Result<Vec<RegOp>
 {
     let ops = ops_of(alloc, history)?;
     let pairs = pair(alloc, &ops).ok()?;
-    match reg_ops(alloc, &ops, &pairs) {
+    match reg_ops(alloc, Object::Register, &ops, &pairs) {
         Err(RegOpsError::OutOfMemory) => None,
         made => Some(made),
     }

@@ -8,7 +8,7 @@ pub stages-preserved : goal.stages-preserved
 stages-preserved c =
     let l = c.stages in
     let p = c.args.problem.now in
-    let h = p.history in
+    let h = p.sorted in
     let parsed = c.is_passed.ensures.passed c.stages-test.true in
     let lt : l.later < stages_in p = subst (λ s. l.later < length s) c.as_slice-stages.ensures.value parsed.0 in
     let gone = seen_at h.stages.items c.as_slice-stages.result.now l.pending.items c.as_slice.result.now l.later _ c.as_slice-stages.ensures.value c.as_slice.ensures.value parsed.1 in

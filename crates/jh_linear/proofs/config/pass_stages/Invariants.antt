@@ -6,7 +6,7 @@ abbrev pub invariant-stages : goal.invariant-stages
 invariant-stages l = record {
   rises : l.stage ≤ l.later;
   low : l.later ≤ stages_in l.problem;
-  at : (order : List ℕ) → IsAt l.problem.history.arrivals.items l.problem.history.stages.items order l.stage l.fn.pending.items → IsAt l.problem.history.arrivals.items l.problem.history.stages.items order l.later l.pending.items;
+  at : (order : List ℕ) → IsAt l.problem.sorted.arrivals.items l.problem.sorted.stages.items order l.stage l.fn.pending.items → IsAt l.problem.sorted.arrivals.items l.problem.sorted.stages.items order l.later l.pending.items;
 }
 
 abbrev pub decreases-stages : goal.decreases-stages

@@ -20,7 +20,7 @@ returns-then-is_empty c =
     let p = c.args.problem.now in
     let config = c.args.config.now in
     let happened = c.in_ok-push_happened.ensures in
-    let empty : length p.history.classes.items ≡ 0 = grind (arith, common_steps) in
+    let empty : length p.sorted.classes.items ≡ 0 = grind (arith, common_steps) in
     let none : IsNoneSettled p config (length config.happened.items) = λ index lt. c.in_default.ensures.none refl index (omega (arith, lt)) in
     record {
       each = happened.more.each (each_none p config c.clear.new.self.items c.clear.ensures.items);

@@ -8,10 +8,10 @@ use Rattle.jh_linear.proofs.operations.least_bad.Goals as goal
 
 pub loop-pair-preserved : goal.loop-pair-preserved
 loop-pair-preserved c =
-    let history = operations c.args.ops.now in
+    let history = operations c.args.history.now in
     let pairs = c.args.pairs.now in
     let l = c.loop-pair in
     let low : l.pair-index < length pairs = omega arith in
-    subst (λ least. IsLeastBad history (take (l.pair-index + 1) pairs) least) (sym c.lesser-least.ensures)
-    (subst (λ xs. IsLeastBad history xs (lesser_place l.least c.bad_place.result)) (sym (take_more pairs l.pair-index _ low))
-    (least_more history (take l.pair-index pairs) _ l.least c.bad_place.result (sym c.bad_place.ensures) l.invariant))
+    subst (λ least. IsLeastBad c.args.object history (take (l.pair-index + 1) pairs) least) (sym c.lesser-least.ensures)
+    (subst (λ xs. IsLeastBad c.args.object history xs (lesser_place l.least c.bad_place.result)) (sym (take_more pairs l.pair-index _ low))
+    (least_more c.args.object history (take l.pair-index pairs) _ l.least c.bad_place.result (sym c.bad_place.ensures) l.invariant))

@@ -4,4 +4,4 @@ use Rattle.jh_linear.specs.Operations.{IsLeastBad}
 use Rattle.jh_linear.proofs.operations.least_bad.Given as goal
 
 abbrev pub invariant-loop-pair : goal.invariant-loop-pair
-invariant-loop-pair l = IsLeastBad (operations l.ops) (take l.pair-index l.pairs) l.least
+invariant-loop-pair l = IsLeastBad l.object (operations l.history) (take l.pair-index l.pairs) l.least

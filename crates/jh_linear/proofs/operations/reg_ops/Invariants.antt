@@ -4,4 +4,4 @@ use Rattle.jh_linear.specs.Operations.{AreRegOps}
 use Rattle.jh_linear.proofs.operations.reg_ops.Given as goal
 
 abbrev pub invariant-loop-pair : goal.invariant-loop-pair
-invariant-loop-pair l = AreRegOps (operations l.ops) (take l.pair-index l.pairs) l.register_ops.items
+invariant-loop-pair l = AreRegOps l.object (operations l.history) (take l.pair-index l.pairs) l.ops.items

@@ -1,4 +1,4 @@
-use Rattle.jh_linear.proofs.PlaceSetLemmas.{not_true}
+use Rattle.jh_linear.proofs.NumberSetLemmas.{not_true}
 use Rattle.jh_linear.proofs.OrderLemmas.{late_if, keeps_if}
 use Rattle.jh_linear.proofs.order_check.check_order.Goals as goal
 
@@ -32,7 +32,7 @@ returns c =
     record {
       judged = record {
         last = runs.0;
-        partial = record { places = there; distinct = apart; possible = possible; precedence = keeps; runs = runs.1 };
+        partial = record { there = there; distinct = apart; possible = possible; precedence = keeps; runs = runs.1 };
         whole = whole;
       };
     }

@@ -1,6 +1,6 @@
 use Rattle.std.proofs.Common.{◌≡◌, ◌++◌, ◌≤◌, ◌-◌, ◌^◌, List, ℕ, take, sym, ap, subst, ◌∙◌, arith}
 use Rattle.std.proofs.lemmas.List.{get_or_read}
-use Rattle.jh_linear.specs.declared.history.Stage.{Stage}
+use Rattle.jh_linear.specs.declared.sorted_ops.Stage.{Stage}
 use Rattle.jh_linear.specs.declared.register.RegOp.{RegOp}
 use Rattle.jh_linear.specs.declared.verdict.Step.{Step}
 use Rattle.jh_linear.specs.Order.{IsLegalFrom, op_at}
@@ -19,7 +19,7 @@ returns c =
     let far = s.furthest in
     let order : List ℕ = furthest_order s.steps.items far in
     let end : ℕ = c.op_end-end.result in
-    let stage : c.index.result.now ≡ stage_at p.history.stages.items far.stage = get_or_read p.history.stages.items far.stage c.index.result.now c.requires.exhausted.0.begun.far.open' c.index.ensures no_stage in
+    let stage : c.index.result.now ≡ stage_at p.sorted.stages.items far.stage = get_or_read p.sorted.stages.items far.stage c.index.result.now c.requires.exhausted.0.begun.far.open' c.index.ensures no_stage in
     let end_is : end ≡ End p c.requires.problem s c.requires.exhausted = c.op_end-end.ensures ∙ ap op_end (c.op_at.ensures ∙ ap (λ (x : Stage). op_at ops x.number) stage) in
     let first : c.in_ok-order.order.items ≡ order_at s.steps.items far.step.parent = c.in_ok-order.ensures ∙ ap (λ (ss : List Step). order_at ss far.step.parent) c.as_slice.ensures.value in
     let whole : c.extend_from_slice.new.self.items ≡ order = c.in_ok-extend_from_slice.ensures.items ∙ ap (λ o. o ++ c.as_slice-2.result.now) first ∙ ap (λ o. order_at s.steps.items far.step.parent ++ o) c.as_slice-2.ensures in

@@ -2,7 +2,7 @@ use Rattle.std.proofs.Common.{◌≡◌, subst, sym, inl, inr, arith}
 use Rattle.std.proofs.lemmas.Bool.{cases_lt}
 use Rattle.jh_linear.specs.WantedInside.{Holds}
 use Rattle.jh_linear.specs.SearchInside.{IsReady, Needs, source_call}
-use Rattle.jh_linear.specs.declared.moves.Source.TheVariants.{Unknown}
+use Rattle.jh_linear.specs.declared.moves.Source.TheVariants.{NextOfClass}
 use Rattle.jh_linear.proofs.wanted.put_unknown.Goals as goal
 
 pub loop-class-preserved : goal.loop-class-preserved
@@ -17,7 +17,7 @@ loop-class-preserved c =
         | inl before ↦ put.more value (l.invariant.so_far k value before ready needs)
         | inr here ↦
             let is : l.class ≡ k = omega (arith, lt, here) in
-            put.needs value (subst (IsReady p config) (sym is) ready) (subst (λ j. Needs (source_call p config (Unknown j)) value) (sym is) needs)
+            put.needs value (subst (IsReady p config) (sym is) ready) (subst (λ j. Needs (source_call p config (NextOfClass j)) value) (sym is) needs)
       ];
       more = λ value held. put.more value (l.invariant.more value held);
     }

@@ -1,4 +1,4 @@
--- Which places stand in an order, and those of a list that it lacks.
+-- Which numbers stand in an order, and those of a list that it lacks.
 use Rattle.std.proofs.Common.{◌≡◌, ℕ, zero, suc, ◌<◌, Bool, true, false, cond, not, eqb, List, [], ◌∷◌, ◌++◌, length, take, drop, get_or, filter, refl, sym, ap, subst, ◌∙◌, inl, inr, arith, eq-eqb, ne_eqb}
 use Rattle.std.specs.Prelude.{◌||◌, ◌&&◌, ◌⊎◌, ◌==◌}
 use Rattle.std.specs.List.{IsDistinct, AllByRecursion, remove}
@@ -6,7 +6,7 @@ use Rattle.std.proofs.lemmas.Bool.{false≢true, eqb-true}
 use Rattle.std.proofs.lemmas.List.Folds.{list_any-append}
 use Rattle.std.proofs.lemmas.Map.Keys.{IsDistinct-head, IsDistinct-tail, IsDistinct-cons}
 use Rattle.jh_linear.specs.Order.{has}
-use Rattle.jh_linear.specs.SearchInside.{places_without}
+use Rattle.jh_linear.specs.SearchInside.{numbers_without}
 
 pub eqb_self : (n : ℕ) → eqb n n ≡ true
 eqb_self n = eq-eqb n n refl
@@ -101,10 +101,10 @@ passes_filter t (x ∷ xs) q h =
 pub not_flips : (b : Bool) → not b ≡ true → b ≡ false
 not_flips b h = elim b as (λ v. not v ≡ true → v ≡ false) [ true ↦ λ e. absurd (false≢true e) | false ↦ λ _. refl ] h
 
-pub has_without : (order xs : List ℕ) (q : ℕ) → has xs q ≡ true → has order q ≡ false → has (places_without order xs) q ≡ true
+pub has_without : (order xs : List ℕ) (q : ℕ) → has xs q ≡ true → has order q ≡ false → has (numbers_without order xs) q ≡ true
 has_without order xs q h k = has_filter (λ p. not (has order p)) xs q h (ap not k)
 
-pub in_without : (order xs : List ℕ) (q : ℕ) → has (places_without order xs) q ≡ true → (has xs q ≡ true) × (has order q ≡ false)
+pub in_without : (order xs : List ℕ) (q : ℕ) → has (numbers_without order xs) q ≡ true → (has xs q ≡ true) × (has order q ≡ false)
 in_without order xs q h = let r = passes_filter (λ p. not (has order p)) xs q h in (r.0, not_flips _ r.1)
 
 -- no later one is the first
@@ -141,7 +141,7 @@ apart_halves (x ∷ xs) (suc n) q d h k =
     ]
 
 -- nothing is left out where the order has none of the list
-pub without_none : (order xs : List ℕ) → ((q : ℕ) → has xs q ≡ true → has order q ≡ false) → places_without order xs ≡ xs
+pub without_none : (order xs : List ℕ) → ((q : ℕ) → has xs q ≡ true → has order q ≡ false) → numbers_without order xs ≡ xs
 without_none order [] h = refl
 without_none order (x ∷ xs) h =
     let here : has order x ≡ false = h x (or_left (eqb x x) _ (eqb_self x)) in
@@ -196,9 +196,9 @@ not_or order p q = rw (has_append order (p ∷ []) q) (elim (has order q) as (λ
   | false ↦ elim (eqb p q) as (λ w. not (w || false) ≡ not w) [ true ↦ refl | false ↦ refl ]
 ])
 
--- one more place in the order is one less outside it
-pub without_push : (order xs : List ℕ) (i : ℕ) → IsDistinct eqb xs → i < length (places_without order xs) → places_without (order ++ get_or (places_without order xs) i 0 ∷ []) xs ≡ remove (places_without order xs) i
+-- one more number in the order is one less outside it
+pub without_push : (order xs : List ℕ) (i : ℕ) → IsDistinct eqb xs → i < length (numbers_without order xs) → numbers_without (order ++ get_or (numbers_without order xs) i 0 ∷ []) xs ≡ remove (numbers_without order xs) i
 without_push order xs i d lt =
-    let p : ℕ = get_or (places_without order xs) i 0 in
+    let p : ℕ = get_or (numbers_without order xs) i 0 in
     filter_filter (λ q. not (has order q)) (λ q. not (eqb p q)) (λ q. not (has (order ++ p ∷ []) q)) xs (λ q. not_or order p q)
-    ∙ filter_one (places_without order xs) i (distinct_filter _ xs d) lt
+    ∙ filter_one (numbers_without order xs) i (distinct_filter _ xs d) lt

@@ -1,8 +1,8 @@
 use Rattle.std.proofs.Common.{◌≡◌, ◌+◌, length, sym, ap, subst, ◌∙◌, arith}
 use Rattle.jh_linear.specs.SearchInside.{AreClassesUpTo}
-use Rattle.jh_linear.proofs.HistoryLemmas.{AreTogether, runs_none, runs_push, together_more, together_one}
-use Rattle.jh_linear.proofs.history.classes_of.Goals as goal
-use Rattle.jh_linear.proofs.history.classes_of.Goals.{then-ends_at+in_ok-push, else-ends_at}
+use Rattle.jh_linear.proofs.SortedLemmas.{AreTogether, runs_none, runs_push, together_more, together_one}
+use Rattle.jh_linear.proofs.sorted_ops.classes_of.Goals as goal
+use Rattle.jh_linear.proofs.sorted_ops.classes_of.Goals.{then-ends_at+in_ok-push, else-ends_at}
 
 pub loop-index-init : goal.loop-index-init
 loop-index-init c =

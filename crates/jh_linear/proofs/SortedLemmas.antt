@@ -1,15 +1,15 @@
--- Sorted entries make a history, and classes.
+-- Sorted entries make arrivals, stages and classes.
 use Rattle.std.proofs.Common.{◌≡◌, ℕ, zero, suc, ◌+◌, ◌-◌, ◌^◌, ◌<◌, ◌≤◌, true, Some, None, List, [], ◌∷◌, ◌++◌, length, take, get_or, map, unwrap_or, refl, sym, ap, subst, ◌∙◌, inl, inr, arith}
 use Rattle.std.proofs.lemmas.Bool.{cases_lt}
 use Rattle.std.proofs.lemmas.List.{length-map, length-take, length_push, get_or-map, get_or-take, get_or_append_left, get_or_default, get_or_push}
 use Rattle.std.proofs.lemmas.List.Elements.{All-map}
 use Rattle.jh_linear.specs.declared.register.RegCall.{RegCall}
 use Rattle.jh_linear.specs.declared.register.RegOp.{RegOp}
-use Rattle.jh_linear.specs.declared.history.Class.{Class}
-use Rattle.jh_linear.specs.declared.history.Stage.{Stage}
+use Rattle.jh_linear.specs.declared.sorted_ops.Class.{Class}
+use Rattle.jh_linear.specs.declared.sorted_ops.Stage.{Stage}
 use Rattle.jh_linear.specs.Order.{op_at, has, IsDone, Precedes, EndsBefore}
-use Rattle.jh_linear.specs.SearchInside.{AreClasses, ArePlaceEntries, AreClassesUpTo, AreStages, AreTwins, DoNotFall, AreTwinEntries, IsHistory, IsOfClass, IsUnsureChange, arrival_entry, class_at, end_at, end_entry, invocation_at, no_call, no_class, no_entry, stage_at, unknown_place, unknown_entry}
-use Rattle.jh_linear.proofs.PlaceSetLemmas.{has_here, place_of}
+use Rattle.jh_linear.specs.SearchInside.{AreClasses, AreNumberEntries, AreClassesUpTo, AreStages, AreTwins, DoNotFall, AreTwinEntries, AreDoneSorted, IsOfClass, IsUnsureChange, arrival_entry, class_at, end_at, end_entry, invocation_at, no_call, no_class, no_entry, stage_at, unknown_number, unknown_entry}
+use Rattle.jh_linear.proofs.NumberSetLemmas.{has_here, place_of}
 use Rattle.jh_linear.proofs.StageLemmas.{done_there, end_before, possible_there, unknown_possible}
 
 get_map : (xs : List (ℕ × ℕ)) (i : ℕ) → get_or (map (λ x. x.1) xs) i 0 ≡ (get_or xs i no_entry).1
@@ -40,17 +40,17 @@ before_end ops a b done small lt = (
   ] small lt,
 )
 
--- the entry of a place that is kept, and the place of an entry
-module _ {X : Type 0} (Kept : ℕ → Type 0) (entry : ℕ → X) (place : X → ℕ) (d : X) (n : ℕ) (xs : List X) (e : ArePlaceEntries Kept entry place n xs) where
+-- the entry of a number that is kept, and the number of an entry
+module _ {X : Type 0} (Kept : ℕ → Type 0) (entry : ℕ → X) (number : X → ℕ) (d : X) (n : ℕ) (xs : List X) (e : AreNumberEntries Kept entry number n xs) where
   entry_of : (p : ℕ) → p < n → Kept p → (i : ℕ) × (i < length xs) × (get_or xs i d ≡ entry p)
   entry_of p lt kept = let r = e.all p lt kept in (r.0, r.1, get_or_default xs r.0 d (entry p) r.1 ∙ r.2)
 
-  entry_at : (i : ℕ) → i < length xs → entry (place (get_or xs i d)) ≡ get_or xs i d
+  entry_at : (i : ℕ) → i < length xs → entry (number (get_or xs i d)) ≡ get_or xs i d
   entry_at i lt = (e.each i d lt).2
 
-pub is_history : (ops : List RegOp) (inv ends : List (ℕ × ℕ)) (stages : List Stage) → ArePlaceEntries (IsDone ops) (arrival_entry ops) (λ x. x.1) (length ops) inv → DoNotFall inv → ArePlaceEntries (IsDone ops) (end_entry ops) (λ x. x.1) (length ops) ends → DoNotFall ends → AreStages inv ends stages
-    → IsHistory ops (map (λ x. x.1) inv) stages
-is_history ops inv ends stages ie ir ee er ss =
+pub are_done_sorted : (ops : List RegOp) (inv ends : List (ℕ × ℕ)) (stages : List Stage) → AreNumberEntries (IsDone ops) (arrival_entry ops) (λ x. x.1) (length ops) inv → DoNotFall inv → AreNumberEntries (IsDone ops) (end_entry ops) (λ x. x.1) (length ops) ends → DoNotFall ends → AreStages inv ends stages
+    → AreDoneSorted ops (map (λ x. x.1) inv) stages
+are_done_sorted ops inv ends stages ie ir ee er ss =
     let Done' = IsDone ops in
     let arrival = entry_of Done' (arrival_entry ops) (λ x. x.1) no_entry (length ops) inv ie in
     let end_of = entry_of Done' (end_entry ops) (λ x. x.1) no_entry (length ops) ends ee in
@@ -79,13 +79,13 @@ is_history ops inv ends stages ie ir ee er ss =
       needs = λ k a b lt early before.
           let s = end_of a (done_there ops a before.0) before.0 in
           let inside : s.0 < length stages = omega (arith, s.1, ss.sizes) in
-          let place : (stage_at stages s.0).number ≡ a = ss.number s.0 inside ∙ ap (λ x. x.1) s.2 in
+          let number : (stage_at stages s.0).number ≡ a = ss.number s.0 inside ∙ ap (λ x. x.1) s.2 in
           let first = end_before ops a b before in
           let under : s.0 < k = elim (cases_lt s.0 k) as (λ _. s.0 < k) [
             | inl y ↦ y
-            | inr over ↦ absurd (omega (arith, rise k s.0 over inside, ap (end_at ops) place, first, early))
+            | inr over ↦ absurd (omega (arith, rise k s.0 over inside, ap (end_at ops) number, first, early))
           ] in
-          (s.0, under, place);
+          (s.0, under, number);
       in_time = λ k p lt h.
           let r = taken_place inv _ p h in
           let low = ss.below k r.0 lt r.1 in
@@ -106,20 +106,20 @@ is_history ops inv ends stages ie ir ee er ss =
 
 -- ---- classes
 
-get_places : (entries : List (RegCall × ℕ × ℕ)) (i : ℕ) → i < length entries → unknown_place (map (λ x. x.2) entries) i ≡ (get_or entries i no_call).2
-get_places entries i lt = get_or-map (λ (x : RegCall × ℕ × ℕ). x.2) entries i no_call 0 lt
+get_numbers : (entries : List (RegCall × ℕ × ℕ)) (i : ℕ) → i < length entries → unknown_number (map (λ x. x.2) entries) i ≡ (get_or entries i no_call).2
+get_numbers entries i lt = get_or-map (λ (x : RegCall × ℕ × ℕ). x.2) entries i no_call 0 lt
 
-pub are_classes : (ops : List RegOp) (entries : List (RegCall × ℕ × ℕ)) (classes : List Class) → ArePlaceEntries (IsUnsureChange ops) (unknown_entry ops) (λ x. x.2) (length ops) entries → AreClassesUpTo entries classes (length entries)
+pub are_classes : (ops : List RegOp) (entries : List (RegCall × ℕ × ℕ)) (classes : List Class) → AreNumberEntries (IsUnsureChange ops) (unknown_entry ops) (λ x. x.2) (length ops) entries → AreClassesUpTo entries classes (length entries)
     → AreClasses ops (map (λ x. x.2) entries) classes
 are_classes ops entries classes e runs =
     let size : length (map (λ (x : RegCall × ℕ × ℕ). x.2) entries) ≡ length entries = length-map entries (λ (x : RegCall × ℕ × ℕ). x.2) in
-    let at : (i : ℕ) → i < length entries → unknown_entry ops (unknown_place (map (λ x. x.2) entries) i) ≡ get_or entries i no_call = λ i lt.
-    ap (unknown_entry ops) (get_places entries i lt) ∙ entry_at (IsUnsureChange ops) (unknown_entry ops) (λ x. x.2) no_call (length ops) entries e i lt in
+    let at : (i : ℕ) → i < length entries → unknown_entry ops (unknown_number (map (λ x. x.2) entries) i) ≡ get_or entries i no_call = λ i lt.
+    ap (unknown_entry ops) (get_numbers entries i lt) ∙ entry_at (IsUnsureChange ops) (unknown_entry ops) (λ x. x.2) no_call (length ops) entries e i lt in
     record {
       distinct = e.distinct;
       each = All-map (IsUnsureChange ops) (λ x. x.2) entries (λ k d lt. (e.each k d lt).1);
       all = λ p un. let r = entry_of (IsUnsureChange ops) (unknown_entry ops) (λ x. x.2) no_call (length ops) entries e p (possible_there ops p (unknown_possible ops p un)) un in
-          subst (λ q. has (map (λ x. x.2) entries) q ≡ true) (get_places entries r.0 r.1 ∙ ap (λ x. x.2) r.2) (has_here (map (λ x. x.2) entries) r.0 (omega (arith, r.1, size)));
+          subst (λ q. has (map (λ x. x.2) entries) q ≡ true) (get_numbers entries r.0 r.1 ∙ ap (λ x. x.2) r.2) (has_here (map (λ x. x.2) entries) r.0 (omega (arith, r.1, size)));
       bounded = λ k lt. let b = runs.bounded k lt in (b.0, omega (arith, b.1, size));
       covered = λ j lt. runs.covered j (omega (arith, lt, size));
       rises = runs.rises;
@@ -128,7 +128,7 @@ are_classes ops entries classes e runs =
           let low : i < length entries = omega (arith, in'.1, b.1) in
           let high : j < length entries = omega (arith, jn.1, b.1) in
           let together = runs.together k i j lt in' jn le in
-          let same : AreTwins ops (unknown_place (map (λ x. x.2) entries) i) (unknown_place (map (λ x. x.2) entries) j) = (
+          let same : AreTwins ops (unknown_number (map (λ x. x.2) entries) i) (unknown_number (map (λ x. x.2) entries) j) = (
             ap (λ (x : RegCall × ℕ × ℕ). x.0) (at i low) ∙ together.0 ∙ sym (ap (λ (x : RegCall × ℕ × ℕ). x.0) (at j high)),
             omega (arith, ap (λ (x : RegCall × ℕ × ℕ). x.1) (at i low), together.1, ap (λ (x : RegCall × ℕ × ℕ). x.1) (at j high)),
           ) in

@@ -1,16 +1,17 @@
-//! The operations of a history, sorted for the search. Those that are known to have happened are
+//! The operations of a register, sorted for the search. Those that are known to have happened are
 //! sorted by their invocations, and once more by their ends, which make the stages. Those of
 //! unknown outcome are sorted by their calls, which make the classes. `specs/SearchInside.antt`
-//! says what holds of both (`IsHistory`, `AreClasses`).
+//! says what holds of both (`AreDoneSorted`, `AreClasses`).
 
-ghost use Rattle.std.specs.Prelude.{◌≡◌, ℕ, ◌<◌, ◌≤◌, ◌-◌, ◌^◌, IfOk, length, map, slice_index_or};
+ghost use Rattle.std.specs.Prelude.{◌≡◌, ℕ, ◌<◌, ◌≤◌, ◌-◌, IfOk, length, map, slice_index_or};
 ghost use Rattle.std.specs.Prelude.{true};
-ghost use Rattle.jh_linear.specs.SearchInside.{IsHistory, AreClasses, ArePlaceEntries, DoNotFall};
+ghost use Rattle.jh_linear.specs.SearchInside.{AreDoneSorted, AreClasses, AreNumberEntries, DoNotFall};
 ghost use Rattle.jh_linear.specs.SearchInside.{AreStages, AreClassesUpTo, IsUnsureChange};
 ghost use Rattle.jh_linear.specs.SearchInside.{AreTwinEntries, arrival_entry, end_entry, unknown_entry};
 ghost use Rattle.jh_linear.specs.SearchInside.{no_entry};
 ghost use Rattle.jh_linear.specs.SearchInside.{no_call};
 ghost use Rattle.jh_linear.specs.Order.{IsDone};
+ghost use Rattle.jh_linear.specs.Stuck.{behind_all};
 ghost use Rattle.std.specs.Prelude.{false};
 
 use crate::register::{RegCall, RegOp, is_done, is_same, is_unsure_change, op_end};
@@ -18,7 +19,7 @@ use std::alloc::{AllocError, Global};
 
 /// A stage of the search. There is one for each operation that is known to have happened, in the
 /// order of their ends. It is passed when its operation is placed. The stages of a process by which
-/// `jh_ops` pairs are no such stages.
+/// `jh_ops` makes pairs are no such stages.
 #[derive(Clone, Copy, Debug)]
 pub(crate) struct Stage {
     /// The number of its operation, which ended first of those that no earlier stage has.
@@ -40,7 +41,7 @@ pub(crate) struct Class {
 
 /// The numbers of the operations, sorted as the search needs them.
 #[derive(Drop)]
-pub(crate) struct Sorted {
+pub(crate) struct SortedOps {
     /// The operations that are known to have happened, in the order of their invocations.
     pub(crate) arrivals: Vec<usize>,
     /// The same operations in the order of their ends.
@@ -56,40 +57,40 @@ pub(crate) struct Sorted {
 pub(crate) struct Problem<'a> {
     pub(crate) ops: &'a [RegOp],
     pub(crate) initial: Option<i64>,
-    pub(crate) history: Sorted,
+    pub(crate) sorted: SortedOps,
     pub(crate) budget: u64,
 }
 
 /// The numbers of the operations that are known to have happened, each behind the place of its
-/// invocation in the history, and sorted by that.
+/// invocation, and sorted by that.
 fn arrivals_of(alloc: Global, ops: &[RegOp]) -> Result<Vec<(usize, usize)>, AllocError>
-    ensures entries { IfOk result (λ pairs.
-        ArePlaceEntries (IsDone ops.now) (arrival_entry ops.now) (λ x. x.1)
-        (length ops.now) pairs.items) }
-    ensures rises { IfOk result (λ pairs. DoNotFall pairs.items) }
+    ensures entries { IfOk result (λ entries.
+        AreNumberEntries (IsDone ops.now) (arrival_entry ops.now) (λ x. x.1)
+        (length ops.now) entries.items) }
+    ensures rises { IfOk result (λ entries. DoNotFall entries.items) }
 {
     let mut arrivals = Vec::new(alloc);
-    for (place, op) in ops.iter().enumerate() {
+    for (number, op) in ops.iter().enumerate() {
         if is_done(*op) {
-            arrivals.push((op.invoked, place))?;
+            arrivals.push((op.invoked, number))?;
         }
     }
     arrivals.sort()?;
     Ok(arrivals)
 }
 
-/// The numbers of the operations that are known to have happened, each behind the place of its end
-/// in the history, and sorted by that.
+/// The numbers of the operations that are known to have happened, each behind the place of its end,
+/// and sorted by that.
 fn ends_of(alloc: Global, ops: &[RegOp]) -> Result<Vec<(usize, usize)>, AllocError>
-    ensures entries { IfOk result (λ pairs.
-        ArePlaceEntries (IsDone ops.now) (end_entry ops.now) (λ x. x.1)
-        (length ops.now) pairs.items) }
-    ensures rises { IfOk result (λ pairs. DoNotFall pairs.items) }
+    ensures entries { IfOk result (λ entries.
+        AreNumberEntries (IsDone ops.now) (end_entry ops.now) (λ x. x.1)
+        (length ops.now) entries.items) }
+    ensures rises { IfOk result (λ entries. DoNotFall entries.items) }
 {
     let mut ends = Vec::new(alloc);
-    for (place, op) in ops.iter().enumerate() {
+    for (number, op) in ops.iter().enumerate() {
         if is_done(*op) {
-            ends.push((op_end(*op), place))?;
+            ends.push((op_end(*op), number))?;
         }
     }
     ends.sort()?;
@@ -101,13 +102,13 @@ fn ends_of(alloc: Global, ops: &[RegOp]) -> Result<Vec<(usize, usize)>, AllocErr
 /// In which order the calls come does not matter.
 fn unknown_of(alloc: Global, ops: &[RegOp]) -> Result<Vec<(RegCall, usize, usize)>, AllocError>
     ensures { IfOk result (λ entries.
-        ArePlaceEntries (IsUnsureChange ops.now) (unknown_entry ops.now) (λ x. x.2)
+        AreNumberEntries (IsUnsureChange ops.now) (unknown_entry ops.now) (λ x. x.2)
         (length ops.now) entries.items) }
 {
     let mut unknown = Vec::new(alloc);
-    for (place, op) in ops.iter().enumerate() {
+    for (number, op) in ops.iter().enumerate() {
         if is_unsure_change(*op) {
-            unknown.push((op.call, op.invoked, place))?;
+            unknown.push((op.call, op.invoked, number))?;
         }
     }
     unknown.sort()?;
@@ -148,13 +149,13 @@ fn classes_of(alloc: Global, entries: &[(RegCall, usize, usize)]) -> Result<Vec<
     Ok(classes)
 }
 
-/// The numbers of the operations in pairs, which are the second of each.
-fn numbers_of(alloc: Global, pairs: &[(usize, usize)]) -> Result<Vec<usize>, AllocError>
-    ensures { IfOk result (λ numbers. numbers.items ≡ map (λ x. x.1) pairs.now) }
+/// The numbers of the operations in entries, which are the second of each.
+fn numbers_of(alloc: Global, entries: &[(usize, usize)]) -> Result<Vec<usize>, AllocError>
+    ensures { IfOk result (λ numbers. numbers.items ≡ map (λ x. x.1) entries.now) }
 {
-    let mut numbers = Vec::with_capacity(alloc, pairs.len())?;
-    for pair in pairs {
-        numbers.push(pair.1)?;
+    let mut numbers = Vec::with_capacity(alloc, entries.len())?;
+    for entry in entries {
+        numbers.push(entry.1)?;
     }
     Ok(numbers)
 }
@@ -181,7 +182,7 @@ fn arrived_by(invocations: &[(usize, usize)], end: usize, from: usize) -> usize
     ensures bounded { result ≤ length invocations.now }
     ensures before { (i : ℕ) → i < result → (slice_index_or invocations.now i no_entry).0 ≤ end }
     ensures after { result < length invocations.now
-        → (end < (slice_index_or invocations.now result no_entry).0) × (end < 2 ^ 64 - 1) }
+        → (end < (slice_index_or invocations.now result no_entry).0) × (end < behind_all) }
 {
     let mut arrived = from;
     'arriving: while arrived < invocations.len() && invocations[arrived].0 <= end {
@@ -201,22 +202,22 @@ fn stages_of(
 {
     let mut stages = Vec::with_capacity(alloc, ends.len())?;
     let mut arrived = 0;
-    'ending: for pair in ends {
-        arrived = arrived_by(invocations, pair.0, arrived);
+    'ending: for entry in ends {
+        arrived = arrived_by(invocations, entry.0, arrived);
         stages.push(Stage {
-            number: pair.1,
+            number: entry.1,
             arrived,
         })?;
     }
     Ok(stages)
 }
 
-/// The operations of a register, sorted for the search.
-pub(crate) fn sorted_history(alloc: Global, ops: &[RegOp]) -> Result<Sorted, AllocError>
-    ensures history { IfOk result
-        (λ history. IsHistory ops.now history.arrivals.items history.stages.items) }
+/// Sorts operations for the search.
+pub(crate) fn sort_ops(alloc: Global, ops: &[RegOp]) -> Result<SortedOps, AllocError>
+    ensures done { IfOk result
+        (λ sorted. AreDoneSorted ops.now sorted.arrivals.items sorted.stages.items) }
     ensures classes { IfOk result
-        (λ history. AreClasses ops.now history.unsure_changes.items history.classes.items) }
+        (λ sorted. AreClasses ops.now sorted.unsure_changes.items sorted.classes.items) }
 {
     let invocations = arrivals_of(alloc, ops)?;
     let ends = ends_of(alloc, ops)?;
@@ -225,7 +226,7 @@ pub(crate) fn sorted_history(alloc: Global, ops: &[RegOp]) -> Result<Sorted, All
     let stages = stages_of(alloc, invocations.as_slice(), ends.as_slice())?;
     let unsure_changes = unsure_numbers(alloc, entries.as_slice())?;
     let classes = classes_of(alloc, entries.as_slice())?;
-    Ok(Sorted {
+    Ok(SortedOps {
         arrivals,
         stages,
         unsure_changes,

@@ -1,6 +1,6 @@
 use Rattle.std.proofs.Common.{ℕ, ◌<◌, ◌≤◌, ◌-◌, length, get_or}
 use Rattle.jh_linear.specs.SearchInside.{no_entry}
-use Rattle.jh_linear.proofs.history.arrived_by.Given as goal
+use Rattle.jh_linear.proofs.sorted_ops.arrived_by.Given as goal
 
 abbrev pub invariant-arriving : goal.invariant-arriving
 invariant-arriving l = record {

@@ -1,7 +1,7 @@
 use Rattle.std.proofs.Common.{◌+◌, ◌<◌, ◌≤◌, length}
 use Rattle.jh_linear.specs.SearchInside.{AreClassesUpTo}
-use Rattle.jh_linear.proofs.HistoryLemmas.{AreTogether}
-use Rattle.jh_linear.proofs.history.classes_of.Given as goal
+use Rattle.jh_linear.proofs.SortedLemmas.{AreTogether}
+use Rattle.jh_linear.proofs.sorted_ops.classes_of.Given as goal
 
 abbrev pub invariant-loop-index : goal.invariant-loop-index
 invariant-loop-index l = record {

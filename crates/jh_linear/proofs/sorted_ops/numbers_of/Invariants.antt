@@ -1,0 +1,5 @@
+use Rattle.std.proofs.Common.{◌≡◌, map, take}
+use Rattle.jh_linear.proofs.sorted_ops.numbers_of.Given as goal
+
+abbrev pub invariant-loop-entry : goal.invariant-loop-entry
+invariant-loop-entry l = l.numbers.items ≡ map (λ x. x.1) (take l.entry-index l.entries)
