@@ -1,0 +1,8 @@
+//! A judge of linearizable first-in-first-out queues.
+#![tactic(auto)]
+
+mod laws;
+mod operations;
+
+pub use laws::{goes_before, reasons_exclude, runs_take_in_turn};
+pub use operations::{FifoCall, FifoOp};
