@@ -1,12 +1,12 @@
 -- Why there is no order: each reason excludes every order.
-use Rattle.std.proofs.Common.{◌≡◌, ℕ, ◌≤◌, ◌<◌, ◌++◌, true, Option, Some, None, List, [], ◌∷◌, refl, sym, ap, subst, ◌∙◌, inl, inr, arith}
+use Rattle.std.proofs.Common.{◌≡◌, ℕ, ◌≤◌, ◌<◌, true, Option, Some, None, List, [], ◌∷◌, refl, sym, ap, subst, ◌∙◌, inl, inr, arith}
 use Rattle.std.specs.Prelude.{◌⊎◌, ◌≢◌}
 use Rattle.std.proofs.lemmas.Bool.{false≢true, cases_Bool}
 use Rattle.jh_fifo.specs.declared.operations.FifoCall.TheVariants.{Dequeue, Empty}
 use Rattle.jh_fifo.specs.declared.operations.FifoOp.{FifoOp}
-use Rattle.jh_fifo.specs.Order.{op_at, has, StandBefore, HasNoneTwice, IsDone, EndsBefore, Precedes, IsOrder}
-use Rattle.jh_fifo.specs.Reasons.{call_at, Enqueues, Dequeues, IsOf, EnqueuedOnce, DequeuesAreDone, WasThere, GoesBefore, IsInside, EndsTooSoon, ComesFromNowhere, AreOfOne, ComesTooSoon, AreCrossed, IsNeverEmpty}
-use Rattle.jh_fifo.proofs.ListLemmas.{has_cons, has_head, before_first, before_second, before_itself, before_trans, before_total, tail_once, not_both}
+use Rattle.jh_fifo.specs.Order.{op_at, has, StandBefore, HasNoneTwice, EndsBefore, Precedes, IsOrder}
+use Rattle.jh_fifo.specs.Reasons.{call_at, Enqueues, Dequeues, IsOf, EnqueuedOnce, DequeuesAreDone, WasThere, GoesBefore, EndsTooSoon, ComesFromNowhere, AreOfOne, ComesTooSoon, AreCrossed, IsNeverEmpty}
+use Rattle.jh_fifo.proofs.ListLemmas.{before_first, before_second, before_itself, before_trans, before_total, tail_once, not_both}
 use Rattle.jh_fifo.proofs.RunLemmas.{enqueued, enqueued_before, enqueued_once, from_where, in_turn, dequeued_once, emptied, same_enqueue}
 
 pub ends_done : (ended : Option ℕ) (at : ℕ) → EndsBefore ended at → ended ≢ None

@@ -1,3 +1,4 @@
 pub mod ListLemmas
 pub mod RunLemmas
 pub mod LawLemmas
+pub mod LayoutLemmas

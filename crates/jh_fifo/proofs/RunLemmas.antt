@@ -1,5 +1,5 @@
 -- What a legal run of a queue does with values.
-use Rattle.std.proofs.Common.{◌≡◌, ℕ, true, eqb, Option, List, [], ◌∷◌, ◌++◌, refl, sym, ap, subst, ◌∙◌, inl, inr}
+use Rattle.std.proofs.Common.{◌≡◌, ℕ, true, eqb, List, [], ◌∷◌, ◌++◌, refl, sym, ap, subst, ◌∙◌, inl, inr}
 use Rattle.std.specs.Prelude.{◌⊎◌}
 use Rattle.std.proofs.lemmas.Bool.{false≢true, or_right}
 use Rattle.jh_fifo.specs.declared.operations.FifoCall.{FifoCall}

@@ -1,2 +1,4 @@
 pub mod Order
 pub mod Reasons
+pub mod Spans
+pub mod Layout

@@ -1,6 +1,6 @@
 -- Why a queue whose values are enqueued once each has no order. The reasons are those of Henzinger,
 -- Sezgin and Vafeiadis, "Aspect-oriented linearizability proofs" (CONCUR 2013), in our own words.
-use Rattle.std.specs.Prelude.{◌≡◌, ◌≢◌, ◌⊎◌, ℕ, ◌<◌, ◌≤◌, Option, Some, None, List, length}
+use Rattle.std.specs.Prelude.{◌≡◌, ◌≢◌, ◌⊎◌, ℕ, ◌<◌, ◌≤◌, Some, List}
 use Rattle.jh_fifo.specs.declared.operations.FifoCall.{FifoCall}
 use Rattle.jh_fifo.specs.declared.operations.FifoCall.TheVariants.{Enqueue, Dequeue, Empty}
 use Rattle.jh_fifo.specs.declared.operations.FifoOp.{FifoOp}
