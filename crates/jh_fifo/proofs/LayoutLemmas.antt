@@ -9,7 +9,8 @@ use Rattle.jh_fifo.specs.declared.operations.FifoOp.{FifoOp}
 use Rattle.jh_fifo.specs.declared.spans.Span.{Span}
 use Rattle.jh_fifo.specs.Order.{op_at, no_op, has, Allows, StandBefore, IsDone, EndsBefore, Precedes, IsLegalFrom, IsOrder}
 use Rattle.jh_fifo.specs.Reasons.{call_at, Enqueues, Dequeues, EnqueuedOnce}
-use Rattle.jh_fifo.specs.Spans.{never, span_at, LastsTo}
+use Rattle.jh_fifo.specs.Times.{never, LastsTo}
+use Rattle.jh_fifo.specs.Spans.{span_at}
 use Rattle.jh_fifo.specs.Layout.{IsValuePlaced, IsPlaced, IsTurn, Waits, IsLaid}
 use Rattle.jh_fifo.proofs.ListLemmas.{none_twice, has_cases, has_left, has_right, has_head, one_is, before_push, once_push, before_total}
 use Rattle.jh_fifo.proofs.RunLemmas.{same_enqueue, same_dequeue, not_both_calls, not_enqueue, not_dequeue}
@@ -34,6 +35,10 @@ if_no b P h e p = false≢true (sym e ∙ h.1 p)
 pub not_some : (o : Option ℕ) → ((d : ℕ) → o ≡ Some d → ⊥) → o ≡ None
 not_some None h = refl
 not_some (Some d) h = absurd (h d refl)
+
+pub none_gives : (o : Option ℕ) (P : Type 0) (Q : ℕ → Type 0) → MatchOption o P Q → o ≡ None → P
+none_gives None P Q h is = h
+none_gives (Some d) P Q h is = absurd (none_some (Some d) d is refl)
 
 -- what is known of a dequeue's place, from what is known by cases
 pub goes_with : (o : Option ℕ) (d : ℕ) (P : Type 0) (Q : ℕ → Type 0) → MatchOption o P Q → o ≡ Some d → Q d

@@ -2,3 +2,10 @@ pub mod ListLemmas
 pub mod RunLemmas
 pub mod LawLemmas
 pub mod LayoutLemmas
+pub mod SortedLemmas
+pub mod LineLemmas
+pub mod SpanLemmas
+pub mod MomentLemmas
+pub mod ValueLemmas
+pub mod TableLemmas
+pub mod JudgeLemmas

@@ -5,7 +5,8 @@ use Rattle.jh_fifo.specs.declared.operations.FifoOp.{FifoOp}
 use Rattle.jh_fifo.specs.declared.spans.Span.{Span}
 use Rattle.jh_fifo.specs.Order.{op_at, has, StandBefore, HasNoneTwice, IsDone, Precedes, IsLegalFrom}
 use Rattle.jh_fifo.specs.Reasons.{call_at, Enqueues, Dequeues}
-use Rattle.jh_fifo.specs.Spans.{never, span_at, LastsTo}
+use Rattle.jh_fifo.specs.Times.{never, LastsTo}
+use Rattle.jh_fifo.specs.Spans.{span_at}
 
 -- a value that can be put in at `from`, and taken out at `leaving` or never
 pub record IsValuePlaced (ops : List FifoOp) (span : Span) : Type 0 where

@@ -1,4 +1,10 @@
 pub mod Order
 pub mod Reasons
+pub mod Times
 pub mod Spans
 pub mod Layout
+pub mod Sorted
+pub mod Lines
+pub mod Moments
+pub mod Tables
+pub mod Judged

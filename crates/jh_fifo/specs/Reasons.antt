@@ -30,6 +30,11 @@ EnqueuedOnce ops = (value first second : ℕ) → Enqueues ops value first
 abbrev pub DequeuesAreDone : List FifoOp → Type 0
 DequeuesAreDone ops = (value place : ℕ) → Dequeues ops value place → IsDone ops place
 
+-- Each value is dequeued by one operation at most.
+abbrev pub TakenOnce : List FifoOp → Type 0
+TakenOnce ops = (value first second : ℕ) → Dequeues ops value first
+    → Dequeues ops value second → first ≡ second
+
 -- the value is known to have been in the queue
 abbrev pub WasThere : List FifoOp → ℕ → Type 0
 WasThere ops value = (enqueue : ℕ) × Enqueues ops value enqueue
@@ -73,6 +78,11 @@ ComesTooSoon ops dequeue enqueue = Precedes ops dequeue enqueue
 abbrev pub AreCrossed : List FifoOp → ℕ → ℕ → Type 0
 AreCrossed ops first second = WasThere ops first × WasThere ops second
     × GoesBefore ops first second × GoesBefore ops second first
+
+-- as the enqueues of two such values are;
+abbrev pub AreCrossedAt : List FifoOp → ℕ → ℕ → Type 0
+AreCrossedAt ops first second = (one other : ℕ) × Enqueues ops one first × Enqueues ops other second
+    × AreCrossed ops one other
 
 -- the queue was found empty, and at each place from invocation to end there is a value in it.
 abbrev pub IsNeverEmpty : List FifoOp → ℕ → Type 0

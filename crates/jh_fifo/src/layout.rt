@@ -6,7 +6,8 @@ ghost use Rattle.jh_fifo.specs.declared.operations.FifoOp.{FifoOp};
 ghost use Rattle.jh_fifo.specs.Layout.{IsLaid, IsTurn};
 ghost use Rattle.jh_fifo.specs.Order.{IsOrder};
 ghost use Rattle.jh_fifo.specs.Reasons.{EnqueuedOnce, call_at};
-ghost use Rattle.jh_fifo.specs.Spans.{never, span_at};
+ghost use Rattle.jh_fifo.specs.Times.{never};
+ghost use Rattle.jh_fifo.specs.Spans.{span_at};
 
 use crate::operations::{FifoCall, FifoOp};
 use crate::spans::Span;

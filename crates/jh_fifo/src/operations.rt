@@ -1,5 +1,8 @@
 //! The operations of a queue.
 
+ghost use Rattle.std.specs.Prelude.{◌≡◌, ◌<◌, length};
+ghost use Rattle.jh_fifo.specs.Reasons.{call_at};
+
 /// What was asked of the queue, and what it answered. Values are numbers.
 #[derive(Clone, Copy, Debug, PartialEq, Eq)]
 pub enum FifoCall {
@@ -19,4 +22,12 @@ pub struct FifoOp {
     /// time after its invocation, or never.
     pub ended: Option<usize>,
     pub call: FifoCall,
+}
+
+/// The call of the operation at a place.
+pub(crate) fn call_of(ops: &[FifoOp], place: usize) -> FifoCall
+    requires { place < length ops.now }
+    ensures { result ≡ call_at ops.now place }
+{
+    ops[place].call
 }

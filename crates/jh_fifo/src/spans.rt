@@ -1,5 +1,14 @@
 //! When a value was put into the queue and taken out of it, at the earliest and at the latest.
 
+ghost use Rattle.std.specs.Prelude.{◌≡◌, ◌<◌, ◌≤◌, ℕ, Some, length};
+ghost use Rattle.jh_fifo.specs.Order.{op_at};
+ghost use Rattle.jh_fifo.specs.Times.{end_of, never};
+
+use crate::operations::FifoOp;
+
+/// Past every place of a history.
+pub(crate) const NEVER: u128 = 1 << 64;
+
 /// An enqueue with the dequeue of its value, or a dequeue that found the queue empty. Times are
 /// places of the history; `NEVER` is past all of them.
 #[derive(Clone, Copy)]
@@ -16,4 +25,26 @@ pub(crate) struct Span {
     pub(crate) leaving: u128,
     /// No later it was taken out.
     pub(crate) left: u128,
+}
+
+/// Where an operation was invoked.
+pub(crate) fn invoked_at(ops: &[FifoOp], place: usize) -> u128
+    requires { place < length ops.now }
+    ensures is { result ≡ (op_at ops.now place).invoked }
+    ensures soon { result < never }
+{
+    ops[place].invoked as u128
+}
+
+/// Where an operation ended, or past every place.
+pub(crate) fn end_at(ops: &[FifoOp], place: usize) -> u128
+    requires { place < length ops.now }
+    ensures is { result ≡ end_of (op_at ops.now place).ended }
+    ensures high { result ≤ never }
+    ensures told { (end : ℕ) → (op_at ops.now place).ended ≡ Some end → end < never }
+{
+    match ops[place].ended {
+        Some(end) => end as u128,
+        None => NEVER,
+    }
 }

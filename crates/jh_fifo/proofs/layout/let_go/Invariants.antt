@@ -2,7 +2,8 @@ use Rattle.std.proofs.Common.{ℕ, ◌<◌, ◌≤◌, List, length}
 use Rattle.jh_fifo.specs.declared.operations.FifoOp.{FifoOp}
 use Rattle.jh_fifo.specs.Layout.{IsLaid, IsTurn}
 use Rattle.jh_fifo.specs.Reasons.{EnqueuedOnce}
-use Rattle.jh_fifo.specs.Spans.{never, span_at}
+use Rattle.jh_fifo.specs.Times.{never}
+use Rattle.jh_fifo.specs.Spans.{span_at}
 use Rattle.jh_fifo.proofs.layout.let_go.Given as goal
 
 abbrev pub invariant-loop-number : goal.invariant-loop-number

@@ -2,7 +2,8 @@ use Rattle.std.proofs.Common.{◌≡◌, ℕ, ◌+◌, ◌<◌, ◌≤◌, [], �
 use Rattle.jh_fifo.specs.declared.operations.FifoCall.TheVariants.{Empty}
 use Rattle.jh_fifo.specs.Layout.{IsLaid}
 use Rattle.jh_fifo.specs.Reasons.{call_at}
-use Rattle.jh_fifo.specs.Spans.{never, span_at}
+use Rattle.jh_fifo.specs.Times.{never}
+use Rattle.jh_fifo.specs.Spans.{span_at}
 use Rattle.jh_fifo.proofs.LayoutLemmas.{if_yes, if_no, begin, waits_le, come_value, come_empty, finish}
 use Rattle.jh_fifo.proofs.layout.order_of.Goals.{then-finds_empty, else-finds_empty}
 use Rattle.jh_fifo.proofs.layout.order_of.Goals as goal
