@@ -1,5 +1,5 @@
 -- What the judge knows, and why a reason is enough.
-use Rattle.std.proofs.Common.{◌≡◌, ℕ, ◌<◌, nat_cmp, Option, Some, None, List, length, sym, ◌∙◌}
+use Rattle.std.proofs.Common.{◌≡◌, ℕ, ◌<◌, nat_cmp, Some, List, length, sym, ◌∙◌}
 use Rattle.std.specs.BTreeMap.{get}
 use Rattle.std.specs.declared.alloc.Global.{Global}
 use Rattle.std.specs.declared.collections.btree_map.BTreeMap.{BTreeMap}
@@ -16,9 +16,6 @@ use Rattle.jh_fifo.specs.Judged.{IsUnsure, AreFit, IsReason, HasNoOrder, IsVerdi
 use Rattle.jh_fifo.proofs.RunLemmas.{not_both_calls, not_enqueue}
 use Rattle.jh_fifo.proofs.LawLemmas.{too_soon, nowhere, of_one, early, crossed, never_empty, ends_done}
 use Rattle.jh_fifo.proofs.LayoutLemmas.{some_same, enqueue_inside, dequeue_inside, done_inside}
-
-none_is_some : (d : ℕ) → ◌≡◌ {A = Option ℕ} None (Some d) → ⊥
-none_is_some d e = cc
 
 module _ (ops : List FifoOp) where
   pub no_order : AreFit ops → (reason : FifoReason) → IsReason ops reason → HasNoOrder ops
@@ -56,9 +53,3 @@ module _ (ops : List FifoOp) where
     taken_once = once_taken table is;
     timely = λ p v takes. timely p (dequeue_inside ops v p takes) v takes;
   }
-
-  pub no_enqueue : (table : BTreeMap ℕ ℕ Global) → IsTable ops In (length ops) table → (v : ℕ) → get nat_cmp table v ≡ None → (p : ℕ) → Enqueues ops v p → ⊥
-  no_enqueue table is v none p takes = none_is_some p (sym none ∙ told_in table is v p takes)
-
-  pub no_dequeue : (table : BTreeMap ℕ ℕ Global) → IsTable ops Out (length ops) table → (v : ℕ) → get nat_cmp table v ≡ None → (p : ℕ) → Dequeues ops v p → ⊥
-  no_dequeue table is v none p takes = none_is_some p (sym none ∙ told_out table is v p takes)

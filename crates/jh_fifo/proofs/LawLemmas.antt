@@ -20,9 +20,6 @@ some_done ended end is = λ e. some_none end (sym is ∙ e) where
   some_none : (x : ℕ) → ◌≡◌ {A = Option ℕ} (Some x) None → ⊥
   some_none x e = cc
 
-pub not_ends : (ended : Option ℕ) (end at : ℕ) → ended ≡ Some end → (end < at → ⊥) → EndsBefore ended at → ⊥
-not_ends ended end at is late h = late (subst (λ e. EndsBefore e at) is h)
-
 module _ (ops : List FifoOp) (order : List ℕ) (orders : IsOrder ops order) where
   twice : (p : ℕ) → StandBefore order p p → ⊥
   twice p h = before_itself order p orders.distinct h
@@ -163,22 +160,22 @@ module _ (ops : List FifoOp) (order : List ℕ) (orders : IsOrder ops order) whe
 
     pub never_empty : (p : ℕ) → IsNeverEmpty ops p → ⊥
     never_empty p h =
-        let there : has order p ≡ true = orders.whole p (some_done _ h.1.0 h.1.1) in
+        let there : has order p ≡ true = orders.whole p (some_done (op_at ops p).ended h.1.0 h.1.1) in
         let y = last_invoked order p orders.distinct there in
         let before_p : (z : ℕ) → StandBefore order z y.0 → StandBefore order z p = λ z b. elim y.1 as (λ _. StandBefore order z p) [ inl e ↦ subst (λ w. StandBefore order z w) e b | inr c ↦ trans z y.0 p b c ] in
         let y_there : has order y.0 ≡ true = elim y.1 as (λ _. has order y.0 ≡ true) [ inl e ↦ subst (λ w. has order w ≡ true) (sym e) there | inr b ↦ before_first order y.0 p b ] in
         let in_time : h.1.0 < (op_at ops y.0).invoked → ⊥ = λ late. twice y.0 (elim y.1 as (λ _. StandBefore order y.0 y.0) [
-          | inl e ↦ absurd (too_soon p (ends_at _ h.1.0 _ h.1.1 (subst (λ w. h.1.0 < (op_at ops w).invoked) e late)))
-          | inr b ↦ trans y.0 p y.0 b (orders.precedence p y.0 (ends_at _ h.1.0 _ h.1.1 late) y_there)
+          | inl e ↦ absurd (too_soon p (ends_at (op_at ops p).ended h.1.0 (op_at ops p).invoked h.1.1 (subst (λ w. h.1.0 < (op_at ops w).invoked) e late)))
+          | inr b ↦ trans y.0 p y.0 b (orders.precedence p y.0 (ends_at (op_at ops p).ended h.1.0 (op_at ops y.0).invoked h.1.1 late) y_there)
         ]) in
-        let v = h.1.2 (op_at ops y.0).invoked (y.2 p (inl refl)) (le_if _ _ in_time) in
+        let v = h.1.2 (op_at ops y.0).invoked (y.2 p (inl refl)) (le_if (op_at ops y.0).invoked h.1.0 in_time) in
         let first : StandBefore order v.1.0.0 y.0 = orders.precedence v.1.0.0 y.0 v.1.0.2 y_there in
         let enq : (e : ℕ) × Enqueues ops v.0 e × StandBefore order e p = elim v.1.0.1 as (λ _. (e : ℕ) × Enqueues ops v.0 e × StandBefore order e p) [
           | inl is ↦ (v.1.0.0, is, before_p v.1.0.0 first)
           | inr is ↦ let r = first_in v.0 v.1.0.0 is (before_first order v.1.0.0 y.0 first) in (r.0, r.1, trans r.0 v.1.0.0 p r.2 (before_p v.1.0.0 first))
         ] in
         let d = all_out v.0 enq.0 p enq.1 h.0 enq.2 in
-        not_less _ _ (v.1.1 d.0 d.1) (y.2 d.0 (inr d.2)) where
+        not_less (op_at ops y.0).invoked (op_at ops d.0).invoked (v.1.1 d.0 d.1) (y.2 d.0 (inr d.2)) where
           ends_at : (ended : Option ℕ) (end at : ℕ) → ended ≡ Some end → end < at → EndsBefore ended at
           ends_at ended end at is low = subst (λ e. EndsBefore e at) (sym is) low
 

@@ -68,7 +68,7 @@ set_cases (x ∷ xs) (suc i) zero h = inr h
 set_cases (x ∷ xs) (suc i) (suc k) h = elim (set_cases xs i k h) as (λ _. (suc i ≡ suc k) ⊎ (is_taken xs k ≡ true)) [ inl e ↦ inl (ap (λ n. suc n) e) | inr old ↦ inr old ]
 
 unset : (xs : List Bool) (i k : ℕ) → is_taken (set xs i true) k ≡ false → is_taken xs k ≡ false
-unset xs i k h = elim (cases_Bool (is_taken xs k)) as (λ _. is_taken xs k ≡ false) [ inl set_it ↦ absurd (not_both _ (set_there xs i k set_it) h) | inr free ↦ free ]
+unset xs i k h = elim (cases_Bool (is_taken xs k)) as (λ _. is_taken xs k ≡ false) [ inl was_set ↦ absurd (not_both _ (set_there xs i k was_set) h) | inr free ↦ free ]
 
 none_taken : (n k : ℕ) → is_taken (replicate n false) k ≡ false
 none_taken zero k = refl
@@ -84,7 +84,7 @@ module _ (spans : List Span) (fair : AreFair spans) (apart : AreApart spans) whe
     same = length_none (length spans);
     low = λ m low free. (omega arith, omega arith);
     each = λ i low. absurd (omega (arith, low));
-    whole = λ m low set_it. absurd (not_both _ set_it (none_taken (length spans) m));
+    whole = λ m low was_set. absurd (not_both _ was_set (none_taken (length spans) m));
     come_in_turn = λ i j le low. absurd (omega (arith, low));
     go_in_turn = λ i j le low. absurd (omega (arith, low));
     last = λ i low. absurd (omega (arith, low));
@@ -164,7 +164,7 @@ module _ (spans : List Span) (fair : AreFair spans) (apart : AreApart spans) whe
           | inl old ↦ (let r = line.each i old.0 in (r.0, r.1, set_there taken c r.0 r.2, old_moved r.0 i old.0 r.3))
           | inr end ↦ (c, inside, set_here taken c (omega (arith, inside, line.same)), subst (λ s. IsMoved (span c) s) (sym end.1) one_moved)
         ];
-        whole = λ m low set_it. elim (set_cases taken c m set_it) as (λ _. (i : ℕ) × (i < length more) × IsMoved (span m) (span_at more i)) [
+        whole = λ m low was_set. elim (set_cases taken c m was_set) as (λ _. (i : ℕ) × (i < length more) × IsMoved (span m) (span_at more i)) [
           | inl e ↦ (length turn, index_last turn one, subst (λ s. IsMoved (span m) s) (sym (span_last turn one)) (subst (λ k. IsMoved (span k) one) e one_moved))
           | inr old ↦ (let r = line.whole m low old in (r.0, index_front turn one r.0 r.1, old_moved m r.0 r.1 r.2))
         ];
@@ -203,9 +203,9 @@ pub passed_none : (taken : List Bool) (entries : List (ℕ × ℕ)) → ArePasse
 passed_none taken entries = λ k low in_it. absurd (omega (arith, low))
 
 pub passed_more : (taken : List Bool) (entries : List (ℕ × ℕ)) (n : ℕ) → is_taken taken (entry_at entries n).1 ≡ true → ArePassed taken entries n → ArePassed taken entries (n + 1)
-passed_more taken entries n set_it passed = λ k low in_it. elim (cases_lt k n) as (λ _. is_taken taken (entry_at entries k).1 ≡ true) [
+passed_more taken entries n was_set passed = λ k low in_it. elim (cases_lt k n) as (λ _. is_taken taken (entry_at entries k).1 ≡ true) [
   | inl lt ↦ passed k lt in_it
-  | inr ge ↦ (let same : n ≡ k = omega (arith, low, ge) in subst (λ i. is_taken taken (entry_at entries i).1 ≡ true) same set_it)
+  | inr ge ↦ (let same : n ≡ k = omega (arith, low, ge) in subst (λ i. is_taken taken (entry_at entries i).1 ≡ true) same was_set)
 ]
 
 pub passed_set : (taken : List Bool) (entries : List (ℕ × ℕ)) (n c : ℕ) → ArePassed taken entries n → ArePassed (set taken c true) entries n

@@ -1,9 +1,8 @@
 -- What stands in a list, and before what.
-use Rattle.std.proofs.Common.{◌≡◌, ℕ, zero, suc, ◌+◌, ◌<◌, Bool, true, false, eqb, List, [], ◌∷◌, ◌++◌, length, take, drop, get_or, refl, sym, ap, subst, ◌∙◌, inl, inr, arith, eq-eqb}
+use Rattle.std.proofs.Common.{◌≡◌, ℕ, Bool, true, false, eqb, List, [], ◌∷◌, ◌++◌, refl, sym, ap, subst, ◌∙◌, inl, inr, eq-eqb}
 use Rattle.std.specs.Prelude.{◌||◌, ◌⊎◌}
 use Rattle.std.specs.List.{IsDistinct, AllByRecursion}
-use Rattle.std.proofs.lemmas.Bool.{false≢true, eqb-true, cases_Bool, or_cases, or_left, or_right, false_from_ne_true}
-use Rattle.std.proofs.lemmas.List.{take-append-drop, drop_more}
+use Rattle.std.proofs.lemmas.Bool.{false≢true, eqb-true, or_cases, or_left, or_right, false_from_ne_true}
 use Rattle.std.proofs.lemmas.List.Folds.{list_any-append}
 use Rattle.std.proofs.lemmas.Map.Keys.{IsDistinct-head, IsDistinct-tail, IsDistinct-cons}
 use Rattle.jh_fifo.specs.Order.{has, StandBefore, HasNoneTwice}
@@ -33,16 +32,6 @@ has_head x xs = or_left _ _ (eqb_self x)
 pub has_cons : (y : ℕ) (xs : List ℕ) (x : ℕ) → has (y ∷ xs) x ≡ true → (y ≡ x) ⊎ (has xs x ≡ true)
 has_cons y xs x h = elim (or_cases (eqb y x) (has xs x) h) as (λ _. (y ≡ x) ⊎ (has xs x ≡ true)) [ inl e ↦ inl (eqb-true y x e) | inr e ↦ inr e ]
 
-pub has_middle : (front back : List ℕ) (p : ℕ) → has (front ++ p ∷ back) p ≡ true
-has_middle front back p = has_right front (p ∷ back) p (has_head p back)
-
-pub split_at : (xs : List ℕ) (p : ℕ) → has xs p ≡ true → (front back : List ℕ) × (xs ≡ front ++ p ∷ back)
-split_at [] p h = absurd (false≢true h)
-split_at (x ∷ xs) p h = elim (has_cons x xs p h) as (λ _. (front back : List ℕ) × (x ∷ xs ≡ front ++ p ∷ back)) [
-  | inl e ↦ ([], xs, ap (λ z. z ∷ xs) e)
-  | inr there ↦ let r = split_at xs p there in (x ∷ r.0, r.1, ap (λ zs. x ∷ zs) r.2)
-]
-
 -- where the first one stands in it, and where the second one does
 pub before_first : (xs : List ℕ) (a b : ℕ) → StandBefore xs a b → has xs a ≡ true
 before_first [] a b h = absurd h
@@ -58,23 +47,9 @@ before_second (x ∷ xs) a b h = elim h as (λ _. has (x ∷ xs) b ≡ true) [
   | inr there ↦ or_right (eqb x b) _ (before_second xs a b there)
 ]
 
-pub before_left : (xs ys : List ℕ) (a b : ℕ) → StandBefore xs a b → StandBefore (xs ++ ys) a b
-before_left [] ys a b h = absurd h
-before_left (x ∷ xs) ys a b h = elim h as (λ _. StandBefore (x ∷ xs ++ ys) a b) [
-  | inl here ↦ inl (here.0, has_left xs ys b here.1)
-  | inr there ↦ inr (before_left xs ys a b there)
-]
-
 pub before_right : (xs ys : List ℕ) (a b : ℕ) → StandBefore ys a b → StandBefore (xs ++ ys) a b
 before_right [] ys a b h = h
 before_right (x ∷ xs) ys a b h = inr (before_right xs ys a b h)
-
-pub before_across : (xs ys : List ℕ) (a b : ℕ) → has xs a ≡ true → has ys b ≡ true → StandBefore (xs ++ ys) a b
-before_across [] ys a b h k = absurd (false≢true h)
-before_across (x ∷ xs) ys a b h k = elim (has_cons x xs a h) as (λ _. StandBefore (x ∷ xs ++ ys) a b) [
-  | inl e ↦ inl (e, has_right xs ys b k)
-  | inr there ↦ inr (before_across xs ys a b there k)
-]
 
 pub before_cases : (xs ys : List ℕ) (a b : ℕ) → StandBefore (xs ++ ys) a b → StandBefore xs a b ⊎ (((has xs a ≡ true) × (has ys b ≡ true)) ⊎ StandBefore ys a b)
 before_cases [] ys a b h = inr (inr h)
@@ -141,27 +116,10 @@ before_trans (x ∷ xs) a b c once h k = elim h as (λ _. StandBefore (x ∷ xs)
   ]
 ]
 
-pub not_in_front : (front back : List ℕ) (p : ℕ) → HasNoneTwice (front ++ p ∷ back) → has front p ≡ true → ⊥
-not_in_front front back p once h = before_itself (front ++ p ∷ back) p once (before_across front (p ∷ back) p p h (has_head p back))
-
-pub once_left : (xs ys : List ℕ) → HasNoneTwice (xs ++ ys) → HasNoneTwice xs
-once_left xs ys once = once_if xs (λ a h. before_itself (xs ++ ys) a once (before_left xs ys a a h))
-
-pub append_nil_right : (xs : List ℕ) → xs ++ [] ≡ xs
-append_nil_right [] = refl
-append_nil_right (x ∷ xs) = ap (λ ys. x ∷ ys) (append_nil_right xs)
-
 -- one more on the left of the cut
 pub middle_shift : (front back : List ℕ) (p : ℕ) → front ++ p ∷ back ≡ (front ++ p ∷ []) ++ back
 middle_shift [] back p = refl
 middle_shift (x ∷ front) back p = ap (λ ys. x ∷ ys) (middle_shift front back p)
-
-pub place_of : (xs : List ℕ) (p : ℕ) → has xs p ≡ true → (i : ℕ) × (i < length xs) × (get_or xs i 0 ≡ p)
-place_of [] p h = absurd (false≢true h)
-place_of (x ∷ xs) p h = elim (has_cons x xs p h) as (λ _. (i : ℕ) × (i < length (x ∷ xs)) × (get_or (x ∷ xs) i 0 ≡ p)) [
-  | inl e ↦ (0, omega arith, e)
-  | inr there ↦ let r = place_of xs p there in (suc r.0, omega (arith, r.1), r.2)
-]
 
 pub before_total : (xs : List ℕ) (a b : ℕ) → has xs a ≡ true → has xs b ≡ true → (a ≡ b) ⊎ (StandBefore xs a b ⊎ StandBefore xs b a)
 before_total [] a b h k = absurd (false≢true h)
@@ -199,53 +157,5 @@ once_push xs x once new = once_if (xs ++ x ∷ []) (λ a h. elim (before_push xs
   | inr e ↦ new (subst (λ z. has xs z ≡ true) (sym e.1) e.0)
 ])
 
--- cut at a place
-pub cut_at : (xs : List ℕ) (i : ℕ) → i < length xs → xs ≡ take i xs ++ get_or xs i 0 ∷ drop (i + 1) xs
-cut_at xs i low = sym (take-append-drop i xs) ∙ ap (λ ys. take i xs ++ ys) (drop_more xs i 0 low)
-
-pub twice_at : (xs : List ℕ) (i : ℕ) → i < length xs → has (take i xs) (get_or xs i 0) ≡ true → HasNoneTwice xs → ⊥
-twice_at xs i low h once = not_in_front (take i xs) (drop (i + 1) xs) (get_or xs i 0) (subst HasNoneTwice (cut_at xs i low) once) h
-
 pub tail_once : (x : ℕ) (xs : List ℕ) → HasNoneTwice (x ∷ xs) → HasNoneTwice xs
 tail_once x xs once = IsDistinct-tail eqb x xs once
-
-pub twice_cases : (xs : List ℕ) → HasNoneTwice xs ⊎ (HasNoneTwice xs → ⊥)
-twice_cases [] = inl none_twice
-twice_cases (x ∷ xs) = elim (cases_Bool (has xs x)) as (λ _. HasNoneTwice (x ∷ xs) ⊎ (HasNoneTwice (x ∷ xs) → ⊥)) [
-  | inl again ↦ inr (λ once. head_once x xs once again)
-  | inr new ↦ elim (twice_cases xs) as (λ _. HasNoneTwice (x ∷ xs) ⊎ (HasNoneTwice (x ∷ xs) → ⊥)) [
-    | inl once ↦ inl (IsDistinct-cons eqb x xs (all_apart x xs (λ h. not_both _ h new)) once)
-    | inr twice ↦ inr (λ once. twice (tail_once x xs once))
-  ]
-]
-
-pub place_has : (xs : List ℕ) (i : ℕ) → i < length xs → has xs (get_or xs i 0) ≡ true
-place_has [] i low = absurd (omega arith)
-place_has (x ∷ xs) zero low = has_head x xs
-place_has (x ∷ xs) (suc i) low = or_right (eqb x _) _ (place_has xs i (omega (arith, low)))
-
-pub stands_in_front : (front back : List ℕ) (p q : ℕ) → HasNoneTwice (front ++ p ∷ back) → StandBefore (front ++ p ∷ back) q p → has front q ≡ true
-stands_in_front front back p q once h = elim (before_cases front (p ∷ back) q p h) as (λ _. has front q ≡ true) [
-  | inl inside ↦ before_first front q p inside
-  | inr more ↦ elim more as (λ _. has front q ≡ true) [
-    | inl across ↦ across.0
-    | inr behind ↦ absurd (twice (before_second' behind))
-  ]
-] where
-  before_second' : StandBefore (p ∷ back) q p → has back p ≡ true
-  before_second' behind = elim behind as (λ _. has back p ≡ true) [ inl now ↦ now.1 | inr later ↦ before_second back q p later ]
-
-  twice : has back p ≡ true → ⊥
-  twice later = before_itself (front ++ p ∷ back) p once (subst (λ xs. StandBefore xs p p) refl (in_back front later)) where
-    in_back : (xs : List ℕ) → has back p ≡ true → StandBefore (xs ++ p ∷ back) p p
-    in_back [] k = inl (refl, k)
-    in_back (x ∷ xs) k = inr (in_back xs k)
-
-pub front_before : (front rest : List ℕ) (a b : ℕ) → HasNoneTwice (front ++ rest) → StandBefore (front ++ rest) a b → has front b ≡ true → StandBefore front a b
-front_before front rest a b once h here = elim (before_cases front rest a b h) as (λ _. StandBefore front a b) [
-  | inl inside ↦ inside
-  | inr more ↦ elim more as (λ _. StandBefore front a b) [
-    | inl across ↦ absurd (before_itself (front ++ rest) b once (before_across front rest b b here across.1))
-    | inr behind ↦ absurd (before_itself (front ++ rest) b once (before_across front rest b b here (before_second rest a b behind)))
-  ]
-]

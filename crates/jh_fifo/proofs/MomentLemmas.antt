@@ -156,9 +156,6 @@ module _ (ops : List FifoOp) (once : TakenOnce ops) where
             | inr ge ↦ covered place ge lt
           ]
 
-          pub swept_start : IsSwept values entered passed start
-          swept_start k k_low in_it = let a = so.swept k k_low in_it in omega (arith, a, start_is)
-
           pub is_never : (over : EndsBefore (op_at ops p).ended next) → IsNeverEmpty ops p
           is_never over = never_if (op_at ops p).ended refl over where
             never_if : (ended : Option ℕ) → (op_at ops p).ended ≡ ended → EndsBefore ended next → IsNeverEmpty ops p

@@ -61,9 +61,6 @@ not_below : (a b : ℕ × ℕ) → is_lt (ordering_then (nat_cmp b.0 a.0) (nat_c
 not_below a b h = grind (arith, nat_tests)
 
 module _ (keys : List ℕ) where
-  Each : ℕ → ℕ × ℕ → Type 0
-  Each bound e = (e.1 < bound) × (e.0 ≡ get_or keys e.1 0)
-
   pub entries_none : AreEntries keys 0 []
   entries_none = record {
     each = All-nil (λ e. (e.1 < 0) × (e.0 ≡ get_or keys e.1 0));

@@ -55,9 +55,3 @@ module _ (ops : List FifoOp) (side : Side) (n : ℕ) (table : BTreeMap ℕ ℕ G
 
   pub table_twice : (k p : ℕ) → Takes side k (call_at ops n) → get nat_cmp table k ≡ Some p → (p ≢ n) × ((v : ℕ) × Takes side v (call_at ops p) × Takes side v (call_at ops n))
   table_twice k p takes is = let r = so.sound k p is in (λ e. let a = r.0 in omega (arith, a, e), (k, r.1, takes))
-
-pub table_none : (ops : List FifoOp) (side : Side) (table : BTreeMap ℕ ℕ Global) → ((v : ℕ) → get nat_cmp table v ≡ None) → IsTable ops side 0 table
-table_none ops side table none = record {
-  sound = λ v p is. absurd (none_some (get nat_cmp table v) p (none v) is);
-  whole = λ v p low takes. absurd (omega (arith, low));
-}

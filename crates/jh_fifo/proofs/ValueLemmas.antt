@@ -27,15 +27,6 @@ pub record AreGathered (ops : List FifoOp) (bound : ℕ) (spans : List Span) : T
       → (i : ℕ) × (i < length spans) × ((span_at spans i).place ≡ place)
 
 module _ (ops : List FifoOp) where
-  pub gathered_none : AreGathered ops 0 []
-  gathered_none = record {
-    each = λ i low. absurd (omega (arith, low));
-    fair = λ i low. absurd (omega (arith, low));
-    apart = λ i j low_i low_j is. absurd (omega (arith, low_i));
-    below = λ i low. absurd (omega (arith, low));
-    whole = λ v p low is was. absurd (omega (arith, low));
-  }
-
   module _ (n : ℕ) (spans : List Span) (so : AreGathered ops n spans) where
     pub gathered_skip : IsUntold ops n → AreGathered ops (n + 1) spans
     gathered_skip untold = record {
@@ -162,30 +153,6 @@ module _ (ops : List FifoOp) (sound : AreSound ops) (p v : ℕ) (puts : Enqueues
           enters = omega (arith, entered_is, begin, order);
           leaves = omega (arith, leaving_is, order, order_d);
           passes = omega (arith, leaving_is);
-          soon = soon;
-        };
-      }
-
-  pub kept_at : ((d : ℕ) → Dequeues ops v d → ⊥) → IsDone ops p → (entered : ℕ) → entered ≡ end_of (op_at ops p).ended → entered ≤ never → (leaving left : ℕ) → leaving ≡ never → left ≡ never
-      → IsSpanAt ops p (record { place = p; dequeue = None; from = from; entered = entered; leaving = leaving; left = left })
-  kept_at none done entered entered_is high leaving left leaving_is left_is =
-      let e = end_is (op_at ops p).ended done in
-      let begin = from_end in
-      record {
-        at = refl;
-        value = record {
-          value = v;
-          enqueues = puts;
-          was = inl done;
-          begins = from_is;
-          lasts = lasts_to_end (op_at ops p).ended entered (omega (arith, entered_is));
-          comes = λ early. (p, inl puts, e.1 ∙ ap (λ n. Some n) (sym e.2 ∙ sym entered_is));
-          goes = (none, leaving_is, left_is);
-        };
-        fair = record {
-          enters = omega (arith, entered_is, begin);
-          leaves = omega (arith, leaving_is, left_is);
-          passes = omega (arith, leaving_is, soon);
           soon = soon;
         };
       }
