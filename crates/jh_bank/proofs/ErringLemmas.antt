@@ -12,7 +12,7 @@ use Rattle.jh_ops.specs.Operation.{Operation, operation}
 use Rattle.jh_ops.specs.declared.operation.Op.{Op}
 use Rattle.jh_check.specs.SetResults.{ok_reads}
 use Rattle.jh_bank.specs.BankInside.{IsWorstOf, errs_by, erring_at, erring_in, erring_reads, errors_from, worse_of}
-use Rattle.jh_bank.specs.Banks.{IsFarthest, IsWorst, bank_error, count_and_first, distance, error_of_read, has_error, is_bank_error, read_distance, reads_with, wrong_reads}
+use Rattle.jh_bank.specs.Banks.{IsFarthest, IsWorst, bank_error, count_and_first, distance, error_of_read, has_error, is_bank_error, read_distance, reads_with, wrong_places, wrong_reads}
 use Rattle.jh_bank.specs.declared.bank.Bank.{Bank}
 use Rattle.jh_bank.specs.declared.erring.ErringRead.{ErringRead}
 use Rattle.jh_bank.specs.declared.errors.BankError.{BankError}
@@ -106,25 +106,36 @@ errors_found bank error history =
     (λ i. option_map (numbered (count i)) (option_and_then (slice_get history) (first i)))
     ∙ first_there history (length reads) reads (reads_placed (λ read. has_error bank error read.1) history)
 
--- ---- whether there is one
+-- ---- where they are
 
-one_wrong : (place far : ℕ) (found : Option BankError) (erring : List ErringRead) (r : ℕ × Operation) (rs : List (ℕ × Operation)) → length erring ≡ length rs
-    → length (cons_option (option_map (kept place far) found) erring) ≡ length (cond (is_some found) (r ∷ rs) rs)
-one_wrong place far None erring r rs h = h
-one_wrong place far (Some e) erring r rs h = ap suc h
+abbrev read_place : ErringRead → ℕ
+read_place read = read.place
 
-wrong_by_pairs : (bank : Bank) (place : ℕ) (pairs : Option (List (Edn × Edn))) (erring : List ErringRead) (r : ℕ × Operation) (rs : List (ℕ × Operation)) → length erring ≡ length rs
-    → length (cons_option (option_and_then (erring_in bank place) pairs) erring) ≡ length (cond (is_some (option_and_then (bank_error bank) pairs)) (r ∷ rs) rs)
-wrong_by_pairs bank place None erring r rs h = h
-wrong_by_pairs bank place (Some pairs) erring r rs h = one_wrong place (distance bank pairs) (bank_error bank pairs) erring r rs h
+abbrev first_of : ℕ × Operation → ℕ
+first_of read = read.0
 
-wrong_among : (bank : Bank) (reads : List (ℕ × Operation)) → length (filter_map (λ read. erring_at bank read.0 read.1) reads) ≡ length (filter (λ read. is_some (error_of_read bank read.1)) reads)
+one_wrong : (far : ℕ) (found : Option BankError) (erring : List ErringRead) (r : ℕ × Operation) (rs : List (ℕ × Operation)) → map read_place erring ≡ map first_of rs
+    → map read_place (cons_option (option_map (kept r.0 far) found) erring) ≡ map first_of (cond (is_some found) (r ∷ rs) rs)
+one_wrong far None erring r rs h = h
+one_wrong far (Some e) erring r rs h = ap (λ places. r.0 ∷ places) h
+
+wrong_by_pairs : (bank : Bank) (pairs : Option (List (Edn × Edn))) (erring : List ErringRead) (r : ℕ × Operation) (rs : List (ℕ × Operation)) → map read_place erring ≡ map first_of rs
+    → map read_place (cons_option (option_and_then (erring_in bank r.0) pairs) erring) ≡ map first_of (cond (is_some (option_and_then (bank_error bank) pairs)) (r ∷ rs) rs)
+wrong_by_pairs bank None erring r rs h = h
+wrong_by_pairs bank (Some pairs) erring r rs h = one_wrong (distance bank pairs) (bank_error bank pairs) erring r rs h
+
+wrong_among : (bank : Bank) (reads : List (ℕ × Operation))
+    → map read_place (filter_map (λ read. erring_at bank read.0 read.1) reads) ≡ map first_of (filter (λ read. is_some (error_of_read bank read.1)) reads)
 wrong_among bank [] = refl
 wrong_among bank (r ∷ rs) =
-    wrong_by_pairs bank r.0 (map_pairs r.1.value) (filter_map (λ read. erring_at bank read.0 read.1) rs) r (filter (λ read. is_some (error_of_read bank read.1)) rs) (wrong_among bank rs)
+    wrong_by_pairs bank (map_pairs r.1.value) (filter_map (λ read. erring_at bank read.0 read.1) rs) r (filter (λ read. is_some (error_of_read bank read.1)) rs) (wrong_among bank rs)
+
+pub wrong_placed : (bank : Bank) (history : List Operation) → map (λ (read : ErringRead). read.place) (erring_reads bank history) ≡ wrong_places bank history
+wrong_placed bank history = wrong_among bank (ok_reads history)
 
 pub wrong_counted : (bank : Bank) (history : List Operation) → length (erring_reads bank history) ≡ length (wrong_reads bank history)
-wrong_counted bank history = wrong_among bank (ok_reads history)
+wrong_counted bank history =
+    sym (length-map (erring_reads bank history) read_place) ∙ ap length (wrong_among bank (ok_reads history)) ∙ length-map (wrong_reads bank history) first_of
 
 -- ---- the worst
 

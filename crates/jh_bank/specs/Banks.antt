@@ -118,6 +118,10 @@ reads_with bank error history = filter (λ read. has_error bank error read.1) (o
 abbrev pub wrong_reads : Bank → List Operation → List (ℕ × Operation)
 wrong_reads bank history = filter (λ read. is_some (error_of_read bank read.1)) (ok_reads history)
 
+-- their places
+abbrev pub wrong_places : Bank → List Operation → List ℕ
+wrong_places bank history = map (λ read. read.0) (wrong_reads bank history)
+
 -- how many there are, and the first of them
 abbrev pub count_and_first : List (ℕ × Operation) → Option (ℕ × Operation)
 count_and_first reads = option_map (λ first. (length reads, first.1)) (slice_get reads 0)
@@ -162,6 +166,7 @@ pub record IsBankResult (bank : Bank) (history : List Operation) (found : BankRe
     pub reads : found.reads ≡ length (ok_reads history)
     pub errors : AreBankErrors bank history found.errors
     pub worst : IsWorst bank (reads_with bank WrongTotal history) found.worst
+    pub wrong : found.wrong.items ≡ wrong_places bank history
 
 -- ---- refusals
 

@@ -1,7 +1,7 @@
 //! The reads of a history that have an error, and what is counted and looked for among them.
 //! `specs/BankInside.antt` says what is kept of each.
 
-ghost use Rattle.std.specs.Prelude.{◌≡◌, ◌++◌, IfOk, OnOk, count_by, filter, find, option_map};
+ghost use Rattle.std.specs.Prelude.{◌≡◌, ◌++◌, IfOk, OnOk, count_by, filter, find, map, option_map};
 ghost use Rattle.std.specs.Prelude.{option_copied};
 ghost use Rattle.jh_edn.specs.View.{view_pairs};
 ghost use Rattle.jh_ops.specs.Operation.{operation, operations};
@@ -159,4 +159,11 @@ pub(crate) fn place_of(read: Option<ErringRead>) -> Option<usize>
         Some(read) => Some(read.place),
         None => None,
     }
+}
+
+/// The places of the reads.
+pub(crate) fn places_of(alloc: Global, erring: &[ErringRead]) -> Result<Vec<usize>, AllocError>
+    ensures { IfOk result (λ places. places.items ≡ map (λ read. read.place) erring.now) }
+{
+    erring.iter().map(|read| read.place).collect(alloc)
 }

@@ -8,7 +8,9 @@ ghost use Rattle.jh_bank.specs.BankInside.{AreErrorsFrom, erring_reads, errors_f
 ghost use Rattle.jh_bank.specs.Banks.{IsBankHistory, IsBankResult, RefusesBank, shown_errors};
 
 use crate::bank::Bank;
-use crate::erring::{ErringRead, count_with, erring_reads, first_place, place_of, worst_of};
+use crate::erring::{
+    ErringRead, count_with, erring_reads, first_place, place_of, places_of, worst_of,
+};
 use crate::errors::BankError;
 use crate::reads::{bad_read_place, count_reads};
 use jh_check::{CheckError, Verdict};
@@ -49,6 +51,8 @@ pub struct BankResult {
     /// Of the reads with a wrong total the one whose sum is farthest from the bank's, and of equals the
     /// first.
     pub worst: Option<Op>,
+    /// The places in the history of all reads that have an error, ascending.
+    pub wrong: Vec<usize>,
 }
 
 /// The verdict where so many reads have an error.
@@ -139,11 +143,13 @@ fn result_of(
 {
     let errors = errors_of(alloc, history, erring)?;
     let worst = copied(alloc, history, place_of(worst_of(erring)))?;
+    let wrong = places_of(alloc, erring)?;
     Ok(BankResult {
         verdict: verdict_of(erring.len()),
         reads: count_reads(history),
         errors,
         worst,
+        wrong,
     })
 }
 

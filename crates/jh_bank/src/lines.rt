@@ -4,12 +4,12 @@ ghost use Rattle.std.specs.Prelude.{◌≡◌, ◌++◌, ◌&&◌, IfErr, OnOk, 
 ghost use Rattle.std.specs.Fmt.{signed_decimal};
 ghost use Rattle.std.specs.Io.KnownBytes.{Appends};
 ghost use Rattle.jh_edn.specs.Parts.{map_of};
-ghost use Rattle.jh_edn.specs.Print.{print, separator_before};
+ghost use Rattle.jh_edn.specs.Print.{print};
 ghost use Rattle.jh_bank.specs.BankInside.{entries_text, worst_text};
 ghost use Rattle.jh_bank.specs.BankLines.{bank_value, error_pairs, errors_value, kind_pairs};
 
 use crate::judge::{BankErrors, BankResult, ReadErrors};
-use jh_check::{write_count, write_verdict};
+use jh_check::{separate, write_count, write_verdict};
 use jh_edn::{EdnError, put};
 use jh_ops::{Op, write_operation};
 use std::io::Write;
@@ -34,15 +34,6 @@ fn write_errors<W: Write>(errors: &ReadErrors, writer: &mut W) -> Result<(), Edn
     put(b", :first ", writer)?;
     write_operation(&errors.first, writer)?;
     put(b"}", writer)
-}
-
-/// Writes what stands between two pairs, but not in front of the first.
-fn separate<W: Write>(first: bool, writer: &mut W) -> Result<(), EdnError>
-    ensures bytes { OnOk result (Appends (W.contents writer.old) (W.contents writer.new)
-        (separator_before first (codes ", "))) }
-    ensures error { IfErr result (λ e. e ≡ EdnError.Write) }
-{
-    if first { Ok(()) } else { put(b", ", writer) }
 }
 
 /// Writes a keyword and a space.

@@ -2,7 +2,8 @@ pub mod Verdicts
 pub mod Asked
 pub mod Distinct
 pub mod SetResults
-pub mod IdsView
+pub mod Tallies
+pub mod TallyInside
 pub mod IdsResults
 pub mod CounterResults
 pub mod CounterInside

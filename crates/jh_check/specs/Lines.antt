@@ -48,13 +48,21 @@ counter_value result =
     ∷ (keyword (codes "reads"), reads_value result.reads)
     ∷ (keyword (codes "errors"), reads_value result.errors) ∷ [])
 
--- an id with how often it was given
-abbrev pub duplicate_value : Edn × ℕ → Edn
-duplicate_value id = vector_of (id.0 ∷ int (pos id.1) ∷ [])
+-- a value with how often it is there, as a vector
+abbrev pub counted_value : Edn × ℕ → Edn
+counted_value entry = vector_of (entry.0 ∷ int (pos entry.1) ∷ [])
+
+-- the same as a pair of a map
+abbrev pub count_pair : Edn × ℕ → Edn × Edn
+count_pair entry = (entry.0, int (pos entry.1))
+
+-- values with how often each is there, as a map
+abbrev pub tally_value : List (Edn × ℕ) → Edn
+tally_value entries = map_of (map count_pair entries)
 
 abbrev pub ids_value : IdsResult → Edn
 ids_value result =
     map_of ((keyword (codes "valid?"), verdict_value result.verdict)
     ∷ (keyword (codes "attempted"), int (pos result.attempted))
     ∷ (keyword (codes "acknowledged"), int (pos result.acknowledged))
-    ∷ (keyword (codes "duplicated"), vector_of (map duplicate_value result.duplicated)) ∷ [])
+    ∷ (keyword (codes "duplicated"), vector_of (map counted_value result.duplicated)) ∷ [])

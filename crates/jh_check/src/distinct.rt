@@ -28,8 +28,10 @@ pub fn is_among(values: &[Value], value: &Value) -> bool
         .is_ok()
 }
 
-/// The values, each once, where they ascend.
-pub(crate) fn distinct(values: Vec<Value>) -> Vec<Value>
+/// The values, each once, where they ascend. Takes no memory.
+///
+/// Takes O(n) comparisons for n values.
+pub fn each_once(values: Vec<Value>) -> Vec<Value>
     requires { Ascends (views values.items) }
     ensures values { views result.items ≡ distinct_values (views values.items) }
     ensures ascends { Ascends (views result.items) }

@@ -5,7 +5,7 @@ ghost use Rattle.std.specs.Fmt.{signed_decimal};
 ghost use Rattle.std.specs.Io.KnownBytes.{Appends};
 
 use crate::counter::ReadBounds;
-use crate::ids::Duplicate;
+use crate::tally::Counted;
 use itoa::Buffer;
 use jh_edn::{EdnError, Element, put, write};
 use std::io::Write;
@@ -42,15 +42,15 @@ impl Element for ReadBounds {
     }
 }
 
-impl Element for Duplicate {
-    ghost use Rattle.jh_check.specs.IdsView.{view_duplicate};
-    ghost use Rattle.jh_check.specs.Lines.{duplicate_value};
+impl Element for Counted {
+    ghost use Rattle.jh_check.specs.Tallies.{view_counted};
+    ghost use Rattle.jh_check.specs.Lines.{counted_value};
 
-    ghost value = { λ d. duplicate_value (view_duplicate d) };
+    ghost value = { λ c. counted_value (view_counted c) };
 
     fn write_to<W: Write>(&self, writer: &mut W) -> Result<(), EdnError> {
         put(b"[", writer)?;
-        write(&self.id, writer)?;
+        write(&self.value, writer)?;
         write!(writer, " {}]", self.times).map_err(|_| EdnError::Write)
     }
 }

@@ -1,4 +1,5 @@
-//! Checkers of histories: the elements of a set, the bounds of a counter, and unique ids.
+//! Checkers of histories: the elements of a set, the bounds of a counter, and unique ids; and what
+//! checkers of other crates share with them.
 #![tactic(auto)]
 
 mod asked;
@@ -11,16 +12,20 @@ mod laws;
 mod lines;
 mod pairs;
 mod set;
+mod tally;
+mod tally_lines;
 mod totals;
 mod verdict;
 
 pub use asked::{in_normal_order, sorted_normal, sorted_values};
 pub use counter::{CounterResult, ReadBounds, Reads, check_counter, read_ends};
-pub use distinct::{is_among, is_same, selected};
+pub use distinct::{each_once, is_among, is_same, selected};
 pub use error::CheckError;
-pub use ids::{Duplicate, Duplicates, IdsResult, check_unique};
+pub use ids::{IdsResult, check_unique};
 pub use laws::same_values_are_equal;
 pub use lines::{write_count, write_counter, write_ids, write_set, write_verdict};
 pub use pairs::{asks, end_of, has_ended, is_ok_read, value_at};
-pub use set::{SetFound, SetResult, check_set, final_read};
+pub use set::{SetFound, SetResult, check_set, elements_shown, final_read};
+pub use tally::{Counted, Tally, push_repeated};
+pub use tally_lines::{separate, write_tally};
 pub use verdict::{Verdict, merge};

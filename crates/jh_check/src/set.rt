@@ -9,7 +9,7 @@ ghost use Rattle.jh_check.specs.SetResults as rule;
 ghost use Rattle.jh_check.specs.SetResults.{IsJudgeable, RefusesSet, set_found, set_result};
 
 use crate::asked::{sorted_normal, sorted_values};
-use crate::distinct::{distinct, selected};
+use crate::distinct::{each_once, selected};
 use crate::error::CheckError;
 use crate::verdict::{Verdict, verdict_of};
 use jh_edn::{Value, Values};
@@ -53,8 +53,8 @@ pub fn final_read(history: &[Op]) -> Option<(usize, &Op)>
     found
 }
 
-/// The elements that a read shows.
-fn elements_shown(value: &Value) -> Option<&[Value]>
+/// The elements that a read shows: those of a set, a vector or a list. None: the value is none of these.
+pub fn elements_shown(value: &Value) -> Option<&[Value]>
     ensures { option_map (λ items. views items.now) result ≡ rule.elements_shown (view value.now) }
 {
     match value {
@@ -68,13 +68,13 @@ fn found_in(alloc: Global, history: &[Op], elements: &[Value]) -> Result<SetFoun
     ensures { IfOk result (λ found. found
         ≡ set_found (operations history.now) (set_of (map normal (views elements.now)))) }
 {
-    let read = distinct(sorted_normal(alloc, elements)?);
+    let read = each_once(sorted_normal(alloc, elements)?);
     let attempted = sorted_values(alloc, Kind::Invoke, "add", history)?;
     let acknowledged = sorted_values(alloc, Kind::Ok, "add", history)?;
     let ok = selected(alloc, &read, &attempted, true)?;
     let unexpected = selected(alloc, &read, &attempted, false)?;
     let recovered = selected(alloc, &ok, &acknowledged, false)?;
-    let lost = selected(alloc, &distinct(acknowledged), &read, false)?;
+    let lost = selected(alloc, &each_once(acknowledged), &read, false)?;
     Ok(SetFound {
         ok: Values::of(ok),
         lost: Values::of(lost),

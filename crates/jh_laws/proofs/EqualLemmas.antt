@@ -15,7 +15,8 @@ use Rattle.jh_ops.specs.Operation.{Operation, is_asked}
 use Rattle.jh_ops.specs.declared.operation.Kind.{Kind}
 use Rattle.jh_check.specs.Asked.{values_of}
 use Rattle.jh_check.specs.Distinct.{is_same, has_same_value, count_of, set_of}
-use Rattle.jh_check.specs.IdsResults.{counted_ids, duplicated_ids, is_duplicate}
+use Rattle.jh_check.specs.IdsResults.{counted_ids, duplicated_ids}
+use Rattle.jh_check.specs.Tallies.{is_repeated}
 use Rattle.jh_check.specs.Verdicts.{verdict_of}
 use Rattle.jh_check.specs.declared.verdict.Verdict.TheVariants.{True}
 use Rattle.jh_check.proofs.ListLemmas.{count_by-map}
@@ -217,7 +218,7 @@ module _ (equal : EqualLaw) (one : OneLaw) where
   duplicates_parsed xs printable v n = (found, parsed) where
     found : Contains (duplicated_ids (map normal xs)) (v, n) → IsRepeated xs v n
     found h =
-        let kept = filter_from is_duplicate (v, n) (counted_ids (map normal xs)) (member_from (duplicated_ids (map normal xs)) (v, n) h) in
+        let kept = filter_from is_repeated (v, n) (counted_ids (map normal xs)) (member_from (duplicated_ids (map normal xs)) (v, n) h) in
         let of = map_from (λ id. (id, count_of (map normal xs) id)) (v, n) (set_of (map normal xs)) kept.0 in
         let of_id : of.0 ≡ v = ap (λ (pair : Edn × ℕ). pair.0) of.2 in
         let of_count : count_of (map normal xs) of.0 ≡ n = ap (λ (pair : Edn × ℕ). pair.1) of.2 in
@@ -233,7 +234,7 @@ module _ (equal : EqualLaw) (one : OneLaw) where
         let pair : (normal x, count_of (map normal xs) (normal x)) ≡ (v, n) = λ i. (sym h.1.3 i, sym times i) in
         let there = map_to (λ id. (id, count_of (map normal xs) id)) (normal x) (set_of (map normal xs)) ((set_shows xs printable).to x (member_from xs x h.1.1)) in
         let member = subst (λ w. Member w (counted_ids (map normal xs))) pair there in
-        member_to (duplicated_ids (map normal xs)) (v, n) (filter_to is_duplicate (v, n) (counted_ids (map normal xs)) member (lt-ltb 1 n h.0))
+        member_to (duplicated_ids (map normal xs)) (v, n) (filter_to is_repeated (v, n) (counted_ids (map normal xs)) member (lt-ltb 1 n h.0))
 
   counted_alike : (v : Edn) (xs : List Edn) → count_of (map normal xs) v ≡ count_by (λ x. is_same v (normal x)) xs
   counted_alike v xs = count_by-map (is_same v) normal xs
@@ -255,7 +256,7 @@ module _ (equal : EqualLaw) (one : OneLaw) where
   twice_none xs apart = none_empty (duplicated_ids (map normal xs)) none where
     none : (pair : Edn × ℕ) → Member pair (duplicated_ids (map normal xs)) → ⊥
     none (v, n) h =
-        let kept = filter_from is_duplicate (v, n) (counted_ids (map normal xs)) h in
+        let kept = filter_from is_repeated (v, n) (counted_ids (map normal xs)) h in
         let of = map_from (λ id. (id, count_of (map normal xs) id)) (v, n) (set_of (map normal xs)) kept.0 in
         let of_count : count_of (map normal xs) of.0 ≡ n = ap (λ (pair : Edn × ℕ). pair.1) of.2 in
         let many : 1 < count_by (λ x. is_same of.0 (normal x)) xs = subst (λ m. 1 < m) (sym of_count ∙ counted_alike of.0 xs) (ltb-true 1 n kept.1) in

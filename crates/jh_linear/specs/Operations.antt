@@ -7,7 +7,7 @@
 -- bad value is reported, are this project's own. Places count from 0 in the whole history.
 use Rattle.std.specs.Prelude.{◌≡◌, ℕ, ◌≤◌, Bool, false, List, [], ◌∷◌, map, codes, if◌then◌else◌}
 use Rattle.std.specs.Prelude.{slice_get, Option, Some, None, IfSome, is_some, unwrap_or, option_map}
-use Rattle.std.specs.Prelude.{option_and_then}
+use Rattle.std.specs.Prelude.{ℤ, pos, option_and_then}
 use Rattle.std.specs.List.{All, Contains}
 use Rattle.jh_edn.specs.Edn.{Edn, nil, int, elements_of, is_keyword, integer_of}
 use Rattle.jh_ops.specs.Operation.{Operation}
@@ -17,7 +17,6 @@ use Rattle.jh_linear.specs.declared.operations.Object.{Object}
 use Rattle.jh_linear.specs.declared.operations.Object.TheVariants.{Register, Mutex}
 use Rattle.jh_linear.specs.declared.operations.RegOpsError.{RegOpsError}
 use Rattle.jh_linear.specs.declared.operations.RegOpsError.TheVariants.{BadValue, OutOfMemory}
-use Rattle.jh_linear.specs.declared.operations.TheConstants.{FREE, HELD}
 use Rattle.jh_linear.specs.declared.register.Outcome.{Outcome}
 use Rattle.jh_linear.specs.declared.register.Outcome.TheVariants.{Done, Failed, Unsure}
 use Rattle.jh_linear.specs.declared.register.RegCall.{RegCall}
@@ -55,11 +54,18 @@ register_call_of f value answered =
     else if is_keyword (codes "cas") f then cas_of value
     else None
 
+-- the numbers of a mutex as the register that it is judged as: free, and held
+abbrev pub free : ℤ
+free = pos 0
+
+abbrev pub held : ℤ
+held = pos 1
+
 -- what an invocation asks of a mutex, by its function alone
 abbrev pub mutex_call_of : Edn → Option RegCall
 mutex_call_of f =
-    if is_keyword (codes "acquire") f then Some (Cas FREE HELD)
-    else if is_keyword (codes "release") f then Some (Cas HELD FREE)
+    if is_keyword (codes "acquire") f then Some (Cas free held)
+    else if is_keyword (codes "release") f then Some (Cas held free)
     else None
 
 -- what an invocation asks of the object

@@ -121,9 +121,9 @@ abbrev pub IsResultOf : List Operation → List Pair → QueueResult → Type 0
 IsResultOf history pairs (Dequeued count) =
     EachFinds (passages_in history pairs) (passages_out history pairs)
     × (count ≡ length (passages_out history pairs))
-IsResultOf history pairs (First op) =
+IsResultOf history pairs (First place completion) =
     (out : Passage) × IsFirstWithout (passages_in history pairs) (passages_out history pairs) out
-    × (slice_get history out.place ≡ Some (operation op))
+    × (place ≡ out.place) × (slice_get history place ≡ Some (operation completion))
 
 -- the result of a history
 abbrev pub IsQueueResult : List Operation → QueueResult → Type 0

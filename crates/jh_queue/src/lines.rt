@@ -6,8 +6,10 @@ ghost use Rattle.jh_edn.specs.Parts.{behind_pair_text};
 ghost use Rattle.jh_edn.specs.Print.{print};
 ghost use Rattle.jh_ops.specs.Operation.{operation};
 ghost use Rattle.jh_ops.specs.OperationWritten.{value_written};
-ghost use Rattle.jh_queue.specs.Lines.{queue_value};
-ghost use Rattle.jh_queue.specs.declared.queue.QueueResult.TheVariants.{Dequeued, First};
+ghost use Rattle.jh_check.specs.Lines.{map_with_verdict};
+ghost use Rattle.jh_check.specs.declared.verdict.Verdict.TheVariants.{False};
+ghost use Rattle.jh_queue.specs.Lines.{first_pairs, queue_value};
+ghost use Rattle.jh_queue.specs.declared.queue.QueueResult.TheVariants.{Dequeued};
 
 use crate::queue::QueueResult;
 use jh_check::{Verdict, write_count, write_verdict};
@@ -39,7 +41,7 @@ fn write_completion<W: Write>(op: &Op, writer: &mut W) -> Result<(), EdnError>
 /// The line where this is the first completion that comes from none.
 fn write_first<W: Write>(op: &Op, writer: &mut W) -> Result<(), EdnError>
     ensures bytes { OnOk result (Appends (W.contents writer.old) (W.contents writer.new)
-        (print (queue_value (First op.now)))) }
+        (print (map_with_verdict False (first_pairs (operation op.now))))) }
     ensures error { IfErr result (λ e. e ≡ EdnError.Write) }
 {
     write_verdict(Verdict::False, writer)?;
@@ -60,6 +62,6 @@ pub fn write_queue<W: Write>(judged: &QueueResult, writer: &mut W) -> Result<(),
 {
     match judged {
         QueueResult::Dequeued(count) => write_dequeued(*count, writer),
-        QueueResult::First(op) => write_first(op, writer),
+        QueueResult::First { completion, .. } => write_first(completion, writer),
     }
 }

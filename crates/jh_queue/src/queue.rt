@@ -18,8 +18,13 @@ use std::alloc::{AllocError, Global};
 pub enum QueueResult {
     /// Each dequeue that happened comes from an enqueue: how many there are.
     Dequeued(usize),
-    /// The completion of the first dequeue that comes from none, as the history has it.
-    First(Op),
+    /// The first dequeue that comes from none.
+    First {
+        /// Where in the history it is completed.
+        place: usize,
+        /// Its completion, as the history has it.
+        completion: Op,
+    },
 }
 
 /// The earlier of the first place so far and one more, if no enqueue is found there.
@@ -73,7 +78,10 @@ fn judged(alloc: Global, history: &[Op], pairs: &[Pair]) -> Result<QueueResult, 
     let ins = in_passage_order(enqueues(alloc, history, pairs)?)?;
     let outs = in_passage_order(dequeues(alloc, history, pairs)?)?;
     match first_without(&ins, &outs) {
-        Some(place) => Ok(QueueResult::First(copy_at(alloc, history, place)?)),
+        Some(place) => Ok(QueueResult::First {
+            place,
+            completion: copy_at(alloc, history, place)?,
+        }),
         None => Ok(QueueResult::Dequeued(outs.len())),
     }
 }

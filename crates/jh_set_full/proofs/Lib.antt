@@ -1,4 +1,3 @@
-pub mod LineLemmas
 pub mod PlaceLemmas
 pub mod DecideLemmas
 pub mod SightingLemmas

@@ -12,7 +12,8 @@ use Rattle.jh_ops.specs.Operation.{Operation}
 use Rattle.jh_ops.specs.Pairing.{IsPairWithin}
 use Rattle.jh_ops.specs.declared.pairs.Pair.{Pair}
 use Rattle.jh_check.proofs.ListLemmas.{mapped_more}
-use Rattle.jh_set_full.specs.SetFull.{all_shown, is_repeated, most_shown, shown_by, staleness, timeline_of}
+use Rattle.jh_check.specs.Tallies.{is_repeated}
+use Rattle.jh_set_full.specs.SetFull.{all_shown, most_shown, shown_by, staleness, timeline_of}
 use Rattle.jh_set_full.specs.Inside.{AreTables, is_spot_in, is_timeline_in, most_by, repeated_by, spot_of, stale_by}
 use Rattle.jh_set_full.specs.declared.spots.State.{State}
 use Rattle.jh_set_full.specs.declared.spots.State.TheVariants.{Stale}

@@ -19,7 +19,7 @@ use Rattle.jh_set_full.specs.declared.spots.State.{State}
 use Rattle.jh_set_full.specs.declared.spots.State.TheVariants.{Lost, NeverRead, Stable, Stale}
 use Rattle.jh_set_full.specs.declared.spots.Tables.{Tables}
 use Rattle.jh_set_full.proofs.DecideLemmas.{Descend, Ends}
-use Rattle.jh_set_full.proofs.LineLemmas.{mapped_twice}
+use Rattle.jh_check.proofs.LineLemmas.{mapped_twice}
 use Rattle.jh_set_full.proofs.SightingLemmas.{filter_mapped, holds, most_times, pairs_are, seen_in_order}
 use Rattle.jh_set_full.proofs.SpotLemmas.{absent_same, ends_within, first_is, known_same, lost_same, newest_glue, stable_same, stale_same}
 

@@ -12,9 +12,10 @@ use Rattle.jh_ops.specs.Operation.{Operation}
 use Rattle.jh_ops.specs.declared.pairs.Pair.{Pair}
 use Rattle.jh_check.specs.CounterResults.{end_place, is_ok_read}
 use Rattle.jh_check.specs.Distinct.{Ascends, count_of, distinct_values, is_same, set_of}
+use Rattle.jh_check.specs.Tallies.{is_repeated}
 use Rattle.jh_set_full.specs.SetFull.{added_by, greatest_of, has_element, having, shows_no_elements, invoke_place}
 use Rattle.jh_set_full.specs.SetFull.{is_before, is_later, last_add, later_of, least}
-use Rattle.jh_set_full.specs.SetFull.{Timeline, is_lost, is_never_read, is_repeated, is_stable, is_stale}
+use Rattle.jh_set_full.specs.SetFull.{Timeline, is_lost, is_never_read, is_stable, is_stale}
 use Rattle.jh_set_full.specs.SetFull.{milliseconds_between, ok_end, shown_by, time_at}
 use Rattle.jh_set_full.specs.declared.sightings.Side.{Side}
 use Rattle.jh_set_full.specs.declared.sightings.Side.TheVariants.{Adds, Reads}

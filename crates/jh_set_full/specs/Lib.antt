@@ -1,5 +1,4 @@
 pub mod StaleView
 pub mod SetFull
 pub mod Lines
-pub mod TextInside
 pub mod Inside

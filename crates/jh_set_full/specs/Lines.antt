@@ -1,10 +1,10 @@
 -- The value of the result, a map, whose printed text is its one line (this project's own; the keys
 -- are those of jepsen.checker).
-use Rattle.std.specs.Prelude.{ℕ, pos, List, [], ◌∷◌, map, codes, Option}
+use Rattle.std.specs.Prelude.{ℕ, pos, [], ◌∷◌, map, codes, Option}
 use Rattle.std.specs.Option.{option_map_or}
 use Rattle.jh_edn.specs.Edn.{Edn, int, keyword, nil}
-use Rattle.jh_edn.specs.Parts.{map_of, vector_of}
-use Rattle.jh_check.specs.Lines.{map_with_verdict}
+use Rattle.jh_edn.specs.Parts.{vector_of}
+use Rattle.jh_check.specs.Lines.{map_with_verdict, tally_value}
 use Rattle.jh_set_full.specs.declared.set_full.SetFullResult.{SetFullResult}
 
 -- a number, and nil where it is missing
@@ -15,13 +15,6 @@ number_or_nil number = option_map_or (λ n. int (pos n)) number nil
 abbrev pub stale_value : Edn × Option ℕ → Edn
 stale_value stale = vector_of (stale.0 ∷ number_or_nil stale.1 ∷ [])
 
--- a value with how often it is there
-abbrev pub duplicate_pair : Edn × ℕ → Edn × Edn
-duplicate_pair entry = (entry.0, int (pos entry.1))
-
-abbrev pub duplicates_value : List (Edn × ℕ) → Edn
-duplicates_value entries = map_of (map duplicate_pair entries)
-
 abbrev pub set_full_value : SetFullResult → Edn
 set_full_value result =
     map_with_verdict result.verdict
@@ -30,4 +23,4 @@ set_full_value result =
     ∷ (keyword (codes "lost"), vector_of result.lost)
     ∷ (keyword (codes "never-read"), vector_of result.never_read)
     ∷ (keyword (codes "stale"), vector_of (map stale_value result.stale))
-    ∷ (keyword (codes "duplicated"), duplicates_value result.duplicated) ∷ [])
+    ∷ (keyword (codes "duplicated"), tally_value result.duplicated) ∷ [])

@@ -22,6 +22,7 @@ use Rattle.jh_check.specs.CounterResults.{asks, end_place, error_of_pairing, has
 use Rattle.jh_check.specs.CounterResults.{value_at}
 use Rattle.jh_check.specs.Distinct.{count_of, has_same_value, set_of}
 use Rattle.jh_check.specs.SetResults.{attempts, elements_shown}
+use Rattle.jh_check.specs.Tallies.{is_repeated}
 use Rattle.jh_check.specs.declared.error.CheckError.{CheckError}
 use Rattle.jh_check.specs.declared.error.CheckError.TheVariants as check_errors
 use Rattle.jh_check.specs.declared.error.CheckError.TheVariants.{BadValue, NegativeAdd}
@@ -187,9 +188,6 @@ staleness history pairs x =
 abbrev pub most_shown : List Operation → List Pair → Edn → ℕ
 most_shown history pairs x =
     unwrap_or (greatest_of (map (λ pair. count_of (shown_by history pair) x) pairs)) 0
-
-abbrev pub is_repeated : Edn × ℕ → Bool
-is_repeated entry = nat_lt 1 entry.1
 
 abbrev pub all_shown : List Operation → List Pair → List Edn
 all_shown history pairs = flat_map (shown_by history) pairs

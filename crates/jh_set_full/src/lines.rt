@@ -1,15 +1,13 @@
 //! The one line of the result. `specs/Lines.antt` has the rule.
 
-ghost use Rattle.std.specs.Prelude.{◌≡◌, IfErr, OnOk, codes, map};
+ghost use Rattle.std.specs.Prelude.{◌≡◌, IfErr, OnOk};
 ghost use Rattle.std.specs.Io.KnownBytes.{Appends};
-ghost use Rattle.jh_edn.specs.Parts.{behind_pair_text};
-ghost use Rattle.jh_edn.specs.Print.{joined_text, print, separator_before};
-ghost use Rattle.jh_set_full.specs.Lines.{number_or_nil, set_full_value, duplicates_value};
-ghost use Rattle.jh_set_full.specs.TextInside as inside;
+ghost use Rattle.jh_edn.specs.Print.{print};
+ghost use Rattle.jh_set_full.specs.Lines.{number_or_nil, set_full_value};
 
 use crate::set_full::SetFullResult;
 use crate::stale::Stale;
-use jh_check::{Duplicate, Duplicates, write_count, write_verdict};
+use jh_check::{write_count, write_tally, write_verdict};
 use jh_edn::{EdnError, Element, put, write, write_part};
 use std::io::Write;
 
@@ -38,65 +36,6 @@ impl Element for Stale {
         write_number(self.milliseconds, writer)?;
         put(b"]", writer)
     }
-}
-
-/// What stands before an entry: nothing before the first.
-fn separate<W: Write>(first: bool, writer: &mut W) -> Result<(), EdnError>
-    ensures bytes { OnOk result
-        (Appends (W.contents writer.old) (W.contents writer.new)
-        (separator_before first (codes ", "))) }
-    ensures error { IfErr result (λ e. e ≡ EdnError.Write) }
-{
-    if first { Ok(()) } else { put(b", ", writer) }
-}
-
-/// A value, and how often it is there.
-fn write_entry<W: Write>(entry: &Duplicate, writer: &mut W) -> Result<(), EdnError>
-    ensures bytes { OnOk result
-        (Appends (W.contents writer.old) (W.contents writer.new) (inside.duplicate_text entry.now)) }
-    ensures error { IfErr result (λ e. e ≡ EdnError.Write) }
-{
-    write(&entry.id, writer)?;
-    put(b" ", writer)?;
-    write!(writer, "{}", entry.times).map_err(|_| EdnError::Write)
-}
-
-/// Values with how often each is there, with `, ` between them.
-fn write_entries<W: Write>(entries: &[Duplicate], writer: &mut W) -> Result<(), EdnError>
-    ensures bytes { OnOk result
-        (Appends (W.contents writer.old) (W.contents writer.new)
-        (joined_text (codes ", ") (map inside.duplicate_text entries.now))) }
-    ensures error { IfErr result (λ e. e ≡ EdnError.Write) }
-{
-    for (place, entry) in entries.iter().enumerate() {
-        separate(place == 0, writer)?;
-        write_entry(entry, writer)?;
-    }
-    Ok(())
-}
-
-/// Values with how often each is there, as a map.
-fn write_map<W: Write>(tally: &Duplicates, writer: &mut W) -> Result<(), EdnError>
-    ensures bytes { OnOk result
-        (Appends (W.contents writer.old) (W.contents writer.new) (print (duplicates_value tally.now))) }
-    ensures error { IfErr result (λ e. e ≡ EdnError.Write) }
-{
-    put(b"{", writer)?;
-    write_entries(tally.as_slice(), writer)?;
-    put(b"}", writer)
-}
-
-/// Writes a pair with values and how often each is there, behind others: `, :NAME {VALUE COUNT, ..}`.
-fn write_tally<W: Write>(name: &str, tally: &Duplicates, writer: &mut W) -> Result<(), EdnError>
-    ensures bytes { OnOk result
-        (Appends (W.contents writer.old) (W.contents writer.new)
-        (behind_pair_text name.now (duplicates_value tally.now))) }
-    ensures error { IfErr result (λ e. e ≡ EdnError.Write) }
-{
-    put(b", :", writer)?;
-    put(name.as_bytes(), writer)?;
-    put(b" ", writer)?;
-    write_map(tally, writer)
 }
 
 /// Writes the one line of the result for a set over time, without a line feed:

@@ -6,13 +6,13 @@ ghost use Rattle.jh_edn.specs.Normal.{normal};
 ghost use Rattle.jh_edn.specs.View.{view, views};
 ghost use Rattle.jh_ops.specs.Operation.{operations};
 ghost use Rattle.jh_ops.specs.Pairing.{IsPairWithin};
-ghost use Rattle.jh_check.specs.Distinct.{Ascends, distinct_values, set_of};
-ghost use Rattle.jh_check.specs.IdsView.{view_duplicates};
+ghost use Rattle.jh_check.specs.Distinct.{set_of};
+ghost use Rattle.jh_check.specs.Tallies.{view_tally};
 ghost use Rattle.jh_check.specs.SetResults.{attempts};
 ghost use Rattle.jh_set_full.specs.Inside as inside;
 ghost use Rattle.jh_set_full.specs.Inside.{AreByElement, AreTables, is_spot_in, most_by};
 ghost use Rattle.jh_set_full.specs.SetFull as rule;
-ghost use Rattle.jh_set_full.specs.SetFull.{AreReadsKnown, RefusesSetFull, all_shown, is_repeated, from_latest};
+ghost use Rattle.jh_set_full.specs.SetFull.{AreReadsKnown, RefusesSetFull, all_shown, from_latest};
 ghost use Rattle.jh_set_full.specs.SetFull.{set_full_result};
 ghost use Rattle.jh_set_full.specs.StaleView.{view_stales};
 
@@ -20,7 +20,7 @@ use crate::shown::{first_bad_read, shown};
 use crate::spots::{Spot, State, Tables, most_shown, spot_of, tables_of};
 use crate::stale::{Stale, Stales};
 use jh_check::{
-    CheckError, Duplicate, Duplicates, Verdict, in_normal_order, is_same, sorted_values,
+    CheckError, Counted, Tally, Verdict, each_once, in_normal_order, push_repeated, sorted_values,
 };
 use jh_edn::{Value, Values};
 use jh_ops::{Kind, Op, Pair, pair};
@@ -43,7 +43,7 @@ pub struct SetFullResult {
     /// Those that are stable and were stale, likewise.
     pub stale: Stales,
     /// What stands more than once in one read, with the greatest number of times, likewise.
-    pub duplicated: Duplicates,
+    pub duplicated: Tally,
 }
 
 /// Puts a copy of the value last, where it is wanted.
@@ -158,16 +158,6 @@ fn with_staleness(
     Ok(found)
 }
 
-/// The values, each once, where they ascend.
-fn distinct(values: Vec<Value>) -> Vec<Value>
-    requires { Ascends (views values.items) }
-    ensures { views result.items ≡ distinct_values (views values.items) }
-{
-    let mut values = values;
-    values.dedup_by(|value, last| is_same(last, value));
-    values
-}
-
 /// Puts the values last, in normal form.
 fn push_normal(alloc: Global, items: &[Value], values: &mut Vec<Value>) -> Result<(), AllocError>
     ensures { OnOk result (views values.new.items
@@ -189,34 +179,13 @@ fn elements_shown(alloc: Global, history: &[Op], pairs: &[Pair]) -> Result<Vec<V
         push_normal(alloc, shown(history, *pair), &mut values)?;
     }
     let values = in_normal_order(values)?;
-    Ok(distinct(values))
-}
-
-/// Puts a copy of the value last, where it is there more than once.
-fn push_repeated(
-    alloc: Global,
-    id: &Value,
-    times: usize,
-    found: &mut Vec<Duplicate>,
-) -> Result<(), AllocError>
-    ensures { OnOk result (view_duplicates found.new.items
-        ≡ view_duplicates found.old.items ++ filter is_repeated ((view id.now, times) ∷ [])) }
-{
-    if times > 1 {
-        let id = id.copy(alloc)?;
-        found.push(Duplicate { id, times })?;
-    }
-    Ok(())
+    Ok(each_once(values))
 }
 
 /// Those of the elements that one read shows more than once.
-fn repeated(
-    alloc: Global,
-    tables: &Tables,
-    elements: &[Value],
-) -> Result<Vec<Duplicate>, AllocError>
+fn repeated(alloc: Global, tables: &Tables, elements: &[Value]) -> Result<Vec<Counted>, AllocError>
     requires { AreByElement tables.now.shown.items }
-    ensures { IfOk result (λ found. view_duplicates found.items
+    ensures { IfOk result (λ found. view_tally found.items
         ≡ inside.repeated_by (most_by tables.now) (views elements.now)) }
 {
     let mut found = Vec::new(alloc);
@@ -252,7 +221,7 @@ fn attempted(alloc: Global, history: &[Op]) -> Result<Vec<Value>, AllocError>
         ≡ set_of (attempts (operations history.now))) }
 {
     let values = sorted_values(alloc, Kind::Invoke, "add", history)?;
-    Ok(distinct(values))
+    Ok(each_once(values))
 }
 
 /// What is found.
@@ -289,7 +258,7 @@ fn found_in(
         lost: Values::of(lost),
         never_read: Values::of(never_read),
         stale: Stales::of(stale),
-        duplicated: Duplicates::of(duplicated),
+        duplicated: Tally::of(duplicated),
     })
 }
 

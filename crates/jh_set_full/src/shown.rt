@@ -11,7 +11,7 @@ ghost use Rattle.jh_set_full.specs.SetFull as rule;
 ghost use Rattle.jh_set_full.specs.SetFull.{least};
 
 use crate::places::earlier_of;
-use jh_check::{asks, end_of, is_ok_read, value_at};
+use jh_check::{asks, elements_shown, end_of, is_ok_read, value_at};
 use jh_edn::Value;
 use jh_ops::{Op, Pair};
 use std::slice::from_ref;
@@ -26,16 +26,6 @@ pub(crate) fn added(history: &[Op], pair: Pair) -> &[Value]
     match value_at(history, pair.invoke) {
         Some(value) => from_ref(value),
         None => &[],
-    }
-}
-
-/// The elements that a read shows.
-fn elements_shown(value: &Value) -> Option<&[Value]>
-    ensures { option_map (λ items. views items.now) result ≡ sets.elements_shown (view value.now) }
-{
-    match value {
-        Value::Set(items) => Some(items.as_slice()),
-        _ => value.elements(),
     }
 }
 

@@ -1,4 +1,3 @@
 pub mod CountLemmas
 pub mod TallyLemmas
 pub mod DrainLemmas
-pub mod LineLemmas

@@ -1,17 +1,9 @@
 -- The value of the result, a map, whose printed text is its one line (this project's own; keys and
 -- multisets, as maps from values to counts, are those of jepsen.checker).
-use Rattle.std.specs.Prelude.{ℕ, pos, List, [], ◌∷◌, map, codes}
+use Rattle.std.specs.Prelude.{pos, [], ◌∷◌, codes}
 use Rattle.jh_edn.specs.Edn.{Edn, int, keyword}
-use Rattle.jh_edn.specs.Parts.{map_of}
-use Rattle.jh_check.specs.Lines.{map_with_verdict}
+use Rattle.jh_check.specs.Lines.{map_with_verdict, tally_value}
 use Rattle.jh_total_queue.specs.declared.total_queue.TotalQueueResult.{TotalQueueResult}
-
--- a value with how often it is there
-abbrev pub count_pair : Edn × ℕ → Edn × Edn
-count_pair entry = (entry.0, int (pos entry.1))
-
-abbrev pub tally_value : List (Edn × ℕ) → Edn
-tally_value entries = map_of (map count_pair entries)
 
 abbrev pub total_queue_value : TotalQueueResult → Edn
 total_queue_value result =

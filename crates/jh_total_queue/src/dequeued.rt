@@ -47,8 +47,9 @@ pub(crate) fn first_bad_drain(history: &[Op]) -> Option<usize>
     place_of_bad_drain(history)
 }
 
-/// What the operation is known to have taken out.
-fn taken_by(op: &Op) -> &[Value]
+/// What an operation is known to have taken out: an `:ok` dequeue its value, an `:ok` drain its
+/// elements, and all else nothing.
+pub fn taken_by(op: &Op) -> &[Value]
     ensures { views result.now ≡ rule.taken_by (operation op.now) }
 {
     if op.is_asked(Kind::Ok, "dequeue") {

@@ -4,9 +4,8 @@
 mod dequeued;
 mod lines;
 mod lists;
-mod tally;
 mod total_queue;
 
+pub use dequeued::taken_by;
 pub use lines::write_total_queue;
-pub use tally::{Counted, Tally};
 pub use total_queue::{TotalQueueResult, check_total_queue};

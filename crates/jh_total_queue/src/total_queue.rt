@@ -3,20 +3,19 @@
 ghost use Rattle.std.specs.Prelude.{◌≡◌, ◌∷◌, [], ◌++◌, ◌≤◌, IfOk, MatchResult, OnOk, filter};
 ghost use Rattle.std.specs.Prelude.{length, sum_by};
 ghost use Rattle.jh_check.specs.Distinct.{Ascends, count_of, distinct_values};
+ghost use Rattle.jh_check.specs.Tallies.{view_tally};
 ghost use Rattle.jh_check.specs.Verdicts as verdicts;
 ghost use Rattle.jh_edn.specs.Order.{in_order, is_below};
 ghost use Rattle.jh_edn.specs.View.{view, views};
 ghost use Rattle.jh_ops.specs.Operation.{operations};
 ghost use Rattle.jh_total_queue.specs.CountsInside.{AreOrdered, ok_times, part_times, times_of};
-ghost use Rattle.jh_total_queue.specs.TallyView.{view_tally};
 ghost use Rattle.jh_total_queue.specs.TotalQueue as rule;
 ghost use Rattle.jh_total_queue.specs.TotalQueue.{AreDrainsKnown, RefusesTotalQueue, above_zero};
 ghost use Rattle.jh_total_queue.specs.TotalQueue.{is_counted, total_queue_result};
 
 use crate::dequeued::{first_bad_drain, sorted_dequeues};
 use crate::lists::{Lists, Part};
-use crate::tally::{Counted, Tally};
-use jh_check::{CheckError, Verdict, is_same, sorted_values};
+use jh_check::{CheckError, Counted, Tally, Verdict, is_same, sorted_values};
 use jh_edn::Value;
 use jh_ops::{Kind, Op};
 use std::alloc::{AllocError, Global};

@@ -1,13 +1,14 @@
-use Rattle.std.proofs.Common.{◌≡◌, ◌∙◌, sym, ap, subst, length}
+use Rattle.std.proofs.Common.{◌≡◌, ◌∙◌, sym, ap, subst, length, map}
 use Rattle.std.specs.Prelude.{◌==◌, slice_get, option_and_then}
 use Rattle.std.specs.List.{filter}
 use Rattle.jh_ops.specs.Operation.{operations}
 use Rattle.jh_check.specs.Verdicts.{verdict_of}
 use Rattle.jh_bank.specs.BankInside.{IsWorstOf, errs_by, errors_from}
 use Rattle.jh_bank.specs.Banks.{count_and_first, reads_with}
+use Rattle.jh_bank.specs.declared.erring.ErringRead.{ErringRead}
 use Rattle.jh_bank.specs.declared.errors.BankError.{BankError}
 use Rattle.jh_bank.specs.declared.errors.BankError.TheVariants.{UnexpectedKey, NilBalance, WrongTotal, NegativeValue}
-use Rattle.jh_bank.proofs.ErringLemmas.{errors_found, worst_found, wrong_counted}
+use Rattle.jh_bank.proofs.ErringLemmas.{errors_found, worst_found, wrong_counted, wrong_placed}
 use Rattle.jh_bank.proofs.ReadLemmas.{reads_counted}
 use Rattle.jh_bank.proofs.judge.result_of.Goals as goal
 
@@ -30,4 +31,5 @@ returns c =
       worst = worst_found bank history c.worst_of.result c.in_ok-worst.worst
           (subst (λ w. IsWorstOf (filter (errs_by WrongTotal) w) c.worst_of.result) c.requires c.worst_of.ensures)
           (c.in_ok-worst.ensures ∙ ap (option_and_then (slice_get history)) c.place_of.ensures);
+      wrong = c.in_ok-wrong.ensures ∙ ap (map (λ (read : ErringRead). read.place)) c.requires ∙ wrong_placed bank history;
     }

@@ -1,5 +1,5 @@
-use Rattle.std.proofs.Common.{◌≡◌, ℕ, ◌<◌, ◌∙◌, List, ap, subst, length, rules}
-use Rattle.std.specs.Prelude.{Option, Some, None, slice_get}
+use Rattle.std.proofs.Common.{◌≡◌, ℕ, ◌<◌, ◌∙◌, List, sym, subst, length, rules}
+use Rattle.std.specs.Prelude.{Option, Some, None}
 use Rattle.std.proofs.lemmas.List.{length-map}
 use Rattle.jh_ops.specs.Operation.{operation, operations}
 use Rattle.jh_queue.specs.Queue.{finds_none}
@@ -25,7 +25,7 @@ returns-in-Some c =
     let history = operations c.args.history.now in
     let first = found c.deref.result.now c.deref-2.result.now c.in_ok-ins.ins.items c.in_ok-outs.outs.items c.first_without.result (Some c.in-Some.place) c.deref.ensures.value c.deref-2.ensures.value c.in-Some.is c.first_without.ensures in
     let at = found_first history c.args.pairs.now c.in_ok-enqueues.field-0.items c.in_ok-ins.ins.items c.in_ok-dequeues.field-0.items c.in_ok-outs.outs.items c.in_ok-enqueues.ensures c.in_ok-dequeues.ensures c.in_ok-ins.ensures.permutation c.in_ok-outs.ensures.permutation c.in-Some.place first in
-    (at.0, at.1, ap (slice_get history) at.2 ∙ c.in_ok-copy_at-in-Some.ensures)
+    (at.0, at.1, sym at.2, c.in_ok-copy_at-in-Some.ensures)
 
 pub returns : goal.returns
 returns c =

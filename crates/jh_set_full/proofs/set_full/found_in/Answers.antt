@@ -6,7 +6,7 @@ use Rattle.jh_edn.specs.View.{view, views}
 use Rattle.jh_ops.specs.Operation.{operations}
 use Rattle.jh_ops.specs.Pairing.{IsPairWithin}
 use Rattle.jh_check.specs.Distinct.{set_of}
-use Rattle.jh_check.specs.IdsView.{view_duplicate, view_duplicates}
+use Rattle.jh_check.specs.Tallies.{view_counted, view_tally}
 use Rattle.jh_check.specs.SetResults.{attempts}
 use Rattle.jh_set_full.specs.SetFull.{all_shown, duplicates, is_lost, is_never_read, is_stable, is_stale, from_latest, most_shown, set_full_verdict, staleness, those_that}
 use Rattle.jh_set_full.specs.Inside.{is_spot_in, repeated_by, spot_of, stale_by}
@@ -46,7 +46,7 @@ returns c =
     c.in_ok-stale.ensures
     ∙ (λ i. map (stale_by history (pairs i)) ((ap views c.deref-6.ensures.value ∙ outdated) i))
     ∙ stales_are history n ps down within xs in
-    let duplicated : view_duplicates c.in_ok-duplicated.duplicated.items ≡ duplicates history ps =
+    let duplicated : view_tally c.in_ok-duplicated.duplicated.items ≡ duplicates history ps =
     c.in_ok-duplicated.ensures
     ∙ repeated_are history tables c.in_ok-tables.ensures.tables (views c.deref-7.result.now)
     ∙ (λ i. repeated_by (most_shown history (pairs i)) ((ap views c.deref-7.ensures.value ∙ c.in_ok-read.ensures ∙ ap (λ qs. set_of (all_shown history qs)) (c.deref.ensures.value ∙ c.requires.from_latest)) i)) in
@@ -57,7 +57,7 @@ returns c =
     let len_all : c.len-5.result ≡ length c.in_ok-elements.elements.items = search rules in
     let len_stable_again : c.len-6.result ≡ length c.in_ok-stable.stable.items = search rules in
     let many_lost = len_lost ∙ sym (length-map c.in_ok-lost.lost.items view) ∙ ap length lost in
-    let many_duplicated = len_duplicated ∙ sym (length-map c.in_ok-duplicated.duplicated.items view_duplicate) ∙ ap length duplicated in
+    let many_duplicated = len_duplicated ∙ sym (length-map c.in_ok-duplicated.duplicated.items view_counted) ∙ ap length duplicated in
     let many_stale = len_stale ∙ sym (length-map c.in_ok-stale.stale.items view_stale) ∙ ap length stale ∙ length-map (those_that is_stale history ps xs) (staleness history ps) in
     let many_stable = len_stable ∙ sym (length-map c.in_ok-stable.stable.items view) ∙ ap length stable in
     let attempted = len_all ∙ sym (length-map c.in_ok-elements.elements.items view) ∙ ap length elements in

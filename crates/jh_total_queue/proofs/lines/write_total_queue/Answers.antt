@@ -4,8 +4,8 @@ use Rattle.std.specs.Io.KnownBytes.{Appends}
 use Rattle.std.proofs.lemmas.Result.{on_ok_weaker}
 use Rattle.jh_edn.proofs.CitedLemmas.{appends_then}
 use Rattle.jh_edn.specs.Edn.{int}
-use Rattle.jh_total_queue.specs.Lines.{tally_value}
-use Rattle.jh_total_queue.proofs.LineLemmas.{eight_parts}
+use Rattle.jh_check.specs.Lines.{tally_value}
+use Rattle.jh_check.proofs.LineLemmas.{eight_parts}
 use Rattle.jh_total_queue.proofs.lines.write_total_queue.Goals as goal
 
 pub returns-clause-bytes : goal.returns-clause-bytes

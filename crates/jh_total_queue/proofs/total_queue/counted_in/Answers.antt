@@ -1,6 +1,6 @@
 use Rattle.std.proofs.Common.{◌∙◌, ap}
 use Rattle.jh_total_queue.specs.CountsInside.{part_times, times_of}
-use Rattle.jh_total_queue.specs.TallyView.{view_tally}
+use Rattle.jh_check.specs.Tallies.{view_tally}
 use Rattle.jh_total_queue.proofs.TallyLemmas.{above_zero_more}
 use Rattle.jh_total_queue.proofs.total_queue.counted_in.Goals as goal
 

@@ -1,7 +1,7 @@
 use Rattle.std.proofs.Common.{arith}
 use Rattle.jh_edn.proofs.CitedLemmas.{appends_then}
-use Rattle.jh_set_full.proofs.LineLemmas.{entries_push}
-use Rattle.jh_set_full.proofs.lines.write_entries.Goals as goal
+use Rattle.jh_check.proofs.LineLemmas.{entries_push}
+use Rattle.jh_check.proofs.tally_lines.write_entries.Goals as goal
 
 pub loop-place-preserved : goal.loop-place-preserved
 loop-place-preserved g c =

@@ -1,9 +1,11 @@
-//! Values with how often each is there.
+//! Values with how often each is there. `specs/Tallies.antt` says what a contract sees of them.
 
-ghost use Rattle.std.specs.Prelude.{◌≡◌, ◌↔◌, [], IsTrue};
-ghost use Rattle.jh_total_queue.specs.TallyView.{view_tally};
+ghost use Rattle.std.specs.Prelude.{◌≡◌, ◌∷◌, [], ◌++◌, ◌↔◌, IsTrue, OnOk, filter};
+ghost use Rattle.jh_edn.specs.View.{view};
+ghost use Rattle.jh_check.specs.Tallies.{is_repeated, view_tally};
 
 use jh_edn::Value;
+use std::alloc::{AllocError, Global};
 use std::marker::Model;
 
 /// A value with how often it is there.
@@ -26,7 +28,7 @@ impl Model for Tally {
     ghost use Rattle.std.specs.Coded.{coded_list, coded_ℕ, coded×};
     ghost use Rattle.jh_edn.specs.Edn.{Edn};
     ghost use Rattle.jh_edn.specs.Code.{edn_coded};
-    ghost use Rattle.jh_total_queue.specs.TallyView.{view_tally};
+    ghost use Rattle.jh_check.specs.Tallies.{view_tally};
 
     ghost Value = { List (Edn × ℕ) };
 
@@ -56,4 +58,31 @@ impl Tally {
     {
         &self.items
     }
+
+    /// The vector, given back without memory.
+    pub fn into_vec(self) -> Vec<Counted>
+        ensures { view_tally result.items ≡ self }
+    {
+        let Tally { items } = self;
+        items
+    }
+}
+
+/// Puts a copy of the value last, where it is there more than once.
+///
+/// Errors: where memory runs out.
+pub fn push_repeated(
+    alloc: Global,
+    value: &Value,
+    times: usize,
+    found: &mut Vec<Counted>,
+) -> Result<(), AllocError>
+    ensures { OnOk result (view_tally found.new.items
+        ≡ view_tally found.old.items ++ filter is_repeated ((view value.now, times) ∷ [])) }
+{
+    if times > 1 {
+        let value = value.copy(alloc)?;
+        found.push(Counted { value, times })?;
+    }
+    Ok(())
 }

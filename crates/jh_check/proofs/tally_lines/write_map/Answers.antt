@@ -2,8 +2,8 @@ use Rattle.std.proofs.Common.{subst}
 use Rattle.std.specs.Io.KnownBytes.{Appends}
 use Rattle.std.proofs.lemmas.Result.{on_ok_weaker}
 use Rattle.jh_edn.proofs.CitedLemmas.{appends_then}
-use Rattle.jh_total_queue.proofs.LineLemmas.{tally_text}
-use Rattle.jh_total_queue.proofs.lines.write_map.Goals as goal
+use Rattle.jh_check.proofs.LineLemmas.{tally_text}
+use Rattle.jh_check.proofs.tally_lines.write_map.Goals as goal
 
 pub returns-clause-bytes : goal.returns-clause-bytes
 returns-clause-bytes g c =
