@@ -1,3 +1,4 @@
+pub mod LineLawLemmas
 pub mod LawLemmas
 pub mod StuckLemmas
 pub mod RefusalLemmas

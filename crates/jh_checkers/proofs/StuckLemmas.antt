@@ -9,9 +9,10 @@ use Rattle.jh_linear.specs.Operations.{AreRegOps, outcome_of, reg_op_of, op_with
 use Rattle.jh_linear.specs.Order.{IsDone, op_at}
 use Rattle.jh_linear.specs.Stuck.{IsStuck, op_end}
 use Rattle.jh_linear.specs.declared.register.Outcome.TheVariants.{Done}
+use Rattle.jh_linear.specs.declared.operations.Object.{Object}
 use Rattle.jh_linear.specs.declared.register.RegOp.{RegOp}
 use Rattle.jh_linear.specs.declared.verdict.Stuck.{Stuck}
-use Rattle.jh_checkers.specs.Findings.{AreRegisterOps}
+use Rattle.jh_checkers.specs.Findings.{AreObjectOps}
 
 -- what happened was completed in the history
 ends_within : (history : List Operation) (ended : Option ℕ)
@@ -28,26 +29,26 @@ mapped_from : {A B : Type 0} (f : A → B) (found : Option A) (y : B) → option
 mapped_from f None y e = absurd cc
 mapped_from f (Some x) y e = (x, cc)
 
-done_within : (history : List Operation) (pair : Pair) (op : RegOp) → reg_op_of history pair ≡ Some op → op.outcome ≡ Done → op_end op < length history
-done_within history pair op given done =
+done_within : (object : Object) (history : List Operation) (pair : Pair) (op : RegOp) → reg_op_of object history pair ≡ Some op → op.outcome ≡ Done → op_end op < length history
+done_within object history pair op given done =
     let from = mapped_from (op_with_call history pair) _ op given in
     subst (λ (c : RegOp). op_end c < length history) from.1
     (ends_within history pair.outcome (ap (λ (c : RegOp). c.outcome) from.1 ∙ done))
 
-one_within : (history : List Operation) (pairs : List Pair) (ops : List RegOp) (place : ℕ) → AreRegOps history pairs ops
+one_within : (object : Object) (history : List Operation) (pairs : List Pair) (ops : List RegOp) (place : ℕ) → AreRegOps object history pairs ops
     → IsDone ops place → op_end (op_at ops place) < length history
-one_within history [] [] place are done = absurd cc
-one_within history [] (op ∷ ops) place are done = absurd cc
-one_within history (pair ∷ pairs) [] place are done = absurd cc
-one_within history (pair ∷ pairs) (op ∷ ops) zero are done =
-    let given : reg_op_of history pair ≡ Some op = cc in
-    done_within history pair op given done
-one_within history (pair ∷ pairs) (op ∷ ops) (suc place) are done =
-    let others : AreRegOps history pairs ops = cc in
-    one_within history pairs ops place others done
+one_within object history [] [] place are done = absurd cc
+one_within object history [] (op ∷ ops) place are done = absurd cc
+one_within object history (pair ∷ pairs) [] place are done = absurd cc
+one_within object history (pair ∷ pairs) (op ∷ ops) zero are done =
+    let given : reg_op_of object history pair ≡ Some op = cc in
+    done_within object history pair op given done
+one_within object history (pair ∷ pairs) (op ∷ ops) (suc place) are done =
+    let others : AreRegOps object history pairs ops = cc in
+    one_within object history pairs ops place others done
 
-pub stuck_within : (history : List Operation) (ops : List RegOp) (initial : Option ℤ) (stuck : Stuck) → AreRegisterOps history ops
+pub stuck_within : (object : Object) (history : List Operation) (ops : List RegOp) (initial : Option ℤ) (stuck : Stuck) → AreObjectOps object history ops
     → IsStuck ops initial stuck → stuck.end < length history
-stuck_within history ops initial stuck are is =
+stuck_within object history ops initial stuck are is =
     let completion = is.completion in
-    subst (λ (end : ℕ). end < length history) completion.2 (one_within history (history_pairs history) ops completion.0 are.1 completion.1)
+    subst (λ (end : ℕ). end < length history) completion.2 (one_within object history (history_pairs history) ops completion.0 are.1 completion.1)

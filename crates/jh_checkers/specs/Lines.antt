@@ -11,10 +11,16 @@ use Rattle.jh_checkers.specs.Findings.{verdict_of_register}
 use Rattle.jh_checkers.specs.declared.explanation.Explanation.{Explanation}
 use Rattle.jh_checkers.specs.declared.finding.Finding.{Finding}
 use Rattle.jh_checkers.specs.declared.finding.Finding.TheVariants.{Set, Counter, Ids, Register}
-use Rattle.jh_checkers.specs.declared.finding.Finding.TheVariants.{ListAppend}
+use Rattle.jh_checkers.specs.declared.finding.Finding.TheVariants.{ListAppend, TotalQueue, Queue}
+use Rattle.jh_checkers.specs.declared.finding.Finding.TheVariants.{Bank, SetFull, Mutex}
+use Rattle.jh_bank.specs.BankLines.{bank_value}
+use Rattle.jh_linear.specs.declared.operations.Object.{Object}
 use Rattle.jh_linear.specs.declared.verdict.LinVerdict.{LinVerdict}
 use Rattle.jh_linear.specs.declared.verdict.LinVerdict.TheVariants.{Valid, Invalid}
 use Rattle.jh_linear.specs.declared.verdict.Stuck.{Stuck}
+use Rattle.jh_queue.specs.Lines.{queue_value}
+use Rattle.jh_set_full.specs.Lines.{set_full_value}
+use Rattle.jh_total_queue.specs.Lines.{total_queue_value}
 use Rattle.jh_txn_findings.specs.Lines.{txn_finding_value}
 
 -- the numbers of operations, which are places among the pairs, as a vector
@@ -26,24 +32,29 @@ abbrev pub held_value : Option ℤ → Edn
 held_value None = nil
 held_value (Some number) = int number
 
--- where a history is stuck: at a completion, written as operations are; behind an order, which
--- leads to a value; and what is pending there
-abbrev pub stuck_pairs : Stuck → Explanation → List (Edn × Edn)
-stuck_pairs stuck explanation =
+-- Where a history is stuck: at a completion, written as operations are; behind an order, which of a
+-- register leads to a value; and what is pending there.
+abbrev pub stuck_pairs : Object → Stuck → Explanation → List (Edn × Edn)
+stuck_pairs Object.Register stuck explanation =
     (keyword (codes "stuck"), value_written (operation explanation.completion))
     ∷ (keyword (codes "order"), order_value stuck.order)
     ∷ (keyword (codes "value"), held_value stuck.value)
     ∷ (keyword (codes "pending"), order_value explanation.pending.items) ∷ []
+stuck_pairs Object.Mutex stuck explanation =
+    (keyword (codes "stuck"), value_written (operation explanation.completion))
+    ∷ (keyword (codes "order"), order_value stuck.order)
+    ∷ (keyword (codes "pending"), order_value explanation.pending.items) ∷ []
 
 -- A yes has its order behind the verdict. A no has its explanation there, if it has one.
-abbrev pub others_of : LinVerdict → Option Explanation → List (Edn × Edn)
-others_of (Valid order) explanation = (keyword (codes "order"), order_value order) ∷ []
-others_of (Invalid stuck) (Some explanation) = stuck_pairs stuck explanation
-others_of _ _ = []
+abbrev pub others_of : Object → LinVerdict → Option Explanation → List (Edn × Edn)
+others_of object (Valid order) explanation = (keyword (codes "order"), order_value order) ∷ []
+others_of object (Invalid stuck) (Some explanation) = stuck_pairs object stuck explanation
+others_of _ _ _ = []
 
-abbrev pub register_value : LinVerdict → Option Explanation → Edn
-register_value judged explanation =
-    map_with_verdict (verdict_of_register judged) (others_of judged explanation)
+-- of a register or a mutex
+abbrev pub object_value : Object → LinVerdict → Option Explanation → Edn
+object_value object judged explanation =
+    map_with_verdict (verdict_of_register judged) (others_of object judged explanation)
 
 -- ---- all
 
@@ -52,8 +63,13 @@ abbrev pub finding_value : Finding → Edn
 finding_value (Set found) = set_value found
 finding_value (Counter found) = counter_value found
 finding_value (Ids found) = ids_value found
-finding_value (Register judged explanation) = register_value judged explanation
+finding_value (Register judged explanation) = object_value Object.Register judged explanation
 finding_value (ListAppend found) = txn_finding_value found
+finding_value (TotalQueue found) = total_queue_value found
+finding_value (Queue found) = queue_value found
+finding_value (Bank found) = bank_value found
+finding_value (SetFull found) = set_full_value found
+finding_value (Mutex judged explanation) = object_value Object.Mutex judged explanation
 
 abbrev pub finding_line : Finding → List ℕ
 finding_line finding = print (finding_value finding)

@@ -14,6 +14,11 @@ pub enum Checker {
     Counter,
     Ids,
     ListAppend,
+    TotalQueue,
+    Queue,
+    Bank,
+    SetFull,
+    Mutex,
 }
 
 impl Checker {
@@ -30,11 +35,16 @@ impl Checker {
             "counter" => Some(Checker::Counter),
             "unique-ids" => Some(Checker::Ids),
             "list-append" => Some(Checker::ListAppend),
+            "total-queue" => Some(Checker::TotalQueue),
+            "queue" => Some(Checker::Queue),
+            "bank" => Some(Checker::Bank),
+            "set-full" => Some(Checker::SetFull),
+            "mutex" => Some(Checker::Mutex),
             _ => None,
         }
     }
 
-    /// The checker of a workload that simulated clusters run. None of them runs list-append.
+    /// The checker of a workload that simulated clusters run. They run these four alone.
     pub fn of(workload: Workload) -> Checker
         ensures { result ≡ checker_of workload }
     {

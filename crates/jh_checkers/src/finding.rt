@@ -5,32 +5,68 @@ ghost use Rattle.jh_ops.specs.Operation.{operations};
 ghost use Rattle.jh_checkers.specs.Findings as rule;
 ghost use Rattle.jh_checkers.specs.Findings.{IsFinding, RefusesChecking};
 
+use crate::bank::check_accounts;
 use crate::checker::Checker;
 use crate::explanation::Explanation;
-use crate::register::{check_register, verdict_of_register};
+use crate::register::{check_mutex, check_register, verdict_of_register};
 use crate::transactions::check_transactions;
+use jh_bank::BankResult;
 use jh_check::{
     CheckError, CounterResult, IdsResult, SetResult, Verdict, check_counter, check_set,
     check_unique,
 };
+use jh_edn::Value;
 use jh_linear::LinVerdict;
 use jh_ops::Op;
+use jh_queue::{QueueResult, check_queue};
+use jh_set_full::{SetFullResult, check_set_full};
+use jh_total_queue::{TotalQueueResult, check_total_queue};
 use jh_txn::ConsistencyModel;
 use jh_txn_findings::TxnFinding;
 use std::alloc::Global;
 
-/// What a history is judged by.
-#[derive(Clone, Copy, Debug, PartialEq, Eq)]
-pub struct Judging {
+/// What a history is judged by: the checker, and what is said to some of them.
+#[derive(Clone, Copy, Debug)]
+pub struct Judging<'a> {
     pub checker: Checker,
     /// The value that a register has at first, and nil where it is missing.
     pub initial: Option<i64>,
-    /// How many configurations the judge of a register may reach.
+    /// How many configurations the judge of a register or a mutex may reach.
     pub budget: u64,
-    /// Whether the no of a register, or that of transactions, is explained.
+    /// Whether the no of a register, of a mutex or of transactions is explained.
     pub explain: bool,
     /// The consistency model that transactions are judged by, and strict serializability where it is missing.
     pub model: Option<ConsistencyModel>,
+    /// The accounts of a bank, and none where they are missing.
+    pub accounts: Option<&'a [Value]>,
+    /// The sum of the balances of all accounts of a bank, and 0 where it is missing.
+    pub total: Option<i64>,
+    /// Whether balances of a bank may be below 0.
+    pub negative_balances: bool,
+    /// Whether a set over time has to be linearizable: then stale reads make it not valid.
+    pub linearizable: bool,
+    /// Whether a mutex is held at first.
+    pub locked: bool,
+}
+
+impl<'a> Judging<'a> {
+    /// The judgement by this checker, within this budget, where nothing else is said to it.
+    pub fn by(checker: Checker, budget: u64) -> Judging<'a>
+        ensures { result ≡ rule.judging_by checker budget }
+    {
+        Judging {
+            checker,
+            initial: None,
+            budget,
+            explain: false,
+            model: None,
+            accounts: None,
+            total: None,
+            negative_balances: false,
+            linearizable: false,
+            locked: false,
+        }
+    }
 }
 
 /// What a checker finds in a history.
@@ -45,6 +81,25 @@ pub enum Finding {
         explanation: Option<Explanation>,
     },
     ListAppend(TxnFinding),
+    TotalQueue(TotalQueueResult),
+    Queue(QueueResult),
+    Bank(BankResult),
+    SetFull(SetFullResult),
+    Mutex {
+        judged: LinVerdict,
+        /// Of a mutex that is not valid, where it is asked for.
+        explanation: Option<Explanation>,
+    },
+}
+
+/// What the finding of a queue says of its history.
+fn verdict_of_queue(found: &QueueResult) -> Verdict
+    ensures { result ≡ rule.verdict_of_queue found.now }
+{
+    match found {
+        QueueResult::Dequeued(_) => Verdict::True,
+        QueueResult::First { .. } => Verdict::False,
+    }
 }
 
 impl Finding {
@@ -58,30 +113,41 @@ impl Finding {
             Finding::Ids(found) => found.verdict,
             Finding::Register { judged, .. } => verdict_of_register(judged),
             Finding::ListAppend(found) => found.verdict(),
+            Finding::TotalQueue(found) => found.verdict,
+            Finding::Queue(found) => verdict_of_queue(found),
+            Finding::Bank(found) => found.verdict,
+            Finding::SetFull(found) => found.verdict,
+            Finding::Mutex { judged, .. } => verdict_of_register(judged),
         }
     }
 }
 
 /// Judges a history by a checker: `check_set`, `check_counter` and `check_unique` of `jh_check`,
-/// for a register the judge of `jh_linear` over its operations, or for transactions
+/// `check_total_queue`, `check_queue`, `check_bank` and `check_set_full` of the crates of their names,
+/// for a register or a mutex the judge of `jh_linear` over its operations, or for transactions
 /// `find_transactions` of `jh_txn_check`.
 ///
-/// The initial value and the budget mean nothing to other checkers than the register's, the model
-/// nothing to other checkers than that of transactions, and whether a no is explained nothing to
-/// other checkers than these two. A no of a register that is explained has the completion with which
-/// no order is left, and what is pending there; one of transactions has the operations that it
-/// names.
+/// What is said to one checker means nothing to the others: the initial value to the register's alone,
+/// whether it is held at first to that of a mutex, the budget to these two, the model to that of
+/// transactions, whether a no is explained to these three, accounts, total and whether balances may be
+/// negative to a bank's, and whether it has to be linearizable to that of a set over time. A no of a register or a mutex that is explained has the
+/// completion with which no order is left, and what is pending there; one of transactions has the
+/// operations that it names.
 ///
-/// Errors: those of the checker. For a register `Pair`, then `BadValue` at the least place of one;
-/// for transactions `Pair`, then `BadValue` or `RepeatedAppend` at the least place of all, and of
-/// one place `BadValue` first; `OutOfMemory` may come before any of them.
+/// Errors: those of the checker. For a register and a mutex `Pair`, then `BadValue` at the least place
+/// of one; for transactions `Pair`, then `BadValue` or `RepeatedAppend` at the least place of all, and
+/// of one place `BadValue` first; `OutOfMemory` may come before any of them.
 ///
-/// Costs what the checker costs; the explanation of a register takes time linear in the operations
-/// beside it, and copies one of them, and that of transactions copies those that it shows.
-pub fn check_history(alloc: Global, history: &[Op], judging: Judging) -> Result<Finding, CheckError>
+/// Costs what the checker costs; the explanation of a register or a mutex takes time linear in the
+/// operations beside it, and copies one of them, and that of transactions copies those that it shows.
+pub fn check_history(
+    alloc: Global,
+    history: &[Op],
+    judging: Judging<'_>,
+) -> Result<Finding, CheckError>
     ensures { MatchResult result
-        (IsFinding judging (operations history.now))
-        (RefusesChecking judging.checker (operations history.now)) }
+        (IsFinding judging.entry (operations history.now))
+        (RefusesChecking judging.entry.checker (operations history.now)) }
 {
     match judging.checker {
         Checker::Set => Ok(Finding::Set(check_set(alloc, history)?)),
@@ -89,5 +155,13 @@ pub fn check_history(alloc: Global, history: &[Op], judging: Judging) -> Result<
         Checker::Ids => Ok(Finding::Ids(check_unique(alloc, history)?)),
         Checker::Register => check_register(alloc, history, judging),
         Checker::ListAppend => check_transactions(alloc, history, judging),
+        Checker::TotalQueue => Ok(Finding::TotalQueue(check_total_queue(alloc, history)?)),
+        Checker::Queue => Ok(Finding::Queue(check_queue(alloc, history)?)),
+        Checker::Bank => Ok(Finding::Bank(check_accounts(alloc, history, judging)?)),
+        Checker::SetFull => {
+            let found = check_set_full(alloc, history, judging.linearizable)?;
+            Ok(Finding::SetFull(found))
+        }
+        Checker::Mutex => check_mutex(alloc, history, judging),
     }
 }

@@ -5,6 +5,7 @@
 //! `Checker` and of `Finding`, and a line in each definition and each `match` over them.
 #![tactic(auto)]
 
+mod bank;
 mod checker;
 mod explanation;
 mod finding;

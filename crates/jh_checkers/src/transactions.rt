@@ -27,8 +27,8 @@ fn error_of(error: TxnError) -> CheckError
 }
 
 /// The model that transactions are judged by.
-fn model_of(judging: Judging) -> ConsistencyModel
-    ensures { result ≡ judged_model judging.model }
+fn model_of(judging: Judging<'_>) -> ConsistencyModel
+    ensures { result ≡ judged_model judging.entry.model }
 {
     match judging.model {
         Some(model) => model,
@@ -43,10 +43,10 @@ fn model_of(judging: Judging) -> ConsistencyModel
 pub(crate) fn check_transactions(
     alloc: Global,
     history: &[Op],
-    judging: Judging,
+    judging: Judging<'_>,
 ) -> Result<Finding, CheckError>
     ensures { MatchResult result
-        (IsFindingBy Checker.ListAppend judging (operations history.now))
+        (IsFindingBy Checker.ListAppend judging.entry (operations history.now))
         (RefusesListAppend (operations history.now)) }
 {
     let pairs = pair(alloc, history)?;
