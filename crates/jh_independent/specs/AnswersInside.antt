@@ -12,23 +12,13 @@ use Rattle.jh_independent.specs.Refusals.{KeysQuestion, IsFindingOf, RefusesKey,
 use Rattle.jh_independent.specs.declared.error.KeysError.{KeysError}
 use Rattle.jh_independent.specs.declared.error.KeysError.TheVariants.{Thread}
 use Rattle.jh_checkers.specs.declared.checker.Checker.{Checker}
+use Rattle.jh_checkers.specs.Findings.{judging_by}
 use Rattle.jh_checkers.specs.declared.finding.Judging.{Judging}
 use Rattle.jh_checkers.specs.declared.finding.Finding.{Finding}
 
 -- what no call asks
 abbrev pub no_question : KeysQuestion
-no_question =
-    record {
-      history = [];
-      judging =
-          record {
-            checker = Checker.Set;
-            initial = None;
-            budget = 0;
-            explain = false;
-            model = None;
-          };
-    }
+no_question = record { history = []; judging = judging_by Checker.Set 0 }
 
 -- how many keys are to be judged
 abbrev pub keys_count : KeysQuestion → ℕ

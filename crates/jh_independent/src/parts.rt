@@ -106,13 +106,13 @@ fn error_in(places: &[usize], error: CheckError) -> KeysError
 pub(crate) fn check_key(
     alloc: Global,
     history: &[Op],
-    judging: Judging,
+    judging: Judging<'_>,
     group: &KeyPlaces,
 ) -> Result<Finding, KeysError>
     requires { group.now.places.items ≡ places_of (view group.now.key) (operations history.now) }
     ensures judged { MatchResult result
-        (IsFindingOf (keys_question judging (operations history.now)) (view group.now.key))
-        (RefusesKey (keys_question judging (operations history.now)) (view group.now.key)) }
+        (IsFindingOf (keys_question judging.entry (operations history.now)) (view group.now.key))
+        (RefusesKey (keys_question judging.entry (operations history.now)) (view group.now.key)) }
     ensures alone { IsErrOf result KeysError.Thread → ⊥ }
 {
     let part = history_of(alloc, history, group)?;

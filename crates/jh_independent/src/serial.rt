@@ -41,11 +41,11 @@ pub struct KeyFinding {
 pub fn check_keys_serial(
     alloc: Global,
     history: &[Op],
-    judging: Judging,
+    judging: Judging<'_>,
 ) -> Result<Vec<KeyFinding>, KeysError>
     ensures found { MatchResult result
-        (λ found. AreFindings (keys_question judging (operations history.now)) found.items)
-        (RefusesKeys (keys_question judging (operations history.now))) }
+        (λ found. AreFindings (keys_question judging.entry (operations history.now)) found.items)
+        (RefusesKeys (keys_question judging.entry (operations history.now))) }
     ensures alone { IsErrOf result KeysError.Thread → ⊥ }
 {
     let groups = split(alloc, history)?;

@@ -5,11 +5,12 @@
 //! must.
 
 ghost use Rattle.std.specs.Thread.{IsSend, IsSync};
+ghost use Rattle.jh_bank.specs.contracts.judge.BankResult as bank_result;
 ghost use Rattle.jh_check.specs.contracts.counter.CounterResult as counter;
-ghost use Rattle.jh_check.specs.contracts.ids.Duplicates as duplicates;
 ghost use Rattle.jh_check.specs.contracts.ids.IdsResult as ids;
 ghost use Rattle.jh_check.specs.contracts.set.SetFound as found;
 ghost use Rattle.jh_check.specs.contracts.set.SetResult as set;
+ghost use Rattle.jh_check.specs.contracts.tally.Tally as tally;
 ghost use Rattle.jh_edn.specs.contracts.text.Text as text;
 ghost use Rattle.jh_edn.specs.contracts.value.Pairs as pairs;
 ghost use Rattle.jh_edn.specs.contracts.value.Value as value;
@@ -22,13 +23,19 @@ ghost use Rattle.jh_txn_findings.specs.contracts.finding.FoundStep as step;
 ghost use Rattle.jh_txn_findings.specs.contracts.finding.FoundWhy as why;
 ghost use Rattle.jh_txn_findings.specs.contracts.finding.TxnFinding as transactions;
 ghost use Rattle.jh_ops.specs.contracts.operation.Op as op;
+ghost use Rattle.jh_queue.specs.contracts.queue.QueueResult as queue;
+ghost use Rattle.jh_set_full.specs.contracts.set_full.SetFullResult as set_full;
+ghost use Rattle.jh_set_full.specs.contracts.stale.Stales as stales;
+ghost use Rattle.jh_total_queue.specs.contracts.total_queue.TotalQueueResult as total_queue;
 
 use crate::split::KeyPlaces;
-use jh_check::{CounterResult, Duplicates, IdsResult, SetFound, SetResult};
+use jh_check::{CounterResult, IdsResult, SetFound, SetResult, Tally};
 use jh_checkers::Explanation;
 use jh_edn::{Pairs, Text, Value, Values};
 use jh_linear::LinVerdict;
 use jh_ops::Op;
+use jh_set_full::{SetFullResult, Stales};
+use jh_total_queue::TotalQueueResult;
 use jh_txn_findings::TxnFinding;
 
 /// Tells the prover that values of a type can be sent to threads.
@@ -93,13 +100,19 @@ fn sets_can_be_sent()
     can_be_sent::<SetResult>()
 }
 
-/// What is found of unique ids.
-fn ids_can_be_sent()
-    ensures duplicates { IsSend duplicates.the_row }
-    ensures result { IsSend ids.the_row }
+/// Values with how often each is there.
+fn tallies_can_be_sent()
+    ensures { IsSend tally.the_row }
 {
     values_can_be_sent();
-    can_be_sent::<Duplicates>();
+    can_be_sent::<Tally>()
+}
+
+/// What is found of unique ids.
+fn ids_can_be_sent()
+    ensures { IsSend ids.the_row }
+{
+    tallies_can_be_sent();
     can_be_sent::<IdsResult>()
 }
 
@@ -148,6 +161,33 @@ fn transactions_can_be_sent()
     can_be_sent::<TxnFinding>()
 }
 
+/// What is found of queues.
+fn queues_can_be_sent()
+    ensures total { IsSend total_queue.the_row }
+    ensures queue { IsSend queue.the_row }
+{
+    tallies_can_be_sent();
+    operations_can_be_sent();
+    can_be_sent::<TotalQueueResult>()
+}
+
+/// What is found of a bank.
+fn banks_can_be_sent()
+    ensures { IsSend bank_result.the_row }
+{
+    operations_can_be_sent();
+}
+
+/// What is found of a set over time.
+fn sets_over_time_can_be_sent()
+    ensures { IsSend set_full.the_row }
+{
+    tallies_can_be_sent();
+    lists_can_be_sent();
+    can_be_sent::<Stales>();
+    can_be_sent::<SetFullResult>()
+}
+
 /// Findings can be sent.
 pub(crate) fn findings_can_be_sent()
     ensures { IsSend finding.the_row }
@@ -158,6 +198,9 @@ pub(crate) fn findings_can_be_sent()
     verdicts_can_be_sent();
     explanations_can_be_sent();
     transactions_can_be_sent();
+    queues_can_be_sent();
+    banks_can_be_sent();
+    sets_over_time_can_be_sent();
 }
 
 /// Texts can be shared.
@@ -168,7 +211,7 @@ fn texts_can_be_shared()
 }
 
 /// Values can be shared.
-fn values_can_be_shared()
+pub(crate) fn values_can_be_shared()
     ensures { IsSync value.the_row }
 {
     texts_can_be_shared();

@@ -5,7 +5,6 @@ ghost use Rattle.std.specs.Prelude.{option_map, filter_map};
 ghost use Rattle.jh_edn.specs.Order.{edn_cmp, in_order};
 ghost use Rattle.jh_edn.specs.View.{view};
 ghost use Rattle.jh_ops.specs.Operation.{operation, operations};
-ghost use Rattle.jh_check.specs.Distinct as distinct;
 ghost use Rattle.jh_check.specs.Distinct.{Ascends};
 ghost use Rattle.jh_independent.specs.Histories.{RefusesKeySplit};
 ghost use Rattle.jh_independent.specs.Keys as rule;
@@ -15,6 +14,7 @@ ghost use Rattle.jh_independent.specs.SplitInside.{keys_of_keyed, view_group, vi
 ghost use Rattle.jh_independent.specs.SplitInside.{key_with_place};
 
 use crate::error::KeysError;
+use jh_check::is_same;
 use jh_edn::Value;
 use jh_ops::Op;
 use std::alloc::{AllocError, Global};
@@ -80,13 +80,6 @@ fn push_key(alloc: Global, place: usize, op: &Op, keyed: &mut Vec<Keyed>) -> Res
         keyed.push(Keyed { key, place })?;
     }
     Ok(())
-}
-
-/// Whether two keys in normal form are equal.
-fn is_same(a: &Value, b: &Value) -> bool
-    ensures { result ≡ distinct.is_same (view a.now) (view b.now) }
-{
-    matches!(a.compare(b), Ordering::Equal)
 }
 
 /// How two keys compare in normal order.

@@ -14,7 +14,9 @@ ghost use Rattle.jh_independent.specs.SplitInside.{groups_of, view_groups};
 use crate::error::KeysError;
 use crate::parts::check_key;
 use crate::serial::KeyFinding;
-use crate::sharing::{findings_can_be_sent, operations_can_be_shared, places_can_be_shared};
+use crate::sharing::{
+    findings_can_be_sent, operations_can_be_shared, places_can_be_shared, values_can_be_shared,
+};
 use crate::split::{KeyPlaces, split};
 use jh_checkers::{Finding, Judging};
 use jh_ops::Op;
@@ -68,7 +70,7 @@ struct Keys<'a, Q: Asking, G> {
     alloc: Global,
     history: &'a [Op],
     groups: &'a [KeyPlaces],
-    judging: Judging,
+    judging: Judging<'a>,
     gate: &'a G,
     of: PhantomData<Q>,
 }
@@ -117,6 +119,7 @@ fn answers_of<Q: Asking + Send + Sync, G: Gate + Sync, R: Threads + Wait + Sync>
     ensures alone { IfOk result (λ answers. threads ≡ 1 → answers.lost_thread ≡ false) }
 {
     findings_can_be_sent();
+    values_can_be_shared();
     operations_can_be_shared();
     places_can_be_shared();
     answer_tasks::<Answer, Keys<'_, Q, G>, R>(rt, keys.alloc, keys, keys.groups.len(), threads)
@@ -154,7 +157,7 @@ fn judged<Q: Asking + Send + Sync, G: Gate + Sync, R: Threads + Wait + Sync>(
     rt: &R,
     alloc: Global,
     history: &[Op],
-    judging: Judging,
+    judging: Judging<'_>,
     groups: Vec<KeyPlaces>,
     threads: u32,
     gate: &G,
@@ -164,8 +167,8 @@ fn judged<Q: Asking + Send + Sync, G: Gate + Sync, R: Threads + Wait + Sync>(
     requires groups { view_groups groups.items ≡ groups_of (operations history.now) }
     requires threads { IsThreadCount threads }
     ensures found { MatchResult result
-        (λ found. AreFindings (keys_question judging (operations history.now)) found.items)
-        (RefusesKeys (keys_question judging (operations history.now))) }
+        (λ found. AreFindings (keys_question judging.entry (operations history.now)) found.items)
+        (RefusesKeys (keys_question judging.entry (operations history.now))) }
     ensures alone { threads ≡ 1 → IsErrOf result KeysError.Thread → RefusesSome G.may_refuse }
 {
     let keys = Keys::<'_, Q, G> {
@@ -184,9 +187,9 @@ fn judged<Q: Asking + Send + Sync, G: Gate + Sync, R: Threads + Wait + Sync>(
 /// among them. Each next thread that is free takes the next key, and asks the gate before it judges
 /// it. All threads have ended when it returns.
 ///
-/// What is found is what `check_keys_serial` may find, whatever the number of threads: for a set, a
-/// counter and unique ids that is one list, for a register and for transactions each finding is what
-/// the judge promises.
+/// What is found is what `check_keys_serial` may find, whatever the number of threads: for a register, a
+/// mutex and transactions each finding is what the judge promises, and for all others there is one line
+/// (`key_findings_agree`).
 ///
 /// May wait, and promises only if it returns. Where there are fewer keys than threads, fewer
 /// threads are made.
@@ -198,14 +201,14 @@ pub fn check_keys_at<G: Gate + Sync, R: Threads + Wait + Sync>(
     rt: &R,
     alloc: Global,
     history: &[Op],
-    judging: Judging,
+    judging: Judging<'_>,
     threads: u32,
     gate: &G,
 ) -> Result<Vec<KeyFinding>, KeysError>
     requires { IsThreadCount threads }
     ensures found { MatchResult result
-        (λ found. AreFindings (keys_question judging (operations history.now)) found.items)
-        (RefusesKeys (keys_question judging (operations history.now))) }
+        (λ found. AreFindings (keys_question judging.entry (operations history.now)) found.items)
+        (RefusesKeys (keys_question judging.entry (operations history.now))) }
     ensures alone { threads ≡ 1 → IsErrOf result KeysError.Thread
         → (place : ℕ) × G.may_refuse place }
 {
@@ -221,13 +224,13 @@ pub fn check_keys<R: Threads + Wait + Sync>(
     rt: &R,
     alloc: Global,
     history: &[Op],
-    judging: Judging,
+    judging: Judging<'_>,
     threads: u32,
 ) -> Result<Vec<KeyFinding>, KeysError>
     requires { IsThreadCount threads }
     ensures found { MatchResult result
-        (λ found. AreFindings (keys_question judging (operations history.now)) found.items)
-        (RefusesKeys (keys_question judging (operations history.now))) }
+        (λ found. AreFindings (keys_question judging.entry (operations history.now)) found.items)
+        (RefusesKeys (keys_question judging.entry (operations history.now))) }
     ensures alone { threads ≡ 1 → IsErrOf result KeysError.Thread → ⊥ }
 {
     check_keys_at(rt, alloc, history, judging, threads, &Open)

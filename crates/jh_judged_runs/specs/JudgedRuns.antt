@@ -1,10 +1,10 @@
 -- What the history of a run is judged by, and what comes of the serial run of a plan (this project's
 -- own).
-use Rattle.std.specs.Prelude.{◌≡◌, ℕ, false, List, None}
+use Rattle.std.specs.Prelude.{◌≡◌, ℕ, List}
 use Rattle.jh_ops.specs.Operation.{Operation}
 use Rattle.jh_check.specs.declared.verdict.Verdict.{Verdict}
 use Rattle.jh_checkers.specs.Checkers.{checker_of}
-use Rattle.jh_checkers.specs.Findings.{IsFinding, finding_verdict}
+use Rattle.jh_checkers.specs.Findings.{IsFinding, finding_verdict, judging_by}
 use Rattle.jh_checkers.specs.declared.finding.Finding.{Finding}
 use Rattle.jh_checkers.specs.declared.finding.Judging.{Judging}
 use Rattle.jh_ops.specs.HistoryWritten.{history_lines}
@@ -14,16 +14,10 @@ use Rattle.jh_simnode.specs.Runs.{IsSerialRun}
 use Rattle.jh_simnode.specs.declared.events.Event.{Event}
 
 -- by the checker of the plan's workload, from what a register holds at first; a no is not explained,
--- and the model means nothing, since no cluster runs transactions
+-- and what is said to other checkers means nothing, since no cluster runs their workloads
 abbrev pub run_judging : PlanValue → ℕ → Judging
 run_judging p budget =
-    record {
-      checker = checker_of p.database.workload;
-      initial = p.database.initial;
-      budget = budget;
-      explain = false;
-      model = None;
-    }
+    record (judging_by (checker_of p.database.workload) budget) { initial = p.database.initial }
 
 -- The serial run of the plan has this journal and this history, whose lines are a text of it, and in
 -- which, by a judge of this budget, this is found.

@@ -1,6 +1,6 @@
 -- The line of what a checker finds in a history, or in that of each of its keys, with the exit status of
--- its verdict (this project's own; what is found is what Jepsen's checkers `set`, `counter`, `unique-ids`
--- and `linearizable`, its workload list-append, and jepsen.independent find).
+-- its verdict (this project's own; what is found is what Jepsen's checkers find, as `jh_checkers` has
+-- them, and jepsen.independent).
 use Rattle.std.specs.Prelude.{◌≡◌, ℕ, Bool, true, false, List}
 use Rattle.jh_check.specs.declared.error.CheckError.{CheckError}
 use Rattle.jh_check.specs.declared.error.CheckError.TheVariants as CheckErrors
@@ -16,8 +16,8 @@ use Rattle.jh_ops.specs.Operation.{Operation}
 use Rattle.jh_reports.specs.Lines.{line}
 use Rattle.jh_reports.specs.Reports.{verdict_status}
 
--- For a history as one. More than one may be right on a register and on transactions: any order may
--- be given, and of transactions any of what excludes all orders.
+-- For a history as one. More than one may be right: of a register and a mutex any order may be given,
+-- and of transactions also any of what excludes all orders.
 abbrev pub IsWholeText : Judging → List Operation → ℕ → List ℕ → Type 0
 IsWholeText judging history status output =
     (finding : Finding) × IsFinding judging history finding

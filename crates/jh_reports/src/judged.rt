@@ -45,10 +45,14 @@ pub fn output_of_finding(alloc: Global, finding: &Finding) -> Result<Output, All
 /// its verdict.
 ///
 /// Errors: those of `jh_checkers::check_history`, `OutOfMemory` also where the line had no room.
-pub fn judge_whole(alloc: Global, history: &[Op], judging: Judging) -> Result<Output, CheckError>
+pub fn judge_whole(
+    alloc: Global,
+    history: &[Op],
+    judging: Judging<'_>,
+) -> Result<Output, CheckError>
     ensures { MatchResult result
-        (λ output. IsWholeText judging (operations history.now) output.status output.text.items)
-        (RefusesLine judging.checker (operations history.now)) }
+        (λ output. IsWholeText judging.entry (operations history.now) output.status output.text.items)
+        (RefusesLine judging.entry.checker (operations history.now)) }
 {
     let finding = check_history(alloc, history, judging)?;
     Ok(output_of_finding(alloc, &finding)?)
@@ -58,10 +62,10 @@ pub fn judge_whole(alloc: Global, history: &[Op], judging: Judging) -> Result<Ou
 /// with its line feed, and the exit status of the verdict on them.
 ///
 /// Errors: those of `jh_independent::check_keys_serial`, `OutOfMemory` also where the line had no room.
-pub fn judge_keys(alloc: Global, history: &[Op], judging: Judging) -> Result<Output, KeysError>
+pub fn judge_keys(alloc: Global, history: &[Op], judging: Judging<'_>) -> Result<Output, KeysError>
     ensures judged { MatchResult result
-        (λ output. IsKeysText judging (operations history.now) output.status output.text.items)
-        (RefusesKeys (keys_question judging (operations history.now))) }
+        (λ output. IsKeysText judging.entry (operations history.now) output.status output.text.items)
+        (RefusesKeys (keys_question judging.entry (operations history.now))) }
     ensures alone { IsErrOf result KeysError.Thread → ⊥ }
 {
     let found = check_keys_serial(alloc, history, judging)?;
