@@ -35,13 +35,13 @@ pub enum Note {
     /// It is pending where the history is stuck, with its place in the order that is found up to
     /// there, if it has one.
     Pending(Option<Place>),
-    /// It added an element that is lost.
+    /// It added what is lost.
     Lost,
-    /// It added an element that is read, and was not acknowledged.
+    /// It added what is there, and that was not acknowledged.
     Recovered,
-    /// It read an element that nobody tried to add.
+    /// It was given what no add explains.
     Unexpected,
-    /// It was given an id that was given more than once.
+    /// It was given what was given more than once.
     Repeated,
     /// It read a counter outside these bounds.
     Outside {
@@ -59,6 +59,10 @@ pub enum Note {
     },
     /// It is a transaction with a read that no order explains.
     BadRead,
+    /// It added an element that a read lacked when it was known to be there.
+    Stale,
+    /// It read balances that the bank can't have.
+    WrongBalances,
 }
 
 /// A mark at a call, or at its bar.

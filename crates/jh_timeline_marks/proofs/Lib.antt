@@ -1,2 +1,3 @@
 mod MarkLemmas
+pub mod QueueLemmas
 mod CallLemmas

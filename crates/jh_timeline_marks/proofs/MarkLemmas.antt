@@ -21,9 +21,9 @@ use Rattle.jh_ops.specs.declared.operation.Kind.{Kind}
 use Rattle.jh_ops.specs.declared.operation.Op.{Op}
 use Rattle.jh_ops.specs.declared.operation.Process.{Process}
 use Rattle.jh_check.specs.Distinct.{has_same_value}
-use Rattle.jh_check.specs.IdsView.{view_duplicate, view_duplicates}
+use Rattle.jh_check.specs.Tallies.{view_counted, view_tally}
 use Rattle.jh_check.specs.SetResults.{final_read}
-use Rattle.jh_check.specs.declared.ids.Duplicate.{Duplicate}
+use Rattle.jh_check.specs.declared.tally.Counted.{Counted}
 use Rattle.jh_check.specs.declared.set.SetFound.{SetFound}
 use Rattle.jh_check.proofs.ListLemmas.{mapped_more}
 use Rattle.jh_check.proofs.SearchLemmas.{among_in_order}
@@ -31,7 +31,7 @@ use Rattle.jh_timeline.specs.declared.marks.Mark.{Mark}
 use Rattle.jh_timeline.specs.declared.marks.Note.{Note}
 use Rattle.jh_timeline.specs.declared.picture.Call.{Call}
 use Rattle.jh_timeline.specs.Lanes.{call_end}
-use Rattle.jh_timeline_marks.specs.Marked.{acknowledged_before, acknowledges, acknowledges_lost, adds_one_of, call_completion, ends_with_one_of, found_note, has_one_of, held_behind, invocation_of, invocations_of, is_completed_at, late_losses, mark_at, marks_by, note_if, place_among, shows_unexpected, value_told, value_told_by}
+use Rattle.jh_timeline_marks.specs.Marked.{acknowledged_before, acknowledges, acknowledges_lost, begins_with_one_of, call_completion, ends_with_one_of, found_note, has_one_of, held_behind, invocation_of, invocations_of, is_completed_at, late_losses, mark_at, marks_by, note_if, place_among, shows_unexpected, value_told, value_told_by}
 use Rattle.jh_timeline_marks.specs.MarkedInside.{found_note_with, invocations, is_by_client, is_invocation, is_lost_with}
 use Rattle.jh_timeline_marks.specs.declared.set.Elements.{Elements}
 
@@ -82,14 +82,14 @@ has_same kind name values None = refl
 has_same kind name values (Some op) = ap (λ among. is_asked kind name op && among) (among_in_order (normal op.value) values)
 
 -- one more id
-pub ids_more : (ids : List Value) (duplicated : List Duplicate) (i : ℕ) (duplicate : Duplicate) (id : Value) → i < length duplicated
-    → duplicate ≡ get_or duplicated i duplicate → view id ≡ view duplicate.id → views ids ≡ map (λ id. id.0) (view_duplicates (take i duplicated))
-    → views (ids ++ id ∷ []) ≡ map (λ id. id.0) (view_duplicates (take (i + 1) duplicated))
+pub ids_more : (ids : List Value) (duplicated : List Counted) (i : ℕ) (duplicate : Counted) (id : Value) → i < length duplicated
+    → duplicate ≡ get_or duplicated i duplicate → view id ≡ view duplicate.value → views ids ≡ map (λ id. id.0) (view_tally (take i duplicated))
+    → views (ids ++ id ∷ []) ≡ map (λ id. id.0) (view_tally (take (i + 1) duplicated))
 ids_more ids duplicated i duplicate id below at same before =
     let first : Edn × ℕ → Edn = λ id. id.0 in
-    map-append view ids (id ∷ []) ∙ ap (λ xs. xs ++ view id ∷ []) before ∙ ap (λ x. map first (view_duplicates (take i duplicated)) ++ x ∷ []) same
-    ∙ sym (ap (map first) (mapped_more view_duplicate duplicated i duplicate below at)
-    ∙ map-append first (view_duplicates (take i duplicated)) (view_duplicate duplicate ∷ []))
+    map-append view ids (id ∷ []) ∙ ap (λ xs. xs ++ view id ∷ []) before ∙ ap (λ x. map first (view_tally (take i duplicated)) ++ x ∷ []) same
+    ∙ sym (ap (map first) (mapped_more view_counted duplicated i duplicate below at)
+    ∙ map-append first (view_tally (take i duplicated)) (view_counted duplicate ∷ []))
 
 -- the note of an id does not depend on the order of ids
 pub ids_same : (sorted ids : List Edn) (history : List Operation) (calls : List Call) → sorted ≡ in_order is_below ids
@@ -101,8 +101,13 @@ ids_same sorted ids history calls e =
 
 -- ---- sets
 
-adds_same : (values : List Edn) (history : List Operation) (call : Call) → adds_one_of (in_order is_below values) history call ≡ adds_one_of values history call
-adds_same values history call = has_same Kind.Invoke (codes "add") values (invocation_of history call)
+pub begins_same : (name : List ℕ) (values : List Edn) (history : List Operation) (call : Call)
+    → begins_with_one_of name (in_order is_below values) history call ≡ begins_with_one_of name values history call
+begins_same name values history call = has_same Kind.Invoke name values (invocation_of history call)
+
+pub ends_same : (name : List ℕ) (values : List Edn) (history : List Operation) (call : Call)
+    → ends_with_one_of name (in_order is_below values) history call ≡ ends_with_one_of name values history call
+ends_same name values history call = has_same Kind.Ok name values (call_completion history call)
 
 acknowledged_same : (values : List Edn) (history : List Operation) (call : Call) → acknowledges (in_order is_below values) history call ≡ acknowledges values history call
 acknowledged_same values history call = has_same Kind.Ok (codes "add") values (call_completion history call)
@@ -150,8 +155,8 @@ found_same elements found history call lost late recovered read unexpected =
     (λ i. (acknowledges (lost i) history call && option_map_or (λ index. ltb (call_end call) index) (read i) true) || acknowledges (late i) history call)
     ∙ (λ i. (acknowledged_same found.lost history call i && read_same (final_read history) (λ index. ltb (call_end call) index) true i)
     || acknowledged_same (late_losses found history) history call i) in
-    let is_recovered : adds_one_of (views elements.recovered.items) history call ≡ adds_one_of found.recovered history call =
-    ap (λ xs. adds_one_of xs history call) recovered ∙ adds_same found.recovered history call in
+    let is_recovered : begins_with_one_of (codes "add") (views elements.recovered.items) history call ≡ begins_with_one_of (codes "add") found.recovered history call =
+    ap (λ xs. begins_with_one_of (codes "add") xs history call) recovered ∙ begins_same (codes "add") found.recovered history call in
     let shows : elements.is_unexpected && option_map_or (λ index. is_completed_at index call) elements.read false ≡ shows_unexpected found history call =
     (λ i. unexpected i && option_map_or (λ index. is_completed_at index call) (read i) false)
     ∙ ap (λ t. not (eqb (length found.unexpected) 0) && t) (read_same (final_read history) (λ index. is_completed_at index call) false) in

@@ -1,10 +1,10 @@
 -- What a checker found in a history, as marks at its calls (what each checker finds stands in the
 -- definitions of its own crate; which calls that marks is this project's own). Each call has at most
 -- one note.
-use Rattle.std.specs.Prelude.{ℕ, ◌+◌, ℤ, ◌==◌, ◌&&◌, ◌||◌, Bool, true, false, not, nat_lt, List, []}
+use Rattle.std.specs.Prelude.{ℕ, ◌+◌, ℤ, ◌==◌, ◌&&◌, ◌||◌, Bool, true, false, not, nat_lt, List, [], ◌∷◌}
 use Rattle.std.specs.Prelude.{length, map, filter, take, codes, if◌then◌else◌, slice_get, Option}
 use Rattle.std.specs.Prelude.{Some, None, option_map, option_and_then, is_some}
-use Rattle.std.specs.List.{enumerate_from, filter_map, last_or, position_from}
+use Rattle.std.specs.List.{enumerate_from, filter_map, last_or, list_any, position_from}
 use Rattle.std.specs.Option.{option_flatten, option_map_or}
 use Rattle.jh_edn.specs.Edn.{Edn}
 use Rattle.jh_edn.specs.Normal.{normal}
@@ -13,15 +13,23 @@ use Rattle.jh_ops.specs.Pairing.{history_pairs}
 use Rattle.jh_ops.specs.declared.operation.Kind.{Kind}
 use Rattle.jh_ops.specs.declared.pairs.Pair.{Pair}
 use Rattle.jh_check.specs.CounterResults.{is_in_bounds, read_ends}
-use Rattle.jh_check.specs.Distinct.{has_same_value}
-use Rattle.jh_check.specs.SetResults.{acknowledged_values, final_read}
+use Rattle.jh_check.specs.Distinct.{has_same_value, set_of}
+use Rattle.jh_check.specs.SetResults.{acknowledged_values, elements_shown, final_read}
 use Rattle.jh_check.specs.declared.counter.ReadBounds.{ReadBounds}
 use Rattle.jh_check.specs.declared.set.SetFound.{SetFound}
 use Rattle.jh_checkers.specs.declared.explanation.Explanation.{Explanation}
 use Rattle.jh_checkers.specs.declared.finding.Finding.{Finding}
 use Rattle.jh_checkers.specs.declared.finding.Finding.TheVariants.{Set, Counter, Ids, Register}
-use Rattle.jh_checkers.specs.declared.finding.Finding.TheVariants.{ListAppend}
+use Rattle.jh_checkers.specs.declared.finding.Finding.TheVariants.{ListAppend, TotalQueue, Queue}
+use Rattle.jh_checkers.specs.declared.finding.Finding.TheVariants.{Bank, SetFull, Mutex}
+use Rattle.jh_bank.specs.declared.judge.BankResult.{BankResult}
+use Rattle.jh_queue.specs.declared.queue.QueueResult.{QueueResult}
+use Rattle.jh_queue.specs.declared.queue.QueueResult.TheVariants.{Dequeued, First}
+use Rattle.jh_set_full.specs.declared.set_full.SetFullResult.{SetFullResult}
+use Rattle.jh_total_queue.specs.TotalQueue.{taken_by}
+use Rattle.jh_total_queue.specs.declared.total_queue.TotalQueueResult.{TotalQueueResult}
 use Rattle.jh_linear.specs.Operations.{reg_op_of}
+use Rattle.jh_linear.specs.declared.operations.Object.{Object}
 use Rattle.jh_linear.specs.declared.register.RegCall.{RegCall}
 use Rattle.jh_linear.specs.declared.register.RegCall.TheVariants.{Read, Write, Cas}
 use Rattle.jh_linear.specs.declared.verdict.LinVerdict.{LinVerdict}
@@ -65,11 +73,21 @@ abbrev pub ends_with_one_of : List ℕ → List Edn → List Operation → Call 
 ends_with_one_of name values history call =
     option_map_or (has_one_of Kind.Ok name values) (call_completion history call) false
 
+-- the call begins with a client's invocation of this function, which has one of these values
+abbrev pub begins_with_one_of : List ℕ → List Edn → List Operation → Call → Bool
+begins_with_one_of name values history call =
+    option_map_or (has_one_of Kind.Invoke name values) (invocation_of history call) false
+
 -- the place that a number has among these, if it is one: the first
 abbrev pub place_among : List ℕ → ℕ → Option ℕ
 place_among numbers number = position_from (λ other. other == number) 0 numbers
 
--- ---- registers
+-- the call is completed at one of these places of the history
+abbrev pub is_completed_among : List ℕ → Call → Bool
+is_completed_among places call =
+    option_map_or (λ completion. is_some (place_among places completion)) call.completion false
+
+-- ---- registers and mutexes: an operation of a mutex tells no value
 
 -- where clients invoke something: a number in an order means the invocation at this place here
 abbrev pub invocations_of : List Operation → List ℕ
@@ -92,7 +110,7 @@ value_behind (Cas old new) = Some new
 -- the value that the operation of a pair tells
 abbrev pub value_told : List Operation → Pair → Option ℤ
 value_told history pair =
-    option_and_then (λ op. value_behind op.call) (reg_op_of history pair)
+    option_and_then (λ op. value_behind op.call) (reg_op_of Object.Register history pair)
 
 -- the value that the operation of a number tells
 abbrev pub value_told_by : List Operation → ℕ → Option ℤ
@@ -174,11 +192,6 @@ counter_note reads history call =
 
 -- ---- sets
 
--- a client tried to add one of these by this call
-abbrev pub adds_one_of : List Edn → List Operation → Call → Bool
-adds_one_of elements history call =
-    option_map_or (has_one_of Kind.Invoke (codes "add") elements) (invocation_of history call) false
-
 -- the call acknowledges one of these: it ends with a client's `:ok` of its add
 abbrev pub acknowledges : List Edn → List Operation → Call → Bool
 acknowledges elements history call = ends_with_one_of (codes "add") elements history call
@@ -222,7 +235,7 @@ shows_unexpected found history call =
 abbrev pub found_note : SetFound → List Operation → Call → Option Note
 found_note found history call =
     if acknowledges_lost found history call then Some Note.Lost
-    else if adds_one_of found.recovered history call then Some Note.Recovered
+    else if begins_with_one_of (codes "add") found.recovered history call then Some Note.Recovered
     else note_if (shows_unexpected found history call) Note.Unexpected
 
 -- nothing, where the set was never read
@@ -266,6 +279,62 @@ transactions_note (txns.BadRead place index kind operations) history call =
 transactions_note (txns.Cycle steps operations) history call = cycle_note steps.items history call
 transactions_note txns.Unknown history call = None
 
+-- ---- queues
+
+-- the values of a tally
+abbrev pub counted_values : List (Edn × ℕ) → List Edn
+counted_values tally = map (λ entry. entry.0) tally
+
+-- the operation is known to have taken out one of these
+abbrev pub takes_one_of : List Edn → Operation → Bool
+takes_one_of values op = list_any (λ x. has_same_value values (normal x)) (taken_by op)
+
+-- the call ends by taking out one of these
+abbrev pub ends_by_taking : List Edn → List Operation → Call → Bool
+ends_by_taking values history call =
+    option_map_or (takes_one_of values) (call_completion history call) false
+
+-- it put in what is lost, took out what is unexpected or came out too often, or tried to put in what is
+-- recovered
+abbrev pub total_queue_note : TotalQueueResult → List Operation → Call → Option Note
+total_queue_note found history call =
+    if ends_with_one_of (codes "enqueue") (counted_values found.lost) history call
+    then Some Note.Lost
+    else if ends_by_taking (counted_values found.unexpected) history call then Some Note.Unexpected
+    else if ends_by_taking (counted_values found.duplicated) history call then Some Note.Repeated
+    else note_if
+    (begins_with_one_of (codes "enqueue") (counted_values found.recovered) history call)
+    Note.Recovered
+
+-- it is the first dequeue that comes from no enqueue
+abbrev pub queue_note : QueueResult → Call → Option Note
+queue_note (Dequeued count) call = None
+queue_note (First place completion) call =
+    note_if (is_completed_among (place ∷ []) call) Note.Unexpected
+
+-- ---- banks
+
+-- it is a read that has an error
+abbrev pub bank_note : BankResult → Call → Option Note
+bank_note found call = note_if (is_completed_among found.wrong.items call) Note.WrongBalances
+
+-- ---- sets over time
+
+-- a read that happened shows an element more than once
+abbrev pub shows_twice : Operation → Bool
+shows_twice op =
+    is_asked Kind.Ok (codes "read") op
+    && option_map_or (λ xs. nat_lt (length (set_of (map normal xs))) (length xs))
+    (elements_shown op.value) false
+
+-- it tried to add what is lost, or what was stale, or showed an element twice
+abbrev pub set_full_note : SetFullResult → List Operation → Call → Option Note
+set_full_note found history call =
+    if begins_with_one_of (codes "add") found.lost history call then Some Note.Lost
+    else if begins_with_one_of (codes "add") (map (λ stale. stale.0) found.stale) history call
+    then Some Note.Stale
+    else note_if (option_map_or shows_twice (call_completion history call) false) Note.Repeated
+
 -- ---- all
 
 -- the note of a call, by a finding
@@ -275,6 +344,11 @@ note_of (Counter found) history call = counter_note found.reads history call
 note_of (Ids found) history call = ids_note found.duplicated history call
 note_of (Register judged explanation) history call = register_note judged explanation history call
 note_of (ListAppend found) history call = transactions_note found history call
+note_of (TotalQueue found) history call = total_queue_note found history call
+note_of (Queue found) history call = queue_note found call
+note_of (Bank found) history call = bank_note found call
+note_of (SetFull found) history call = set_full_note found history call
+note_of (Mutex judged explanation) history call = register_note judged explanation history call
 
 -- the mark of a note at the call of a number
 abbrev pub mark_at : ℕ → Option Note → Option Mark

@@ -1,6 +1,6 @@
 -- What the loops of this crate keep (this project's own).
 use Rattle.std.specs.Prelude.{ℕ, ◌&&◌, ◌||◌, Bool, true, false, nat_lt, List, [], ◌∷◌, map, filter}
-use Rattle.std.specs.Prelude.{if◌then◌else◌, slice_get, Option, Some, option_map}
+use Rattle.std.specs.Prelude.{codes, if◌then◌else◌, slice_get, Option, Some, option_map}
 use Rattle.std.specs.Prelude.{option_and_then}
 use Rattle.std.specs.BTreeMap.{BTreeMap, get}
 use Rattle.std.specs.List.{enumerate_from}
@@ -19,8 +19,11 @@ use Rattle.jh_timeline.specs.Lanes.{call_end}
 use Rattle.jh_timeline.specs.declared.marks.Note.{Note}
 use Rattle.jh_timeline.specs.declared.marks.Place.{Place}
 use Rattle.jh_timeline.specs.declared.picture.Call.{Call}
-use Rattle.jh_timeline_marks.specs.Marked.{acknowledges, adds_one_of, is_completed_at, note_if}
+use Rattle.jh_timeline_marks.specs.Marked.{acknowledges, begins_with_one_of, ends_by_taking, ends_with_one_of}
+use Rattle.jh_timeline_marks.specs.Marked.{call_completion, is_completed_at, note_if, shows_twice}
+use Rattle.jh_timeline_marks.specs.declared.queues.QueueValues.{QueueValues}
 use Rattle.jh_timeline_marks.specs.declared.set.Elements.{Elements}
+use Rattle.jh_timeline_marks.specs.declared.set_full.TimedElements.{TimedElements}
 
 -- a client invokes something
 abbrev pub is_by_client : Kind → Process → Bool
@@ -71,6 +74,39 @@ is_lost_with elements history call =
 abbrev pub found_note_with : Elements → List Operation → Call → Option Note
 found_note_with elements history call =
     if is_lost_with elements history call then Some Note.Lost
-    else if adds_one_of (views elements.recovered.items) history call then Some Note.Recovered
+    else if begins_with_one_of (codes "add") (views elements.recovered.items) history call then Some Note.Recovered
     else note_if (elements.is_unexpected
     && option_map_or (λ index. is_completed_at index call) elements.read false) Note.Unexpected
+
+-- ---- queues
+
+-- what is found of a queue is in normal order
+pub record AreQueueValuesSorted (values : QueueValues) : Type 0 where
+  pub lost : Ascends (views values.lost.items)
+  pub unexpected : Ascends (views values.unexpected.items)
+  pub duplicated : Ascends (views values.duplicated.items)
+  pub recovered : Ascends (views values.recovered.items)
+
+-- the note of a call, by what is found of a queue
+abbrev pub queue_note_with : QueueValues → List Operation → Call → Option Note
+queue_note_with values history call =
+    if ends_with_one_of (codes "enqueue") (views values.lost.items) history call then Some Note.Lost
+    else if ends_by_taking (views values.unexpected.items) history call then Some Note.Unexpected
+    else if ends_by_taking (views values.duplicated.items) history call then Some Note.Repeated
+    else note_if (begins_with_one_of (codes "enqueue") (views values.recovered.items) history call)
+    Note.Recovered
+
+-- ---- sets over time
+
+-- what is found of a set over time is in normal order
+pub record AreTimedSorted (elements : TimedElements) : Type 0 where
+  pub lost : Ascends (views elements.lost.items)
+  pub stale : Ascends (views elements.stale.items)
+
+-- the note of a call, by what is found of a set over time
+abbrev pub timed_note_with : TimedElements → List Operation → Call → Option Note
+timed_note_with elements history call =
+    if begins_with_one_of (codes "add") (views elements.lost.items) history call then Some Note.Lost
+    else if begins_with_one_of (codes "add") (views elements.stale.items) history call
+    then Some Note.Stale
+    else note_if (option_map_or shows_twice (call_completion history call) false) Note.Repeated

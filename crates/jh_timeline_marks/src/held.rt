@@ -7,7 +7,7 @@ ghost use Rattle.jh_ops.specs.Pairing.{history_pairs};
 ghost use Rattle.jh_timeline_marks.specs.Marked as rule;
 
 use crate::pairs::pairs_of;
-use jh_linear::{RegCall, reg_op};
+use jh_linear::{Object, RegCall, reg_op};
 use jh_ops::{Op, Pair};
 use jh_timeline::Place;
 use std::alloc::{AllocError, Global};
@@ -27,7 +27,7 @@ fn value_behind(call: RegCall) -> Option<i64>
 fn value_told(history: &[Op], pair: Pair) -> Option<i64>
     ensures { result ≡ rule.value_told (operations history.now) pair }
 {
-    let op = reg_op(history, pair)?;
+    let op = reg_op(Object::Register, history, pair)?;
     value_behind(op.call)
 }
 

@@ -1,6 +1,8 @@
 //! What a checker found in a history, as marks of its page.
 #![tactic(auto)]
 
+mod bank;
+mod completed;
 mod counter;
 mod held;
 mod ids;
@@ -10,8 +12,10 @@ mod operations;
 mod orders;
 mod pairs;
 mod places;
+mod queues;
 mod register;
 mod set;
+mod set_full;
 mod transactions;
 mod values;
 

@@ -4,10 +4,13 @@ ghost use Rattle.std.specs.Prelude.{◌≡◌, IfOk};
 ghost use Rattle.jh_ops.specs.Operation.{operations};
 ghost use Rattle.jh_timeline_marks.specs.Marked as rule;
 
+use crate::bank::bank_marks;
 use crate::counter::counter_marks;
 use crate::ids::ids_marks;
+use crate::queues::{queue_marks, total_queue_marks};
 use crate::register::register_marks;
 use crate::set::set_marks;
+use crate::set_full::set_full_marks;
 use crate::transactions::transactions_marks;
 use jh_checkers::Finding;
 use jh_ops::Op;
@@ -17,7 +20,7 @@ use std::alloc::{AllocError, Global};
 /// The marks that a finding has at calls, in the order of the calls: at most one at each. A mark has
 /// the number of its call among those that are given, from 0.
 ///
-/// A register: of a yes each call's place in the order. Of a no the call at whose completion the
+/// A register or a mutex: of a yes each call's place in the order. Of a no the call at whose completion the
 /// history is stuck; else a call that is pending there, where the finding is explained, with its
 /// place in the order of what is before, if it has one; else that place. Where nothing is known of
 /// it there are no marks. Unique ids: a call that gave an id that was given more than once. A
@@ -29,6 +32,11 @@ use std::alloc::{AllocError, Global};
 /// nobody acknowledged the element before. So what failed to add it, or may have, has no mark. Else a
 /// call that tried to add what is recovered; else the last read that happened, where it shows what
 /// nobody tried to add. A completion that answers no invocation acknowledges too.
+///
+/// A queue: of `total-queue` a call that put in what is lost, that took out what is unexpected or came out
+/// too often, or that tried to put in what is recovered; of `queue` the first dequeue that comes from no
+/// enqueue. A bank: each read that has an error. A set over time: a call that tried to add what is lost,
+/// or what was stale, and a read that shows an element twice.
 ///
 /// The calls are those of the history, as `jh_timeline::calls_of` has them. A call is known by where
 /// it begins and is completed, and a number of an order means the client's invocation of this number.
@@ -56,5 +64,13 @@ pub fn marks_of(
             explanation,
         } => register_marks(alloc, judged, explanation, history, calls),
         Finding::ListAppend(found) => transactions_marks(alloc, found, history, calls),
+        Finding::TotalQueue(found) => total_queue_marks(alloc, found, history, calls),
+        Finding::Queue(found) => queue_marks(alloc, found, calls),
+        Finding::Bank(found) => bank_marks(alloc, found, calls),
+        Finding::SetFull(found) => set_full_marks(alloc, found, history, calls),
+        Finding::Mutex {
+            judged,
+            explanation,
+        } => register_marks(alloc, judged, explanation, history, calls),
     }
 }

@@ -14,8 +14,8 @@ ghost use Rattle.jh_timeline_marks.specs.Marked.{marks_by};
 ghost use Rattle.jh_timeline_marks.specs.MarkedInside.{AreSorted, found_note_with, is_lost_with};
 
 use crate::notes::{no_marks, noted, push_note};
-use crate::operations::{is_completed_at, op_at};
-use crate::values::{ends_with_one_of, has_one_of, sorted_copies, sorted_missing};
+use crate::operations::is_completed_at;
+use crate::values::{begins_with_one_of, ends_with_one_of, sorted_copies, sorted_missing};
 use jh_check::{SetFound, final_read, sorted_values};
 use jh_edn::Value;
 use jh_ops::{Kind, Op};
@@ -89,23 +89,6 @@ fn elements_of(alloc: Global, found: &SetFound, history: &[Op]) -> Result<Elemen
     })
 }
 
-/// Whether a call tried to add one of these elements, which ascend.
-fn adds_one_of(
-    alloc: Global,
-    elements: &[Value],
-    history: &[Op],
-    call: &Call,
-) -> Result<bool, AllocError>
-    requires { Ascends (views elements.now) }
-    ensures { IfOk result
-        (λ adds. adds ≡ rule.adds_one_of (views elements.now) (operations history.now) call.now) }
-{
-    match op_at(history, call.first) {
-        Some(op) => has_one_of(alloc, Kind::Invoke, "add", elements, op),
-        None => Ok(false),
-    }
-}
-
 /// Whether a call ends before the last read, if there is one.
 fn ends_before(read: Option<usize>, call: &Call) -> bool
     ensures { result ≡ option_map_or (λ index. nat_lt (call_end call.now) index) read true }
@@ -159,7 +142,7 @@ fn found_note(
     if is_lost(alloc, elements, history, call)? {
         return Ok(Some(Note::Lost));
     }
-    if adds_one_of(alloc, &elements.recovered, history, call)? {
+    if begins_with_one_of(alloc, "add", &elements.recovered, history, call)? {
         return Ok(Some(Note::Recovered));
     }
     let is_shown = elements.is_unexpected && is_read_at(elements.read, call);

@@ -5,10 +5,11 @@ ghost use Rattle.jh_edn.specs.Order.{in_order, is_below};
 ghost use Rattle.jh_edn.specs.View.{view, views};
 ghost use Rattle.jh_ops.specs.Operation.{operation, operations};
 ghost use Rattle.jh_check.specs.Distinct.{Ascends, has_same_value};
+ghost use Rattle.jh_check.specs.Tallies.{view_tally};
 ghost use Rattle.jh_timeline_marks.specs.Marked as rule;
 
-use crate::operations::completion_of;
-use jh_check::{in_normal_order, is_among, selected};
+use crate::operations::{completion_of, op_at};
+use jh_check::{Counted, in_normal_order, is_among, selected};
 use jh_edn::Value;
 use jh_ops::{Kind, Op};
 use jh_timeline::Call;
@@ -23,6 +24,19 @@ pub(crate) fn sorted_copies(alloc: Global, values: &[Value]) -> Result<Vec<Value
     let mut copies = Vec::new(alloc);
     for value in values {
         copies.push(value.copy(alloc)?)?;
+    }
+    in_normal_order(copies)
+}
+
+/// Copies of the values of a tally, in normal order.
+pub(crate) fn sorted_counted(alloc: Global, tally: &[Counted]) -> Result<Vec<Value>, AllocError>
+    ensures order { IfOk result (λ copies. views copies.items
+        ≡ in_order is_below (rule.counted_values (view_tally tally.now))) }
+    ensures ascends { IfOk result (λ copies. Ascends (views copies.items)) }
+{
+    let mut copies = Vec::new(alloc);
+    for counted in tally {
+        copies.push(counted.value.copy(alloc)?)?;
     }
     in_normal_order(copies)
 }
@@ -76,6 +90,25 @@ pub(crate) fn ends_with_one_of(
 {
     match completion_of(history, call) {
         Some(op) => has_one_of(alloc, Kind::Ok, name, values, op),
+        None => Ok(false),
+    }
+}
+
+/// Whether a call begins with a client's invocation of this function that has one of these values,
+/// which ascend.
+pub(crate) fn begins_with_one_of(
+    alloc: Global,
+    name: &str,
+    values: &[Value],
+    history: &[Op],
+    call: &Call,
+) -> Result<bool, AllocError>
+    requires { Ascends (views values.now) }
+    ensures { IfOk result (λ begins. begins
+        ≡ rule.begins_with_one_of name.now (views values.now) (operations history.now) call.now) }
+{
+    match op_at(history, call.first) {
+        Some(op) => has_one_of(alloc, Kind::Invoke, name, values, op),
         None => Ok(false),
     }
 }

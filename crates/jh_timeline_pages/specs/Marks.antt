@@ -7,6 +7,7 @@ use Rattle.jh_timeline.specs.declared.marks.Note.{Note}
 use Rattle.jh_timeline.specs.declared.marks.Note.TheVariants.{Placed, Stuck, Pending, Lost}
 use Rattle.jh_timeline.specs.declared.marks.Note.TheVariants.{Recovered, Unexpected, Repeated}
 use Rattle.jh_timeline.specs.declared.marks.Note.TheVariants.{Outside, Step, BadRead}
+use Rattle.jh_timeline.specs.declared.marks.Note.TheVariants.{Stale, WrongBalances}
 use Rattle.jh_timeline.specs.declared.marks.Place.{Place}
 use Rattle.jh_timeline.specs.declared.marks.StepKind.{StepKind}
 use Rattle.jh_timeline.specs.declared.marks.StepKind.TheVariants.{WriteRead, WriteWrite}
@@ -35,6 +36,8 @@ class_of Repeated = codes "repeated"
 class_of (Outside lower upper) = codes "outside"
 class_of (Step place kind) = codes "step"
 class_of BadRead = codes "bad-read"
+class_of Stale = codes "stale"
+class_of WrongBalances = codes "wrong-balances"
 
 -- the name of a kind of step (Adya, "Weak consistency", 1999, has the first, the second and the
 -- fourth; `fcw` and `rt` are this project's own)
@@ -50,7 +53,7 @@ abbrev pub step_text : ℕ → StepKind → List ℕ
 step_text place kind = decimal place ++ (codes " :" ++ step_kind_name kind)
 
 -- what a note says: a number in an order, that it is pending and has one, the bounds of a read, a
--- step of a cycle, that a read is bad, or its name
+-- step of a cycle, that a read or balances are wrong, or its name
 abbrev pub note_text : Note → List ℕ
 note_text (Placed place) = decimal place.number
 note_text (Pending (Some place)) = codes "pending " ++ decimal place.number
@@ -58,16 +61,19 @@ note_text (Outside lower upper) =
     codes "[" ++ (signed_decimal lower ++ (codes " " ++ (signed_decimal upper ++ codes "]")))
 note_text (Step place kind) = step_text place kind
 note_text BadRead = codes "bad read"
+note_text WrongBalances = codes "wrong balances"
 note_text note = class_of note
 
 -- what a note means that has no number
 abbrev pub plain_meaning : Note → List ℕ
 plain_meaning Stuck = codes "stuck: no order has room for this operation"
-plain_meaning Lost = codes "lost: it was added, and the last read does not show it"
-plain_meaning Recovered = codes "recovered: the last read shows it, and it was not known to be added"
-plain_meaning Unexpected = codes "unexpected: this read shows what nobody tried to add"
-plain_meaning Repeated = codes "repeated: this id was given more than once"
+plain_meaning Lost = codes "lost: it was added, and it is missing"
+plain_meaning Recovered = codes "recovered: it is there, and it was not known to be added"
+plain_meaning Unexpected = codes "unexpected: this gives what no add explains"
+plain_meaning Repeated = codes "repeated: this gives what was given more than once"
 plain_meaning BadRead = codes "bad read: no order explains it"
+plain_meaning Stale = codes "stale: it was known to be there, and a read behind that lacked it"
+plain_meaning WrongBalances = codes "wrong balances: the bank can't have these"
 plain_meaning note = []
 
 -- what a register holds behind an operation, where that is known

@@ -54,6 +54,8 @@ fn class_of(note: Note) -> &'static str
         Note::Outside { .. } => "outside",
         Note::Step { .. } => "step",
         Note::BadRead => "bad-read",
+        Note::Stale => "stale",
+        Note::WrongBalances => "wrong-balances",
     }
 }
 
@@ -98,6 +100,7 @@ fn write_note<W: Write>(note: Note, writer: &mut W) -> Result<(), PageError>
         }
         Note::Step { place, kind } => write_step(place, kind, writer),
         Note::BadRead => put(b"bad read", writer),
+        Note::WrongBalances => put(b"wrong balances", writer),
         _ => put(class_of(note).as_bytes(), writer),
     }
 }
@@ -179,11 +182,13 @@ fn plain_meaning(note: Note) -> &'static [u8]
 {
     match note {
         Note::Stuck => b"stuck: no order has room for this operation",
-        Note::Lost => b"lost: it was added, and the last read does not show it",
-        Note::Recovered => b"recovered: the last read shows it, and it was not known to be added",
-        Note::Unexpected => b"unexpected: this read shows what nobody tried to add",
-        Note::Repeated => b"repeated: this id was given more than once",
+        Note::Lost => b"lost: it was added, and it is missing",
+        Note::Recovered => b"recovered: it is there, and it was not known to be added",
+        Note::Unexpected => b"unexpected: this gives what no add explains",
+        Note::Repeated => b"repeated: this gives what was given more than once",
         Note::BadRead => b"bad read: no order explains it",
+        Note::Stale => b"stale: it was known to be there, and a read behind that lacked it",
+        Note::WrongBalances => b"wrong balances: the bank can't have these",
         _ => b"",
     }
 }

@@ -9,7 +9,10 @@ use Rattle.jh_checkers.specs.Findings.{finding_verdict}
 use Rattle.jh_checkers.specs.declared.explanation.Explanation.{Explanation}
 use Rattle.jh_checkers.specs.declared.finding.Finding.{Finding}
 use Rattle.jh_checkers.specs.declared.finding.Finding.TheVariants.{Set, Counter, Ids, Register}
-use Rattle.jh_checkers.specs.declared.finding.Finding.TheVariants.{ListAppend}
+use Rattle.jh_checkers.specs.declared.finding.Finding.TheVariants.{ListAppend, TotalQueue, Queue}
+use Rattle.jh_checkers.specs.declared.finding.Finding.TheVariants.{Bank, SetFull, Mutex}
+use Rattle.jh_queue.specs.declared.queue.QueueResult.{QueueResult}
+use Rattle.jh_queue.specs.declared.queue.QueueResult.TheVariants.{Dequeued, First}
 use Rattle.jh_independent.specs.Lines.{verdict_of_all}
 use Rattle.jh_independent.specs.declared.serial.KeyFinding.{KeyFinding}
 use Rattle.jh_linear.specs.declared.verdict.LinVerdict.{LinVerdict}
@@ -81,7 +84,7 @@ ordered_text operations =
     codes ": " ++ counted_text operations (codes " operation has an order")
     (codes " operations have an order")
 
--- of a register how many operations have an order, or that there is none, or why that is not known
+-- of a register or a mutex how many operations have an order, or that there is none, or why that is not known
 abbrev pub register_reason : LinVerdict → Option Explanation → List ℕ
 register_reason (Valid order) explanation = ordered_text (length order)
 register_reason (Invalid stuck) explanation =
@@ -102,12 +105,52 @@ transactions_reason (txns.BadRead place index kind operations) = bad_read_text p
 transactions_reason (txns.Cycle steps operations) = cycle_text (length steps.items)
 transactions_reason txns.Unknown = codes ": the judge gave up"
 
+-- of a queue that is wrong how many of its elements are
+abbrev pub total_queue_reason : Verdict → (lost unexpected : ℕ) → List ℕ
+total_queue_reason Verdict.False lost unexpected = wrong_elements_text lost unexpected
+total_queue_reason verdict lost unexpected = []
+
+-- of a queue that is wrong which dequeue is the first
+abbrev pub queue_reason : QueueResult → List ℕ
+queue_reason (Dequeued count) = []
+queue_reason (First place completion) =
+    codes ": the dequeue at index " ++ (decimal place ++ codes " comes from no enqueue")
+
+-- of a bank that is wrong how many reads are
+abbrev pub bank_reason : Verdict → ℕ → List ℕ
+bank_reason Verdict.False wrong =
+    codes ": " ++ counted_text wrong (codes " read has wrong balances")
+    (codes " reads have wrong balances")
+bank_reason verdict wrong = []
+
+-- how many elements of a set over time are lost, were stale, and are shown twice by a read
+abbrev pub timed_elements_text : (lost stale duplicated : ℕ) → List ℕ
+timed_elements_text lost stale duplicated =
+    codes ": " ++ (counted_text lost (codes " element is lost") (codes " elements are lost")
+    ++ (codes ", " ++ (counted_text stale (codes " was stale") (codes " were stale")
+    ++ (codes ", " ++ counted_text duplicated (codes " is shown twice")
+    (codes " are shown twice")))))
+
+-- of a set over time that is wrong what is, and why it is not known whether one is
+abbrev pub set_full_reason : Verdict → (lost stale duplicated : ℕ) → List ℕ
+set_full_reason Verdict.False lost stale duplicated = timed_elements_text lost stale duplicated
+set_full_reason Verdict.Unknown lost stale duplicated = codes ": no element is stable"
+set_full_reason Verdict.True lost stale duplicated = []
+
 abbrev pub reason : Finding → List ℕ
 reason (Set found) = set_reason found.verdict found.found
 reason (Counter found) = counter_reason found.verdict (length found.errors)
 reason (Ids found) = ids_reason found.verdict (length found.duplicated)
 reason (Register judged explanation) = register_reason judged explanation
 reason (ListAppend found) = transactions_reason found
+reason (TotalQueue found) =
+    total_queue_reason found.verdict (length found.lost) (length found.unexpected)
+reason (Queue found) = queue_reason found
+reason (Bank found) = bank_reason found.verdict (length found.wrong.items)
+reason (SetFull found) =
+    set_full_reason found.verdict (length found.lost) (length found.stale)
+    (length found.duplicated)
+reason (Mutex judged explanation) = register_reason judged explanation
 
 -- the title of a history: the verdict with what is said behind it, or that nothing was judged
 abbrev pub history_title : Option Finding → List ℕ

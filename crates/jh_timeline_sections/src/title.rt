@@ -1,6 +1,6 @@
 //! The title of a page. `specs/Titles.antt` has the rule.
 
-ghost use Rattle.std.specs.Prelude.{◌≡◌, ◌++◌, IfOk, Some, codes, option_map, string_bytes};
+ghost use Rattle.std.specs.Prelude.{◌≡◌, ◌++◌, IfOk, Some, codes, length, option_map, string_bytes};
 ghost use Rattle.std.specs.List.{count_by};
 ghost use Rattle.std.specs.Option.{option_copied};
 ghost use Rattle.jh_independent.specs.Lines as independent;
@@ -17,6 +17,8 @@ use jh_checkers::{Explanation, Finding};
 use jh_independent::KeyFinding;
 use jh_linear::{LinVerdict, Stuck};
 use jh_ops::{Op, Process};
+use jh_queue::QueueResult;
+use jh_set_full::SetFullResult;
 use jh_txn_findings::TxnFinding;
 use std::alloc::{AllocError, Global};
 
@@ -147,7 +149,7 @@ fn explained_text(
     }
 }
 
-/// That operations of a register have no order, and where it ends, if that was explained.
+/// That operations of a register or a mutex have no order, and where it ends, if that was explained.
 fn no_order(
     alloc: Global,
     stuck: &Stuck,
@@ -174,7 +176,7 @@ fn ordered(alloc: Global, operations: usize) -> Result<Vec<u8>, AllocError>
     Ok(format!(in alloc; ": {counted}")?.into_bytes())
 }
 
-/// What is said of a register.
+/// What is said of a register or a mutex.
 fn register_reason(
     alloc: Global,
     judged: &LinVerdict,
@@ -217,6 +219,86 @@ fn cycle_text(alloc: Global, steps: usize) -> Result<Vec<u8>, AllocError>
     Ok(format!(in alloc; ": a cycle of {counted}")?.into_bytes())
 }
 
+/// What is said of a queue, of which so many elements are lost and unexpected.
+fn total_queue_reason(
+    alloc: Global,
+    verdict: Verdict,
+    lost: usize,
+    unexpected: usize,
+) -> Result<Vec<u8>, AllocError>
+    ensures { IfOk result
+        (λ text. text.items ≡ rule.total_queue_reason verdict lost unexpected) }
+{
+    match verdict {
+        Verdict::False => wrong_elements(alloc, lost, unexpected),
+        _ => Ok(Vec::new(alloc)),
+    }
+}
+
+/// What is said of a queue by its first dequeue that comes from no enqueue.
+fn queue_reason(alloc: Global, found: &QueueResult) -> Result<Vec<u8>, AllocError>
+    ensures { IfOk result (λ text. text.items ≡ rule.queue_reason found.now) }
+{
+    match found {
+        QueueResult::Dequeued(_) => Ok(Vec::new(alloc)),
+        QueueResult::First { place, .. } => {
+            let text = format!(in alloc; ": the dequeue at index {place} comes from no enqueue")?;
+            Ok(text.into_bytes())
+        }
+    }
+}
+
+/// What is said of a bank with so many wrong reads.
+fn bank_reason(alloc: Global, verdict: Verdict, wrong: usize) -> Result<Vec<u8>, AllocError>
+    ensures { IfOk result (λ text. text.items ≡ rule.bank_reason verdict wrong) }
+{
+    match verdict {
+        Verdict::False => {
+            let wrong = counted(
+                alloc,
+                wrong,
+                " read has wrong balances",
+                " reads have wrong balances",
+            )?;
+            Ok(format!(in alloc; ": {wrong}")?.into_bytes())
+        }
+        _ => Ok(Vec::new(alloc)),
+    }
+}
+
+/// How many elements are lost, were stale, and are shown twice.
+fn timed_elements(
+    alloc: Global,
+    lost: usize,
+    stale: usize,
+    duplicated: usize,
+) -> Result<Vec<u8>, AllocError>
+    ensures { IfOk result
+        (λ text. text.items ≡ rule.timed_elements_text lost stale duplicated) }
+{
+    let lost = counted(alloc, lost, " element is lost", " elements are lost")?;
+    let stale = counted(alloc, stale, " was stale", " were stale")?;
+    let duplicated = counted(alloc, duplicated, " is shown twice", " are shown twice")?;
+    Ok(format!(in alloc; ": {lost}, {stale}, {duplicated}")?.into_bytes())
+}
+
+/// What is said of a set over time.
+fn set_full_reason(alloc: Global, found: &SetFullResult) -> Result<Vec<u8>, AllocError>
+    ensures { IfOk result (λ text. text.items ≡ rule.set_full_reason found.now.verdict
+        (length found.now.lost) (length found.now.stale) (length found.now.duplicated)) }
+{
+    match found.verdict {
+        Verdict::False => timed_elements(
+            alloc,
+            found.lost.len(),
+            found.stale.as_slice().len(),
+            found.duplicated.as_slice().len(),
+        ),
+        Verdict::Unknown => Vec::from_slice(alloc, b": no element is stable"),
+        Verdict::True => Ok(Vec::new(alloc)),
+    }
+}
+
 /// What is said behind the verdict.
 fn reason(alloc: Global, found: &Finding) -> Result<Vec<u8>, AllocError>
     ensures { IfOk result (λ text. text.items ≡ rule.reason found.now) }
@@ -232,6 +314,19 @@ fn reason(alloc: Global, found: &Finding) -> Result<Vec<u8>, AllocError>
             explanation,
         } => register_reason(alloc, judged, explanation.as_ref()),
         Finding::ListAppend(transactions) => transactions_reason(alloc, transactions),
+        Finding::TotalQueue(queue) => total_queue_reason(
+            alloc,
+            queue.verdict,
+            queue.lost.as_slice().len(),
+            queue.unexpected.as_slice().len(),
+        ),
+        Finding::Queue(queue) => queue_reason(alloc, queue),
+        Finding::Bank(bank) => bank_reason(alloc, bank.verdict, bank.wrong.len()),
+        Finding::SetFull(set) => set_full_reason(alloc, set),
+        Finding::Mutex {
+            judged,
+            explanation,
+        } => register_reason(alloc, judged, explanation.as_ref()),
     }
 }
 

@@ -1,4 +1,3 @@
-use Rattle.std.proofs.Common.{take}
 use Rattle.jh_ops.specs.Operation.{operations}
 use Rattle.jh_timeline_marks.proofs.MarkLemmas.{Holding}
 use Rattle.jh_timeline_marks.proofs.held.held_along.Given as goal

@@ -4,7 +4,7 @@ use Rattle.std.specs.Option.{option_to_list}
 use Rattle.std.proofs.lemmas.List.{take_all}
 use Rattle.jh_edn.specs.View.{views}
 use Rattle.jh_ops.specs.Operation.{operations}
-use Rattle.jh_check.specs.IdsView.{view_duplicates}
+use Rattle.jh_check.specs.Tallies.{view_tally}
 use Rattle.jh_timeline.specs.declared.marks.Note.{Note}
 use Rattle.jh_timeline.specs.declared.picture.Call.{Call}
 use Rattle.jh_timeline_marks.specs.Marked.{ends_with_one_of, mark_at, marks_by, note_if}
@@ -28,4 +28,4 @@ returns c =
     let history = operations c.args.history.now in
     l.invariant
     ∙ ap (marks_by (λ call. note_if (ends_with_one_of (codes "generate") (views c.in_ok-ids.ids.items) history call) Note.Repeated)) (take_all l.number c.args.calls.now (omega arith))
-    ∙ ids_same (views c.in_ok-ids.ids.items) (map (λ id. id.0) (view_duplicates c.args.duplicated.now)) history c.args.calls.now c.in_ok-ids.ensures.ids
+    ∙ ids_same (views c.in_ok-ids.ids.items) (map (λ id. id.0) (view_tally c.args.duplicated.now)) history c.args.calls.now c.in_ok-ids.ensures.order
