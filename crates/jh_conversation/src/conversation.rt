@@ -10,7 +10,7 @@ ghost use Rattle.jh_conversation.specs.Conversations.{IsTestBegun};
 ghost use Rattle.jh_conversation.specs.Laws.{IsDriverAtFirst, IsFinalDriver};
 ghost use Rattle.jh_conversation.specs.Text.{recorded_lines, recorded_history};
 ghost use Rattle.jh_ops.specs.Operation.{operations};
-ghost use Rattle.jh_test_parts.specs.Test.{suits_checker};
+ghost use Rattle.jh_test_parts.specs.Test.{suits_workload};
 
 use crate::machine::Machine;
 use jh_gen::{Driver, DriverError, Gen, Inner};
@@ -51,7 +51,7 @@ impl Model for Conversation {
 
 /// A driver of the calls of a generator, before its first call.
 fn driver_of(alloc: Global, test: &Test, generator: &Gen) -> Result<Driver, AllocError>
-    requires { suits_checker test.now.checker test.now.clients (generator_of generator.now) ≡ true }
+    requires { suits_workload test.now.workload test.now.clients (generator_of generator.now) ≡ true }
     ensures { IfOk result (IsDriverAtFirst test.now (generator_of generator.now)) }
 {
     let limited = Gen::Limit(test.ops(), Inner::of(alloc, generator.copy(alloc)?)?);

@@ -6,6 +6,7 @@ use Rattle.std.specs.Prelude.{None, if◌then◌else◌, is_some, Result, Ok, Er
 use Rattle.std.specs.Io.KnownBytes.{Appends, Consumes}
 use Rattle.jh_check.specs.declared.error.CheckError.{CheckError}
 use Rattle.jh_check.specs.declared.error.CheckError.TheVariants as CheckErrors
+use Rattle.jh_checkers.specs.Findings.{judging_by}
 use Rattle.jh_checkers.specs.declared.finding.Judging.{Judging}
 use Rattle.jh_conversation.specs.Conversations.{ConversationValue, IsTestBegun, answer_to_line}
 use Rattle.jh_conversation.specs.Conversations.{conversation_after, is_over, opening_of}
@@ -21,6 +22,7 @@ use Rattle.jh_ops.specs.Operation.{Operation}
 use Rattle.jh_reports.specs.Judged.{IsTextBy, RefusesLine}
 use Rattle.jh_reports.specs.Reports.{IsReport}
 use Rattle.jh_test_parts.specs.Test.{TestValue}
+use Rattle.jh_test_parts.specs.Workloads.{test_checker}
 use Rattle.jh_test_parts.specs.declared.complaints.Complaint.{Complaint}
 use Rattle.jh_drive_settings.specs.Settings.{AreDriveSettingsOf, RefusesDriveSettings}
 use Rattle.jh_settings.specs.declared.error.SettingsError.{SettingsError}
@@ -63,13 +65,11 @@ IsNotJudged true judging history =
 
 -- by what the history of a test is judged
 abbrev pub judging_of : TestValue → Option ℤ → ConsistencyModel → ℕ → Judging
-judging_of t initial model budget = record {
-  checker = t.checker;
-  initial = initial;
-  budget = budget;
-  explain = false;
-  model = Some model;
-}
+judging_of t initial model budget =
+    record (judging_by (test_checker t.workload) budget) {
+      initial = initial;
+      model = Some model;
+    }
 
 -- A conversation that did not come to its end.
 abbrev pub ended_early : Ending → DriveError

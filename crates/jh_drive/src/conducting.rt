@@ -21,15 +21,18 @@ use std::alloc::Global;
 use std::io::{Read, Write};
 
 /// By what the history of a test is judged.
-fn judging_of(test: &Test, initial: Option<i64>, model: ConsistencyModel, budget: u64) -> Judging
+fn judging_of(
+    test: &Test,
+    initial: Option<i64>,
+    model: ConsistencyModel,
+    budget: u64,
+) -> Judging<'static>
     ensures { result ≡ rule.judging_of test.now initial model budget }
 {
     Judging {
-        checker: test.checker(),
         initial,
-        budget,
-        explain: false,
         model: Some(model),
+        ..Judging::by(test.workload().checker(), budget)
     }
 }
 
@@ -71,11 +74,11 @@ fn drive_answer(
 fn hold<R: Read, W: Write, O: CallObserver>(
     alloc: Global,
     conversation: &mut Conversation,
-    judging: Judging,
+    judging: Judging<'_>,
     streams: &mut Streams<R, W>,
     observer: &mut O,
 ) -> Result<u8, DriveError>
-    ensures { (t : TestValue) → IsTestBegun t conversation.old → IsAnswered t judging
+    ensures { (t : TestValue) → IsTestBegun t conversation.old → IsAnswered t judging.entry
         (R.remaining streams.old.reader) (R.remaining streams.new.reader)
         (W.contents streams.old.writer) (W.contents streams.new.writer) result }
 {
@@ -97,11 +100,11 @@ fn hold<R: Read, W: Write, O: CallObserver>(
 fn conduct<R: Read, W: Write, O: CallObserver>(
     alloc: Global,
     test: Test,
-    judging: Judging,
+    judging: Judging<'_>,
     streams: &mut Streams<R, W>,
     observer: &mut O,
 ) -> Result<u8, DriveError>
-    ensures { IsAnswered test judging
+    ensures { IsAnswered test judging.entry
         (R.remaining streams.old.reader) (R.remaining streams.new.reader)
         (W.contents streams.old.writer) (W.contents streams.new.writer) result }
 {

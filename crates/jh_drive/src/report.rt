@@ -49,10 +49,10 @@ fn known_of(alloc: Global, conversation: &Conversation) -> Result<Vec<u8>, Alloc
 }
 
 /// Judges the history of each key.
-fn judge_by_keys(alloc: Global, history: &[Op], judging: Judging) -> Result<Output, DriveError>
+fn judge_by_keys(alloc: Global, history: &[Op], judging: Judging<'_>) -> Result<Output, DriveError>
     ensures { MatchResult result
-        (λ output. IsKeysText judging (operations history.now) output.status output.text.items)
-        (RefusesToJudge true judging (operations history.now)) }
+        (λ output. IsKeysText judging.entry (operations history.now) output.status output.text.items)
+        (RefusesToJudge true judging.entry (operations history.now)) }
 {
     match judge_keys(alloc, history, judging) {
         Ok(output) => Ok(output),
@@ -61,10 +61,10 @@ fn judge_by_keys(alloc: Global, history: &[Op], judging: Judging) -> Result<Outp
 }
 
 /// Judges a history as one.
-fn judge_one(alloc: Global, history: &[Op], judging: Judging) -> Result<Output, DriveError>
+fn judge_one(alloc: Global, history: &[Op], judging: Judging<'_>) -> Result<Output, DriveError>
     ensures { MatchResult result
-        (λ output. IsWholeText judging (operations history.now) output.status output.text.items)
-        (RefusesToJudge false judging (operations history.now)) }
+        (λ output. IsWholeText judging.entry (operations history.now) output.status output.text.items)
+        (RefusesToJudge false judging.entry (operations history.now)) }
 {
     match judge_whole(alloc, history, judging) {
         Ok(output) => Ok(output),
@@ -76,14 +76,14 @@ fn judge_one(alloc: Global, history: &[Op], judging: Judging) -> Result<Output, 
 fn judge_history<O: CallObserver>(
     alloc: Global,
     conversation: &Conversation,
-    judging: Judging,
+    judging: Judging<'_>,
     observer: &mut O,
 ) -> Result<Output, DriveError>
     ensures { MatchResult result
-        (λ output. IsTextBy (is_some conversation.now.test.keys) judging
+        (λ output. IsTextBy (is_some conversation.now.test.keys) judging.entry
         (recorded_history conversation.now.test conversation.now.machine)
         output.status output.text.items)
-        (RefusesToJudge (is_some conversation.now.test.keys) judging
+        (RefusesToJudge (is_some conversation.now.test.keys) judging.entry
         (recorded_history conversation.now.test conversation.now.machine)) }
 {
     let history = conversation.history()?;
@@ -101,14 +101,14 @@ fn judge_history<O: CallObserver>(
 pub(crate) fn report<W: Write, O: CallObserver>(
     alloc: Global,
     conversation: &Conversation,
-    judging: Judging,
+    judging: Judging<'_>,
     writer: &mut W,
     observer: &mut O,
 ) -> Result<u8, DriveError>
     ensures { MatchResult result
-        (λ status. (report : List ℕ) × IsReportOf judging conversation.now status report
+        (λ status. (report : List ℕ) × IsReportOf judging.entry conversation.now status report
         × Appends (W.contents writer.old) (W.contents writer.new) report)
-        (RefusesReport judging conversation.now) }
+        (RefusesReport judging.entry conversation.now) }
 {
     let known = known_of(alloc, conversation)?;
     write(writer, &known)?;

@@ -8,17 +8,17 @@ use Rattle.jh_settings.specs.Keys.{data_under, is_missing}
 use Rattle.jh_settings.specs.Kinds.{value_or_default, whole_number_in}
 use Rattle.jh_settings.proofs.ElementLemmas.{none_not}
 use Rattle.jh_settings.proofs.PlanLemmas.{default_is}
-use Rattle.jh_checkers.specs.declared.checker.Checker.{Checker}
-use Rattle.jh_drive_settings.specs.Parsed.{parsed_checker, where_checked, optional_number, parsed_share, are_transactions, transaction_number}
+use Rattle.jh_test_parts.specs.declared.workload.TestWorkload.{TestWorkload}
+use Rattle.jh_drive_settings.specs.Parsed.{parsed_test_workload, where_workload, optional_number, parsed_share, are_transactions, transaction_number}
 
 allowed_is : {A : Type 0} (b : Bool) (parsed : Option A) (x : A) → (if b then parsed else None) ≡ Some x → parsed ≡ Some x
 allowed_is true parsed x e = e
 allowed_is false parsed x e = absurd (none_not x e)
 
-where_is : {A : Type 0} (may : Checker → Bool) (key : Key) (document : Members) (parsed : Option A) (x : A) (checker : Checker) → parsed_checker document ≡ Some checker → where_checked may key document parsed ≡ Some x → parsed ≡ Some x
-where_is may key document parsed x checker is e =
-    allowed_is (may checker || is_missing document key) parsed x (
-    sym (ap (option_and_then (λ (t : Checker). if may t || is_missing document key then parsed else None)) is) ∙ e
+where_is : {A : Type 0} (may : TestWorkload → Bool) (key : Key) (document : Members) (parsed : Option A) (x : A) (workload : TestWorkload) → parsed_test_workload document ≡ Some workload → where_workload may key document parsed ≡ Some x → parsed ≡ Some x
+where_is may key document parsed x workload is e =
+    allowed_is (may workload || is_missing document key) parsed x (
+    sym (ap (option_and_then (λ (t : TestWorkload). if may t || is_missing document key then parsed else None)) is) ∙ e
     )
 
 some_not_none : (o : Option ℕ) → option_map Some o ≡ Some None → ⊥
@@ -33,9 +33,9 @@ something_there : (least most : ℕ) (value : Option Data) (n : ℕ) → option_
 something_there least most None n e = cc
 something_there least most (Some v) n e = refl
 
-module _ (most : ℕ) (key : Key) (document : Members) (checker : Checker) (is : parsed_checker document ≡ Some checker) where
+module _ (most : ℕ) (key : Key) (document : Members) (workload : TestWorkload) (is : parsed_test_workload document ≡ Some workload) where
   number_is : (o : Option ℕ) → parsed_share most key document ≡ Some o → optional_number 1 most key document ≡ Some o
-  number_is o e = where_is (λ t. not (are_transactions t)) key document (optional_number 1 most key document) o checker is e
+  number_is o e = where_is (λ t. not (are_transactions t)) key document (optional_number 1 most key document) o workload is e
 
   pub share_missing : parsed_share most key document ≡ Some None → is_missing document key ≡ true
   share_missing e = nothing_there 1 most (data_under key document) (number_is None e)
@@ -44,8 +44,8 @@ module _ (most : ℕ) (key : Key) (document : Members) (checker : Checker) (is :
   share_there n e = something_there 1 most (data_under key document) n (number_is (Some n) e)
 
 -- a number by which transactions are made is in its range
-pub number_between : (default most : ℕ) (key : Key) (document : Members) (checker : Checker) → parsed_checker document ≡ Some checker → (n : ℕ) → 1 ≤ default → default ≤ most → transaction_number default most key document ≡ Some n
+pub number_between : (default most : ℕ) (key : Key) (document : Members) (workload : TestWorkload) → parsed_test_workload document ≡ Some workload → (n : ℕ) → 1 ≤ default → default ≤ most → transaction_number default most key document ≡ Some n
     → (1 ≤ n) × (n ≤ most)
-number_between default most key document checker is n low high e =
+number_between default most key document workload is n low high e =
     default_is 1 most default (data_under key document) n low high
-    (where_is are_transactions key document (value_or_default default (whole_number_in 1 most) key document) n checker is e)
+    (where_is are_transactions key document (value_or_default default (whole_number_in 1 most) key document) n workload is e)

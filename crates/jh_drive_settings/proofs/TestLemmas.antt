@@ -13,24 +13,24 @@ use Rattle.jh_settings.proofs.ElementLemmas.{none_not}
 use Rattle.jh_settings.proofs.PlanLemmas.{has_clients, needed_is}
 use Rattle.jh_test_parts.specs.declared.parts.TestEntry.{TestEntry}
 use Rattle.jh_test_parts.specs.declared.parts.KeyShares.{KeyShares}
-use Rattle.jh_checkers.specs.declared.checker.Checker.{Checker}
+use Rattle.jh_test_parts.specs.declared.workload.TestWorkload.{TestWorkload}
 use Rattle.jh_test_parts.specs.declared.test.TestError.{TestError}
 use Rattle.jh_test_parts.specs.Test.{TestValue, IsFitTest, RefusesTest, HasSchedule, FitsTransactions}
 use Rattle.jh_drive_settings.specs.declared.parts.Parts.{Parts}
 use Rattle.jh_drive_settings.specs.Inside.{AreParsedParts, RefusesShares, RefusesAllowed, RefusesDriveValues, missing_share_key, test_of_parts, test_refusal}
-use Rattle.jh_drive_settings.specs.Parsed.{parsed_checker, parsed_test_entry, parsed_test_ops, parsed_threads_per_key, parsed_ops_per_key, transaction_number}
+use Rattle.jh_drive_settings.specs.Parsed.{parsed_test_workload, parsed_test_entry, parsed_test_ops, parsed_threads_per_key, parsed_ops_per_key, transaction_number}
 use Rattle.jh_drive_settings.specs.Settings.{AreDriveSettings, IsFinalAllowed, IsShareKeyMissing, IsParsedTest}
 use Rattle.jh_drive_settings.proofs.GoodLemmas.{all_good}
 use Rattle.jh_drive_settings.proofs.ShareLemmas.{number_between, share_missing, share_there}
 
-one_share_missing : (document : Members) (checker : Checker) → parsed_checker document ≡ Some checker → (threads calls : Option ℕ) → parsed_threads_per_key document ≡ Some threads → parsed_ops_per_key document ≡ Some calls
+one_share_missing : (document : Members) (workload : TestWorkload) → parsed_test_workload document ≡ Some workload → (threads calls : Option ℕ) → parsed_threads_per_key document ≡ Some threads → parsed_ops_per_key document ≡ Some calls
     → (key : Key) → missing_share_key threads calls ≡ Some key → IsShareKeyMissing document key
-one_share_missing document checker is None None h k key e = absurd (none_not key e)
-one_share_missing document checker is None (Some n) h k key e =
-    subst (IsShareKeyMissing document) (same_Some Key.ThreadsPerKey key e) (share_missing 16 Key.ThreadsPerKey document checker is h, share_there 1000000 Key.OpsPerKey document checker is n k)
-one_share_missing document checker is (Some n) None h k key e =
-    subst (IsShareKeyMissing document) (same_Some Key.OpsPerKey key e) (share_missing 1000000 Key.OpsPerKey document checker is k, share_there 16 Key.ThreadsPerKey document checker is n h)
-one_share_missing document checker is (Some n) (Some m) h k key e = absurd (none_not key e)
+one_share_missing document workload is None None h k key e = absurd (none_not key e)
+one_share_missing document workload is None (Some n) h k key e =
+    subst (IsShareKeyMissing document) (same_Some Key.ThreadsPerKey key e) (share_missing 16 Key.ThreadsPerKey document workload is h, share_there 1000000 Key.OpsPerKey document workload is n k)
+one_share_missing document workload is (Some n) None h k key e =
+    subst (IsShareKeyMissing document) (same_Some Key.OpsPerKey key e) (share_missing 1000000 Key.OpsPerKey document workload is k, share_there 16 Key.ThreadsPerKey document workload is n h)
+one_share_missing document workload is (Some n) (Some m) h k key e = absurd (none_not key e)
 
 few_entries : (Means : Data → TestEntry → Type 0) (o : Option Data) (entries : List TestEntry) → IsScheduleOf Means o entries → length entries ≤ 1024
 few_entries Means None entries h = omega (arith, ap length h)
@@ -46,7 +46,7 @@ module _ (document : Members) (parts : Parts) (parsed : AreParsedParts document 
   shares_refused NotToml h = absurd h
   shares_refused (Unknown name) h = absurd h
   shares_refused (Missing key) h =
-      (all_good document parts (option_map generator_of parts.final_calls) parsed.final_calls parsed, one_share_missing document parts.asked.checker parsed.asked.workload parts.pace.threads_per_key parts.pace.ops_per_key parsed.pace.by_threads parsed.pace.by_calls key h)
+      (all_good document parts (option_map generator_of parts.final_calls) parsed.final_calls parsed, one_share_missing document parts.asked.workload parsed.asked.workload parts.pace.threads_per_key parts.pace.ops_per_key parsed.pace.by_threads parsed.pace.by_calls key h)
   shares_refused (BadValue key) h = absurd h
   shares_refused OutOfMemory h = absurd h
 
@@ -78,7 +78,7 @@ module _ (document : Members) (parts : Parts) (parsed : AreParsedParts document 
     has_transactions =
         let shape = parts.details.transactions in
         let between : (default most : ℕ) (key : Key) (n : ℕ) → 1 ≤ default → default ≤ most → transaction_number default most key document ≡ Some n → (1 ≤ n) × (n ≤ most) =
-        λ default most key n low high e. number_between default most key document parts.asked.checker parsed.asked.workload n low high e in
+        λ default most key n low high e. number_between default most key document parts.asked.workload parsed.asked.workload n low high e in
         let keys = between 4 1000 Key.Keys shape.keys (omega arith) (omega arith) parsed.details.shape.over_keys in
         let ops = between 4 100 Key.MaxTxn shape.most (omega arith) (omega arith) parsed.details.shape.at_most in
         let appends = between 32 10000 Key.AppendsPerKey shape.appends (omega arith) (omega arith) parsed.details.shape.of_appends in

@@ -20,7 +20,8 @@ use Rattle.jh_drive_settings.specs.declared.parts.Asked.{Asked}
 use Rattle.jh_drive_settings.specs.declared.parts.Details.{Details}
 use Rattle.jh_drive_settings.specs.declared.parts.Pace.{Pace}
 use Rattle.jh_drive_settings.specs.declared.parts.Parts.{Parts}
-use Rattle.jh_drive_settings.specs.Parsed.{parsed_checker, parsed_test_ops, parsed_time_limit}
+use Rattle.jh_drive_settings.specs.Parsed.{parsed_test_workload, parsed_test_ops}
+use Rattle.jh_drive_settings.specs.Parsed.{parsed_time_limit}
 use Rattle.jh_drive_settings.specs.Parsed.{parsed_rate, parsed_threads_per_key, parsed_ops_per_key}
 use Rattle.jh_drive_settings.specs.Parsed.{parsed_recovery, IsParsedFinal, parsed_test_initial}
 use Rattle.jh_drive_settings.specs.Parsed.{parsed_keys, parsed_max_txn, parsed_appends_per_key}
@@ -34,7 +35,7 @@ asked_keys = Key.Start ∷ Key.Workload ∷ Key.Generator ∷ []
 
 pub record IsParsedAsked (document : Members) (asked : Asked) : Type 0 where
   pub start : IsParsedStart document asked.environment
-  pub workload : parsed_checker document ≡ Some asked.checker
+  pub workload : parsed_test_workload document ≡ Some asked.workload
   pub generator : IsParsedGenerator document (generator_of asked.generator)
 
 abbrev pub pace_keys : List Key
@@ -83,7 +84,7 @@ pub record AreParsedParts (document : Members) (parts : Parts) : Type 0 where
 abbrev pub test_of_parts : Parts → Option KeyShares → TestValue
 test_of_parts parts shares = record {
   start = parts.asked.environment;
-  checker = parts.asked.checker;
+  workload = parts.asked.workload;
   generator = generator_of parts.asked.generator;
   final_calls = option_map generator_of parts.final_calls;
   clients = parts.pace.clients;

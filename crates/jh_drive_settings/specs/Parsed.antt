@@ -9,7 +9,6 @@ use Rattle.toml.specs.Data.{Members}
 use Rattle.jh_edn.specs.Edn.{Edn, int, keyword, elements_of}
 use Rattle.jh_step_texts.specs.StepText.{parsed_step}
 use Rattle.jh_nemesis.specs.declared.steps.Step.{Step}
-use Rattle.jh_checkers.specs.Checkers.{checker_named}
 use Rattle.jh_checkers.specs.Models.{model_named}
 use Rattle.jh_gen.specs.DriverState.{max_calls, max_clients}
 use Rattle.jh_gen.specs.Generator.{Generator}
@@ -20,28 +19,29 @@ use Rattle.jh_settings.specs.Kinds.{needed_value, value_or_default, choice_in, c
 use Rattle.jh_settings.specs.Kinds.{whole_number_in}
 use Rattle.jh_settings.specs.Parsed.{IsGeneratorUnder, IsScheduleUnder, initial_of}
 use Rattle.jh_test_parts.specs.Limits.{max_key_appends, max_transaction_keys, max_transaction_ops}
+use Rattle.jh_test_parts.specs.Workloads.{test_workload_named}
 use Rattle.jh_test_parts.specs.declared.parts.TestEntry.{TestEntry}
-use Rattle.jh_checkers.specs.declared.checker.Checker.{Checker}
 use Rattle.jh_test_parts.specs.declared.parts.When.{When}
+use Rattle.jh_test_parts.specs.declared.workload.TestWorkload.{TestWorkload}
 use Rattle.jh_drive_settings.specs.Limits.{max_rate, max_recovery_ms, max_time_ms}
 
--- what is asked of the database, by the checker of its history
-abbrev pub parsed_checker : Members → Option Checker
-parsed_checker document = choice_under checker_named Key.Workload document
+-- what is asked of the database
+abbrev pub parsed_test_workload : Members → Option TestWorkload
+parsed_test_workload document = choice_under test_workload_named Key.Workload document
 
-abbrev pub is_register_checker : Checker → Bool
-is_register_checker Checker.Register = true
-is_register_checker _ = false
+abbrev pub is_register_workload : TestWorkload → Bool
+is_register_workload TestWorkload.Register = true
+is_register_workload _ = false
 
-abbrev pub are_transactions : Checker → Bool
-are_transactions Checker.ListAppend = true
+abbrev pub are_transactions : TestWorkload → Bool
+are_transactions TestWorkload.ListAppend = true
 are_transactions _ = false
 
 -- what is meant under a key that may stand there of some databases alone
-abbrev pub where_checked : {A : Type 0} → (Checker → Bool) → Key → Members → Option A → Option A
-where_checked may key document parsed =
-    option_and_then (λ checker. if may checker || is_missing document key then parsed else None)
-    (parsed_checker document)
+abbrev pub where_workload : {A : Type 0} → (TestWorkload → Bool) → Key → Members → Option A → Option A
+where_workload may key document parsed =
+    option_and_then (λ workload. if may workload || is_missing document key then parsed else None)
+    (parsed_test_workload document)
 
 -- how many calls
 abbrev pub parsed_test_ops : Members → Option ℕ
@@ -61,7 +61,7 @@ parsed_rate document = optional_number 1 max_rate Key.Rate document
 -- how keys are shared: not of transactions, which have keys of their own
 abbrev pub parsed_share : ℕ → Key → Members → Option (Option ℕ)
 parsed_share most key document =
-    where_checked (λ checker. not (are_transactions checker)) key document
+    where_workload (λ workload. not (are_transactions workload)) key document
     (optional_number 1 most key document)
 
 abbrev pub parsed_threads_per_key : Members → Option (Option ℕ)
@@ -80,13 +80,14 @@ IsParsedFinal document (Some g) = IsGeneratorUnder Key.Final document g
 
 abbrev pub parsed_test_initial : Members → Option (Option ℤ)
 parsed_test_initial document =
-    option_and_then (λ checker. initial_of (is_register_checker checker) (data_under Key.Initial document))
-    (parsed_checker document)
+    option_and_then
+    (λ workload. initial_of (is_register_workload workload) (data_under Key.Initial document))
+    (parsed_test_workload document)
 
 -- how transactions are made, by default and at most; nothing may say so of anything else
 abbrev pub transaction_number : ℕ → ℕ → Key → Members → Option ℕ
 transaction_number default most key document =
-    where_checked are_transactions key document
+    where_workload are_transactions key document
     (value_or_default default (whole_number_in 1 most) key document)
 
 abbrev pub parsed_keys : Members → Option ℕ
@@ -105,7 +106,7 @@ model_or_strict document =
 
 abbrev pub parsed_model : Members → Option ConsistencyModel
 parsed_model document =
-    where_checked are_transactions Key.Model document (model_or_strict document)
+    where_workload are_transactions Key.Model document (model_or_strict document)
 
 -- when an entry is due: after so many answered calls, or at `[:ms T]`, so many milliseconds after the
 -- test began

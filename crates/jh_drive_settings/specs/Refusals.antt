@@ -7,7 +7,8 @@ use Rattle.jh_settings.specs.declared.keys.Key.{Key}
 use Rattle.jh_settings.specs.Parsed.{IsParsedStart, IsParsedGenerator, parsed_clients, parsed_seed}
 use Rattle.jh_settings.specs.Parsed.{parsed_budget}
 use Rattle.jh_test_parts.specs.declared.parts.TestEntry.{TestEntry}
-use Rattle.jh_drive_settings.specs.Parsed.{parsed_checker, parsed_test_ops, parsed_time_limit}
+use Rattle.jh_drive_settings.specs.Parsed.{parsed_test_workload, parsed_test_ops}
+use Rattle.jh_drive_settings.specs.Parsed.{parsed_time_limit}
 use Rattle.jh_drive_settings.specs.Parsed.{parsed_rate, parsed_threads_per_key, parsed_ops_per_key}
 use Rattle.jh_drive_settings.specs.Parsed.{parsed_recovery, IsParsedFinal, parsed_test_initial}
 use Rattle.jh_drive_settings.specs.Parsed.{parsed_keys, parsed_max_txn, parsed_appends_per_key}
@@ -18,7 +19,7 @@ use Rattle.jh_drive_settings.specs.Parsed.{parsed_model, IsParsedTestSchedule}
 -- the start. A key of `run` alone is none of a test.
 abbrev pub IsGoodForTest : Members → Key → Type 0
 IsGoodForTest document Key.Start = (env : EnvValue) × IsParsedStart document env
-IsGoodForTest document Key.Workload = IsSome (parsed_checker document)
+IsGoodForTest document Key.Workload = IsSome (parsed_test_workload document)
 IsGoodForTest document Key.Generator = (g : Generator) × IsParsedGenerator document g
 IsGoodForTest document Key.Clients = IsSome (parsed_clients document)
 IsGoodForTest document Key.Ops = IsSome (parsed_test_ops document)

@@ -13,7 +13,8 @@ use Rattle.jh_settings.specs.Parsed.{IsParsedStart, IsParsedGenerator, parsed_cl
 use Rattle.jh_settings.specs.Parsed.{parsed_budget}
 use Rattle.jh_settings.specs.Refusals.{AreGood, IsFirstBadKey, RefusesSpelled}
 use Rattle.jh_test_parts.specs.Test.{TestValue, IsFitTest, FitsKeys, HasTestGenerator, FitsFinal}
-use Rattle.jh_drive_settings.specs.Parsed.{parsed_checker, parsed_test_ops, parsed_time_limit}
+use Rattle.jh_drive_settings.specs.Parsed.{parsed_test_workload, parsed_test_ops}
+use Rattle.jh_drive_settings.specs.Parsed.{parsed_time_limit}
 use Rattle.jh_drive_settings.specs.Parsed.{parsed_rate, parsed_threads_per_key, parsed_ops_per_key}
 use Rattle.jh_drive_settings.specs.Parsed.{parsed_recovery, IsParsedFinal, parsed_test_initial}
 use Rattle.jh_drive_settings.specs.Parsed.{parsed_keys, parsed_max_txn, parsed_appends_per_key}
@@ -23,7 +24,7 @@ use Rattle.jh_drive_settings.specs.Refusals.{IsGoodForTest}
 -- each part of a test is what a document means under its key
 pub record IsParsedTest (document : Members) (test : TestValue) : Type 0 where
   pub start : IsParsedStart document test.start
-  pub workload : parsed_checker document ≡ Some test.checker
+  pub workload : parsed_test_workload document ≡ Some test.workload
   pub generator : IsParsedGenerator document test.generator
   pub clients : parsed_clients document ≡ Some test.clients
   pub ops : parsed_test_ops document ≡ Some test.ops

@@ -10,42 +10,43 @@ ghost use Rattle.jh_settings.specs.Readers.{IsValueParsed, RefusesValue};
 ghost use Rattle.jh_settings.specs.declared.error.SettingsError.TheVariants.{BadValue};
 ghost use Rattle.jh_drive_settings.specs.Parsed as rule;
 ghost use Rattle.jh_drive_settings.specs.Parsed.{IsParsedFinal, parsed_model, parsed_test_initial};
-ghost use Rattle.jh_drive_settings.specs.Parsed.{parsed_checker};
+ghost use Rattle.jh_drive_settings.specs.Parsed.{parsed_test_workload};
 
-use jh_checkers::{Checker, model_named};
+use jh_checkers::model_named;
 use jh_gen::Gen;
 use jh_settings::{
     Key, SettingsError, generator_under, initial_under, is_missing, text_under, value_under,
 };
+use jh_test_parts::TestWorkload;
 use jh_txn::ConsistencyModel;
 use std::alloc::Global;
 use toml::Table;
 
 /// What is asked of the database, under `workload`.
-pub(crate) fn checker_under(table: &Table) -> Result<Checker, SettingsError>
-    ensures { IsValueParsed result Key.Workload (parsed_checker (table_view table.now)) }
+pub(crate) fn test_workload_under(table: &Table) -> Result<TestWorkload, SettingsError>
+    ensures { IsValueParsed result Key.Workload (parsed_test_workload (table_view table.now)) }
 {
     let Some(choice) = text_under(table, Key::Workload) else {
         return Err(SettingsError::BadValue(Key::Workload));
     };
-    match Checker::named(choice) {
-        Some(checker) => Ok(checker),
+    match TestWorkload::named(choice) {
+        Some(workload) => Ok(workload),
         None => Err(SettingsError::BadValue(Key::Workload)),
     }
 }
 
 /// Whether the database is a register.
-pub(crate) fn is_register_checker(checker: Checker) -> bool
-    ensures { result ≡ rule.is_register_checker checker }
+pub(crate) fn is_register_workload(workload: TestWorkload) -> bool
+    ensures { result ≡ rule.is_register_workload workload }
 {
-    matches!(checker, Checker::Register)
+    matches!(workload, TestWorkload::Register)
 }
 
 /// Whether transactions are asked of the database.
-pub(crate) fn are_transactions(checker: Checker) -> bool
-    ensures { result ≡ rule.are_transactions checker }
+pub(crate) fn are_transactions(workload: TestWorkload) -> bool
+    ensures { result ≡ rule.are_transactions workload }
 {
-    matches!(checker, Checker::ListAppend)
+    matches!(workload, TestWorkload::ListAppend)
 }
 
 /// Judges whether a value may stand under a key, and refuses it where none may. (Settings are
@@ -77,12 +78,12 @@ pub(crate) fn final_under(alloc: Global, table: &Table) -> Result<Option<Gen>, S
 /// What a register holds at first, under `initial`, and nothing where nothing stands there.
 pub(crate) fn test_initial_under(
     table: &Table,
-    checker: Checker,
+    workload: TestWorkload,
 ) -> Result<Option<i64>, SettingsError>
-    requires { parsed_checker (table_view table.now) ≡ Some checker }
+    requires { parsed_test_workload (table_view table.now) ≡ Some workload }
     ensures { IsValueParsed result Key.Initial (parsed_test_initial (table_view table.now)) }
 {
-    initial_under(table, is_register_checker(checker))
+    initial_under(table, is_register_workload(workload))
 }
 
 /// The model that is named, and the strict one where nothing stands under `model`.
@@ -104,11 +105,11 @@ fn model_or_strict(table: &Table) -> Result<ConsistencyModel, SettingsError>
 /// What transactions are to keep, under `model`.
 pub(crate) fn model_under(
     table: &Table,
-    checker: Checker,
+    workload: TestWorkload,
 ) -> Result<ConsistencyModel, SettingsError>
-    requires { parsed_checker (table_view table.now) ≡ Some checker }
+    requires { parsed_test_workload (table_view table.now) ≡ Some workload }
     ensures { IsValueParsed result Key.Model (parsed_model (table_view table.now)) }
 {
-    judge_standing(table, Key::Model, are_transactions(checker))?;
+    judge_standing(table, Key::Model, are_transactions(workload))?;
     model_or_strict(table)
 }

@@ -6,12 +6,13 @@ ghost use Rattle.toml.specs.View.{table_view};
 ghost use Rattle.jh_settings.specs.Readers.{IsValueParsed};
 ghost use Rattle.jh_drive_settings.specs.Parsed as rule;
 ghost use Rattle.jh_drive_settings.specs.Parsed.{parsed_rate, parsed_recovery, parsed_test_ops};
-ghost use Rattle.jh_drive_settings.specs.Parsed.{parsed_share, parsed_checker, parsed_time_limit};
+ghost use Rattle.jh_drive_settings.specs.Parsed.{parsed_share, parsed_test_workload};
+ghost use Rattle.jh_drive_settings.specs.Parsed.{parsed_time_limit};
 
 use crate::choices::{are_transactions, judge_standing};
-use jh_checkers::Checker;
 use jh_gen::MAX_CALLS;
 use jh_settings::{Key, SettingsError, number_or, number_under, value_under, whole_in};
+use jh_test_parts::TestWorkload;
 use toml::Table;
 
 /// The latest moment of a test, in milliseconds: a day. So is `MAX_SPREAD_MS` of `jh_arguments`,
@@ -71,13 +72,13 @@ pub(crate) fn rate_under(table: &Table) -> Result<Option<u32>, SettingsError>
 pub(crate) fn share_under(
     table: &Table,
     key: Key,
-    checker: Checker,
+    workload: TestWorkload,
     most: u32,
 ) -> Result<Option<u32>, SettingsError>
-    requires { parsed_checker (table_view table.now) ≡ Some checker }
+    requires { parsed_test_workload (table_view table.now) ≡ Some workload }
     ensures { IsValueParsed result key (parsed_share most key (table_view table.now)) }
 {
-    judge_standing(table, key, !are_transactions(checker))?;
+    judge_standing(table, key, !are_transactions(workload))?;
     optional_number(table, key, 1, most)
 }
 
@@ -95,16 +96,16 @@ pub(crate) fn recovery_under(table: &Table) -> Result<u32, SettingsError>
 pub(crate) fn transaction_number(
     table: &Table,
     key: Key,
-    checker: Checker,
+    workload: TestWorkload,
     default: u32,
     most: u32,
 ) -> Result<u32, SettingsError>
     requires default { default ≤ most }
-    requires checker { parsed_checker (table_view table.now) ≡ Some checker }
+    requires workload { parsed_test_workload (table_view table.now) ≡ Some workload }
     ensures { IsValueParsed result key
         (rule.transaction_number default most key (table_view table.now)) }
 {
-    judge_standing(table, key, are_transactions(checker))?;
+    judge_standing(table, key, are_transactions(workload))?;
     let number = number_or(table, key, u64::from(default), 1, u64::from(most))?;
     Ok(number as u32)
 }

@@ -1,16 +1,15 @@
 //! What settings mean, some keys after others in their order. `specs/Inside.antt` says which keys.
 
-use jh_checkers::Checker;
 use jh_env::Env;
 use jh_gen::Gen;
-use jh_test_parts::{TestEntry, TransactionShape};
+use jh_test_parts::{TestEntry, TestWorkload, TransactionShape};
 use jh_txn::ConsistencyModel;
 
 /// What is asked of the database.
 #[derive(Drop)]
 pub(crate) struct Asked {
     pub environment: Env,
-    pub checker: Checker,
+    pub workload: TestWorkload,
     pub generator: Gen,
 }
 

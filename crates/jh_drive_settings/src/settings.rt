@@ -12,18 +12,17 @@ ghost use Rattle.jh_drive_settings.specs.Inside as inside;
 ghost use Rattle.jh_drive_settings.specs.Inside.{AreParsedDetails, AreParsedParts, IsParsedAsked};
 ghost use Rattle.jh_drive_settings.specs.Inside.{IsParsedPace, RefusesAllowed, RefusesAsTest};
 ghost use Rattle.jh_drive_settings.specs.Inside.{RefusesDriveValues, RefusesShares};
-ghost use Rattle.jh_drive_settings.specs.Parsed.{parsed_checker};
+ghost use Rattle.jh_drive_settings.specs.Parsed.{parsed_test_workload};
 ghost use Rattle.jh_drive_settings.specs.Refusals.{IsGoodForTest};
 ghost use Rattle.jh_drive_settings.specs.Settings.{AreDriveSettings, AreDriveSettingsOf};
 ghost use Rattle.jh_drive_settings.specs.Settings.{IsFinalAllowed, RefusesDriveSettings};
 
-use crate::choices::{checker_under, final_under, model_under, test_initial_under};
+use crate::choices::{final_under, model_under, test_initial_under, test_workload_under};
 use crate::numbers::{
     rate_under, recovery_under, share_under, test_ops_under, time_limit_under, transaction_number,
 };
 use crate::parts::{Asked, Details, Pace, Parts};
 use crate::schedule::TestFormat;
-use jh_checkers::Checker;
 use jh_gen::{Gen, MAX_CALLS, MAX_CLIENTS};
 use jh_settings::{
     Key, SettingsError, budget_under, clients_under, drive_keys, entries_under, generator_under,
@@ -31,7 +30,7 @@ use jh_settings::{
 };
 use jh_test_parts::{
     KeyShares, MAX_KEY_APPENDS, MAX_TRANSACTION_KEYS, MAX_TRANSACTION_OPS, Test, TestData,
-    TestError, TransactionShape,
+    TestError, TestWorkload, TransactionShape,
 };
 use jh_txn::ConsistencyModel;
 use std::alloc::Global;
@@ -56,19 +55,19 @@ fn asked_of(alloc: Global, table: &Table) -> Result<Asked, SettingsError>
         (RefusesKeyValues (IsGoodForTest (table_view table.now)) inside.asked_keys) }
 {
     let environment = start_under(alloc, table)?;
-    let checker = checker_under(table)?;
+    let workload = test_workload_under(table)?;
     let generator = generator_under(alloc, table, Key::Generator)?;
     Ok(Asked {
         environment,
-        checker,
+        workload,
         generator,
     })
 }
 
 /// What a table means under `clients`, `ops`, `time_limit`, `rate`, `threads_per_key`, `ops_per_key`
 /// and `recovery`.
-fn pace_of(table: &Table, checker: Checker) -> Result<Pace, SettingsError>
-    requires { parsed_checker (table_view table.now) ≡ Some checker }
+fn pace_of(table: &Table, workload: TestWorkload) -> Result<Pace, SettingsError>
+    requires { parsed_test_workload (table_view table.now) ≡ Some workload }
     ensures { MatchResult result
         (IsParsedPace (table_view table.now))
         (RefusesKeyValues (IsGoodForTest (table_view table.now)) inside.pace_keys) }
@@ -77,8 +76,8 @@ fn pace_of(table: &Table, checker: Checker) -> Result<Pace, SettingsError>
     let ops = test_ops_under(table)?;
     let time_limit = time_limit_under(table)?;
     let rate = rate_under(table)?;
-    let threads_per_key = share_under(table, Key::ThreadsPerKey, checker, MAX_CLIENTS)?;
-    let ops_per_key = share_under(table, Key::OpsPerKey, checker, MAX_CALLS)?;
+    let threads_per_key = share_under(table, Key::ThreadsPerKey, workload, MAX_CLIENTS)?;
+    let ops_per_key = share_under(table, Key::OpsPerKey, workload, MAX_CALLS)?;
     let recovery = recovery_under(table)?;
     Ok(Pace {
         clients,
@@ -92,15 +91,15 @@ fn pace_of(table: &Table, checker: Checker) -> Result<Pace, SettingsError>
 }
 
 /// What a table means under `keys`, `max_txn` and `appends_per_key`.
-fn shape_of(table: &Table, checker: Checker) -> Result<TransactionShape, SettingsError>
-    requires { parsed_checker (table_view table.now) ≡ Some checker }
+fn shape_of(table: &Table, workload: TestWorkload) -> Result<TransactionShape, SettingsError>
+    requires { parsed_test_workload (table_view table.now) ≡ Some workload }
     ensures { MatchResult result
         (inside.IsParsedShape (table_view table.now))
         (RefusesKeyValues (IsGoodForTest (table_view table.now)) inside.shape_keys) }
 {
-    let keys = transaction_number(table, Key::Keys, checker, 4, MAX_TRANSACTION_KEYS)?;
-    let most = transaction_number(table, Key::MaxTxn, checker, 4, MAX_TRANSACTION_OPS)?;
-    let appends = transaction_number(table, Key::AppendsPerKey, checker, 32, MAX_KEY_APPENDS)?;
+    let keys = transaction_number(table, Key::Keys, workload, 4, MAX_TRANSACTION_KEYS)?;
+    let most = transaction_number(table, Key::MaxTxn, workload, 4, MAX_TRANSACTION_OPS)?;
+    let appends = transaction_number(table, Key::AppendsPerKey, workload, 32, MAX_KEY_APPENDS)?;
     Ok(TransactionShape {
         keys,
         most,
@@ -110,15 +109,15 @@ fn shape_of(table: &Table, checker: Checker) -> Result<TransactionShape, Setting
 
 /// What a table means under `initial`, `keys`, `max_txn`, `appends_per_key`, `model`, `seed` and
 /// `budget`.
-fn details_of(table: &Table, checker: Checker) -> Result<Details, SettingsError>
-    requires { parsed_checker (table_view table.now) ≡ Some checker }
+fn details_of(table: &Table, workload: TestWorkload) -> Result<Details, SettingsError>
+    requires { parsed_test_workload (table_view table.now) ≡ Some workload }
     ensures { MatchResult result
         (AreParsedDetails (table_view table.now))
         (RefusesKeyValues (IsGoodForTest (table_view table.now)) inside.detail_keys) }
 {
-    let initial = test_initial_under(table, checker)?;
-    let transactions = shape_of(table, checker)?;
-    let model = model_under(table, checker)?;
+    let initial = test_initial_under(table, workload)?;
+    let transactions = shape_of(table, workload)?;
+    let model = model_under(table, workload)?;
     let seed = seed_under(table)?;
     let budget = budget_under(table)?;
     Ok(Details {
@@ -137,9 +136,9 @@ fn parts_of(alloc: Global, table: &Table) -> Result<Parts, SettingsError>
         (RefusesKeyValues (IsGoodForTest (table_view table.now)) drive_keys) }
 {
     let asked = asked_of(alloc, table)?;
-    let pace = pace_of(table, asked.checker)?;
+    let pace = pace_of(table, asked.workload)?;
     let final_calls = final_under(alloc, table)?;
-    let details = details_of(table, asked.checker)?;
+    let details = details_of(table, asked.workload)?;
     let schedule = entries_under::<TestFormat>(alloc, table, asked.environment.nodes())?;
     Ok(Parts {
         asked,
@@ -179,7 +178,7 @@ fn data_of(parts: Parts, keys: Option<KeyShares>) -> TestData
     } = parts;
     TestData {
         environment: asked.environment,
-        checker: asked.checker,
+        workload: asked.workload,
         generator: asked.generator,
         final_calls,
         clients: pace.clients,
@@ -277,7 +276,7 @@ fn settings_in(alloc: Global, table: &Table) -> Result<DriveSettings, SettingsEr
 /// `drive_keys`; `Missing` with the first needed key that does not stand there; `BadValue` with the
 /// first key, in their order, whose value is bad by itself; `Missing` with `ThreadsPerKey` or
 /// `OpsPerKey` where only the other one stands there; `BadValue` with `ThreadsPerKey` where it does
-/// not divide the clients, with `Generator` and then with `Final` where it does not suit the checker
+/// not divide the clients, with `Generator` and then with `Final` where it does not suit the workload
 /// and the number of clients (`Gen::suits`), and with `Final` also where keys are independent;
 /// `OutOfMemory` where memory was refused before another error was found.
 pub fn drive_settings_of(alloc: Global, bytes: &[u8]) -> Result<DriveSettings, SettingsError>

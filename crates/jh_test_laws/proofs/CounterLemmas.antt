@@ -6,7 +6,6 @@ use Rattle.std.specs.Option.{option_map, option_map_or}
 use Rattle.std.proofs.lemmas.Bool.{and_parts, cond_both, false≢true}
 use Rattle.jh_check.specs.CounterResults.{IsEarliest, add_error, asks, value_error, end_place, errors_in, has_ended, is_ok_read, read_error, value_at}
 use Rattle.jh_check.specs.declared.error.CheckError.{CheckError}
-use Rattle.jh_checkers.specs.declared.checker.Checker.TheVariants.{Counter}
 use Rattle.jh_edn.specs.Edn.{Edn, nil, boolean, int, char, str, keyword, symbol, list, vector, mapping, set, tagged, is_integer, is_keyword}
 use Rattle.jh_ops.specs.Operation.{Operation, is_kind}
 use Rattle.jh_ops.specs.Pairing.{history_pairs}
@@ -16,6 +15,7 @@ use Rattle.jh_ops.specs.declared.call.Request.{Request}
 use Rattle.jh_ops.specs.declared.call.Request.TheVariants.{Read, Write, Cas, Add, Generate, Txn}
 use Rattle.jh_ops.specs.declared.operation.Kind.{Kind}
 use Rattle.jh_ops.specs.declared.pairs.Pair.{Pair}
+use Rattle.jh_test_parts.specs.declared.workload.TestWorkload.TheVariants.{Counter}
 use Rattle.jh_test_laws.specs.HistoryInside.{AllFit, Invokes, Completes, IsAskedValue, suits_call}
 use Rattle.jh_test_laws.proofs.PairLemmas.{IsEndAt, IsPairOf, all_pairs}
 use Rattle.jh_test_laws.proofs.ReadLemmas.{good_read}

@@ -8,8 +8,6 @@ use Rattle.jh_check.specs.CounterResults.{error_of_pairing}
 use Rattle.jh_check.specs.declared.error.CheckError.{CheckError}
 use Rattle.jh_check.specs.declared.error.CheckError.TheVariants.{Pair, BadValue, NegativeAdd, RepeatedAppend, OutOfMemory}
 use Rattle.jh_checkers.specs.Findings.{RefusesChecking}
-use Rattle.jh_checkers.specs.declared.checker.Checker.{Checker}
-use Rattle.jh_checkers.specs.declared.checker.Checker.TheVariants.{Register, Counter, Set, Ids, ListAppend}
 use Rattle.jh_checkers.specs.declared.finding.Judging.{Judging}
 use Rattle.jh_conversation.specs.Laws.{Drivers, HistoryIsFormed, invocations_in, run}
 use Rattle.jh_conversation.specs.Offered.{CallsAreOffers}
@@ -30,7 +28,10 @@ use Rattle.jh_ops.specs.declared.pairs.PairError.{PairError}
 use Rattle.jh_ops.specs.declared.pairs.PairError.TheVariants as pairing
 use Rattle.jh_ops.proofs.PlaceLemmas.{not_well_formed}
 use Rattle.jh_test_parts.specs.Test.{IsFitTest, TestValue}
+use Rattle.jh_test_parts.specs.Workloads.{test_checker}
 use Rattle.jh_test_parts.specs.declared.parts.KeyShares.{KeyShares}
+use Rattle.jh_test_parts.specs.declared.workload.TestWorkload.{TestWorkload}
+use Rattle.jh_test_parts.specs.declared.workload.TestWorkload.TheVariants.{Register, Counter, Set, Ids, ListAppend}
 use Rattle.jh_test_laws.specs.HistoryInside.{AllFit, Invokes, InvokesBy, InvokesOfKey, Doing, Completes, CompletesBy, CompletesOfKey, FitsBehind, FitsDoing, doing}
 use Rattle.jh_test_laws.specs.TestHistory.{HistoriesAreFormed, HistoriesAreJudged, KeyHistoriesAreJudged, history_after}
 use Rattle.jh_test_laws.proofs.AppendLemmas.{never_repeated}
@@ -54,11 +55,11 @@ are_formed formed t d lines =
     subst IsWellFormed (sym (history_is t d lines))
     (well_formed Whatever WhateverEnds (reverse (newest t.start.names past)) (all_fit Whatever WhateverEnds (newest t.start.names past) (shaped_behind t t.start.names past (formed t d lines))))
 
-fits : HistoryIsFormed → CallsAreOffers → (t : TestValue) (d : Drivers t) (lines : List (List ℕ)) → IsFitTest t → AllFit (InvokesBy t.keys t.checker) (CompletesBy t.keys t.checker) [] (history_after t d lines)
+fits : HistoryIsFormed → CallsAreOffers → (t : TestValue) (d : Drivers t) (lines : List (List ℕ)) → IsFitTest t → AllFit (InvokesBy t.keys t.workload) (CompletesBy t.keys t.workload) [] (history_after t d lines)
 fits formed offers t d lines fit =
     let past = (run t d lines).history in
-    subst (AllFit (InvokesBy t.keys t.checker) (CompletesBy t.keys t.checker) []) (sym (history_is t d lines))
-    (all_fit (InvokesBy t.keys t.checker) (CompletesBy t.keys t.checker) (newest t.start.names past)
+    subst (AllFit (InvokesBy t.keys t.workload) (CompletesBy t.keys t.workload) []) (sym (history_is t d lines))
+    (all_fit (InvokesBy t.keys t.workload) (CompletesBy t.keys t.workload) (newest t.start.names past)
     (all_behind t t.start.names past (formed t d lines) (all_stand t d lines).asked (all_suit offers t d lines fit)))
 
 -- ---- one history
@@ -70,12 +71,12 @@ unpaired history formed (pairing.NoInvoke place) e h = not_well_formed history (
 unpaired history formed pairing.OutOfMemory e h = absurd cc
 
 -- no transaction appends what was appended before
-abbrev Once : Checker → List Operation → Type 0
+abbrev Once : TestWorkload → List Operation → Type 0
 Once ListAppend history = (place : ℕ) → IsRepeatedAt history (history_pairs history) place → ⊥
-Once checker history = Unit {0}
+Once workload history = Unit {0}
 
-never_refused : (checker : Checker) (history : List Operation) → AllFit (Invokes checker) (Completes checker) [] history → Once checker history → (e : CheckError) → RefusesChecking checker history e → e ≡ OutOfMemory
-never_refused checker history fits once OutOfMemory h = refl
+never_refused : (workload : TestWorkload) (history : List Operation) → AllFit (Invokes workload) (Completes workload) [] history → Once workload history → (e : CheckError) → RefusesChecking (test_checker workload) history e → e ≡ OutOfMemory
+never_refused workload history fits once OutOfMemory h = refl
 never_refused Register history fits once (Pair error) h = absurd (unpaired history (well_formed (Invokes Register) (Completes Register) history fits) error h.0 h.1)
 never_refused Register history fits once (BadValue place) h = absurd (never_bad history fits place h.1)
 never_refused Register history fits once (NegativeAdd place) h = absurd h
@@ -103,7 +104,7 @@ few_calls t d lines fit =
     let given = (all_stand t d lines).given in
     omega (arith, few, given)
 
-appends_once : HistoryIsFormed → (t : TestValue) (d : Drivers t) (lines : List (List ℕ)) → IsFitTest t → t.keys ≡ None → (checker : Checker) → Once checker (history_after t d lines)
+appends_once : HistoryIsFormed → (t : TestValue) (d : Drivers t) (lines : List (List ℕ)) → IsFitTest t → t.keys ≡ None → (workload : TestWorkload) → Once workload (history_after t d lines)
 appends_once formed t d lines fit none Register = tt
 appends_once formed t d lines fit none Counter = tt
 appends_once formed t d lines fit none Set = tt
@@ -116,13 +117,13 @@ appends_once formed t d lines fit none ListAppend =
 pub are_judged : HistoryIsFormed → CallsAreOffers → HistoriesAreJudged
 are_judged formed offers t d lines fit none e refused =
     let history = history_after t d lines in
-    let whole = subst (λ keys. AllFit (InvokesBy keys t.checker) (CompletesBy keys t.checker) [] history) none (fits formed offers t d lines fit) in
-    never_refused t.checker history whole (appends_once formed t d lines fit none t.checker) e refused
+    let whole = subst (λ keys. AllFit (InvokesBy keys t.workload) (CompletesBy keys t.workload) [] history) none (fits formed offers t d lines fit) in
+    never_refused t.workload history whole (appends_once formed t d lines fit none t.workload) e refused
 
 -- ---- by keys
 
-module _ (checker : Checker) where
-  has_tuple : (d : Doing) (kind : Kind) (op : Operation) → FitsDoing (InvokesOfKey checker) (CompletesOfKey checker) d kind op → is_some (tuple_of op.value) ≡ true
+module _ (workload : TestWorkload) where
+  has_tuple : (d : Doing) (kind : Kind) (op : Operation) → FitsDoing (InvokesOfKey workload) (CompletesOfKey workload) d kind op → is_some (tuple_of op.value) ≡ true
   has_tuple Doing.Idle Kind.Invoke op h = ap is_some h.1
   has_tuple Doing.Idle Kind.Ok op h = absurd h
   has_tuple Doing.Idle Kind.Fail op h = absurd h
@@ -136,11 +137,11 @@ module _ (checker : Checker) where
   has_tuple Doing.Gone Kind.Fail op h = absurd h
   has_tuple Doing.Gone Kind.Info op h = absurd h
 
-  never_bad_tuple : (past : List Operation) (op : Operation) (process : Process) → FitsBehind (InvokesOfKey checker) (CompletesOfKey checker) past process op → (is_client process && not (is_some (tuple_of op.value))) ≡ true → ⊥
+  never_bad_tuple : (past : List Operation) (op : Operation) (process : Process) → FitsBehind (InvokesOfKey workload) (CompletesOfKey workload) past process op → (is_client process && not (is_some (tuple_of op.value))) ≡ true → ⊥
   never_bad_tuple past op Process.Nemesis h e = false≢true e
   never_bad_tuple past op (Process.Client n) h e = false≢true (sym (ap not (has_tuple (doing n past) op.kind op h)) ∙ e)
 
-  tuples : (past ops : List Operation) → AllFit (InvokesOfKey checker) (CompletesOfKey checker) past ops → (place : ℕ) (op : Operation) → slice_get ops place ≡ Some op → is_bad op ≡ true → ⊥
+  tuples : (past ops : List Operation) → AllFit (InvokesOfKey workload) (CompletesOfKey workload) past ops → (place : ℕ) (op : Operation) → slice_get ops place ≡ Some op → is_bad op ≡ true → ⊥
   tuples past [] h place op at bad = absurd (nothing place at)
     where
       nothing : (i : ℕ) → slice_get [] i ≡ Some op → ⊥
@@ -151,13 +152,13 @@ module _ (checker : Checker) where
       never_bad_tuple past x x.process h.0 bad_x
   tuples past (x ∷ ops) h (suc place) op at bad = tuples (x ∷ past) ops h.1 place op at bad
 
-  never_refused_key : (history : List Operation) → AllFit (InvokesOfKey checker) (CompletesOfKey checker) [] history → (checker ≡ ListAppend → ⊥) → (judging : Judging) → judging.checker ≡ checker
+  never_refused_key : (history : List Operation) → AllFit (InvokesOfKey workload) (CompletesOfKey workload) [] history → (workload ≡ ListAppend → ⊥) → (judging : Judging) → judging.checker ≡ test_checker workload
       → (error : KeysError) → RefusesKeys (keys_question judging history) error → (error ≡ keys_errors.Thread) ⊎ (error ≡ keys_errors.OutOfMemory)
   never_refused_key history h other judging is (keys_errors.BadValue place) (op, at, bad, before) = absurd (tuples [] history h place op at bad)
   never_refused_key history h other judging is (keys_errors.Key given) (split, (place, key, at, before, (inner, refused, not_memory, given_is))) =
-      absurd (not_memory (never_refused checker (history_of key history) (key_fits checker key history h) (once checker other) inner (subst (λ c. RefusesChecking c (history_of key history) inner) is refused)))
+      absurd (not_memory (never_refused workload (history_of key history) (key_fits workload key history h) (once workload other) inner (subst (λ c. RefusesChecking c (history_of key history) inner) is refused)))
     where
-      once : (c : Checker) → (c ≡ ListAppend → ⊥) → Once c (history_of key history)
+      once : (c : TestWorkload) → (c ≡ ListAppend → ⊥) → Once c (history_of key history)
       once Register other = tt
       once Counter other = tt
       once Set other = tt
@@ -169,6 +170,6 @@ module _ (checker : Checker) where
 pub key_are_judged : HistoryIsFormed → CallsAreOffers → KeyHistoriesAreJudged
 key_are_judged formed offers t d lines fit some other judging is error refused = go t.keys some (fits formed offers t d lines fit)
   where
-    go : (keys : Option KeyShares) → IsSome keys → AllFit (InvokesBy keys t.checker) (CompletesBy keys t.checker) [] (history_after t d lines) → (error ≡ keys_errors.Thread) ⊎ (error ≡ keys_errors.OutOfMemory)
+    go : (keys : Option KeyShares) → IsSome keys → AllFit (InvokesBy keys t.workload) (CompletesBy keys t.workload) [] (history_after t d lines) → (error ≡ keys_errors.Thread) ⊎ (error ≡ keys_errors.OutOfMemory)
     go None s h = absurd (false≢true s)
-    go (Some shares) s h = never_refused_key t.checker (history_after t d lines) h other judging is error refused
+    go (Some shares) s h = never_refused_key t.workload (history_after t d lines) h other judging is error refused

@@ -6,7 +6,6 @@ use Rattle.std.specs.Option.{option_map_or}
 use Rattle.std.specs.Ordering.{is_eq}
 use Rattle.std.proofs.lemmas.Bool.{false≢true}
 use Rattle.jh_check.specs.Distinct.{is_same}
-use Rattle.jh_checkers.specs.declared.checker.Checker.{Checker}
 use Rattle.jh_edn.specs.Edn.{Edn, nil}
 use Rattle.jh_edn.specs.Key.{key_cmp}
 use Rattle.jh_edn.specs.Normal.{normal}
@@ -19,6 +18,7 @@ use Rattle.jh_ops.specs.Pairing.{is_of_client}
 use Rattle.jh_ops.specs.declared.operation.Kind.{Kind}
 use Rattle.jh_ops.specs.declared.operation.Process.{Process}
 use Rattle.jh_txn_histories.specs.Written.{is_equal}
+use Rattle.jh_test_parts.specs.declared.workload.TestWorkload.{TestWorkload}
 use Rattle.jh_test_laws.specs.HistoryInside.{AllFit, Invokes, InvokesOfKey, InvokesValue, Doing, Completes, CompletesOfKey, CompletesOk, FitsBehind, FitsDoing, doing, doing_after}
 use Rattle.jh_test_laws.proofs.TupleLemmas.{equal_is}
 
@@ -79,24 +79,24 @@ busy_client n (op ∷ past) call e = go (is_of_client n op.process) refl (busy_c
     go true own earlier = by_kind op.kind own (sym (ap (λ b. if b then doing_after op.kind op else doing n past) own) ∙ e)
     go false own earlier = earlier (sym (ap (λ b. if b then doing_after op.kind op else doing n past) own) ∙ e)
 
-module _ (checker : Checker) (key : Edn) where
+module _ (workload : TestWorkload) (key : Edn) where
   -- what a client does among all operations, and among those of the key
   abbrev Near : Doing → Doing → Type 0
   Near Doing.Idle kept = kept ≡ Doing.Idle
   Near (Doing.Busy call) kept = kept ≡ (if has_key key call then Doing.Busy (operation_without_key call) else Doing.Idle)
   Near Doing.Gone kept = Unit {0}
 
-  asks_without : (op : Operation) → InvokesOfKey checker op → Invokes checker (operation_without_key op)
-  asks_without op (tuple, is, asks) = subst (InvokesValue checker op.f) (sym (value_is op tuple is)) asks
+  asks_without : (op : Operation) → InvokesOfKey workload op → Invokes workload (operation_without_key op)
+  asks_without op (tuple, is, asks) = subst (InvokesValue workload op.f) (sym (value_is op tuple is)) asks
 
-  ends_without : (call op : Operation) → CompletesOfKey checker call op → Completes checker (operation_without_key call) (operation_without_key op)
+  ends_without : (call op : Operation) → CompletesOfKey workload call op → Completes workload (operation_without_key call) (operation_without_key op)
   ends_without call op (asked, answer, is, at, same, f, ok) = (
     f,
-    subst (λ v. CompletesOk checker call.f v (value_of op.value) op.kind) (sym (value_is call asked is))
-        (subst (λ v. CompletesOk checker call.f asked.1 v op.kind) (sym (value_is op answer at)) ok),
+    subst (λ v. CompletesOk workload call.f v (value_of op.value) op.kind) (sym (value_is call asked is))
+        (subst (λ v. CompletesOk workload call.f asked.1 v op.kind) (sym (value_is op answer at)) ok),
   )
 
-  same_key : (call op : Operation) → is_client call.process ≡ true → is_client op.process ≡ true → CompletesOfKey checker call op → has_key key call ≡ has_key key op
+  same_key : (call op : Operation) → is_client call.process ≡ true → is_client op.process ≡ true → CompletesOfKey workload call op → has_key key call ≡ has_key key op
   same_key call op one other (asked, answer, is, at, same, f, ok) =
       key_is key call asked one is ∙ (same_as key asked.0 answer.0 same ∙ sym (key_is key op answer other at))
 
@@ -114,22 +114,22 @@ module _ (checker : Checker) (key : Edn) where
 
   -- an operation of the key fits among those of the key
   fits_without : (n : ℕ) (past : List Operation) (op : Operation) (d kept : Doing) (kind : Kind) → doing n past ≡ d → is_client op.process ≡ true → has_key key op ≡ true → Near d kept
-      → FitsDoing (InvokesOfKey checker) (CompletesOfKey checker) d kind op → FitsDoing (Invokes checker) (Completes checker) kept kind (operation_without_key op)
+      → FitsDoing (InvokesOfKey workload) (CompletesOfKey workload) d kind op → FitsDoing (Invokes workload) (Completes workload) kept kind (operation_without_key op)
   fits_without n past op Doing.Idle kept Kind.Invoke is client own near fits =
-      subst (λ x. FitsDoing (Invokes checker) (Completes checker) x Kind.Invoke (operation_without_key op)) (sym near) (asks_without op fits)
+      subst (λ x. FitsDoing (Invokes workload) (Completes workload) x Kind.Invoke (operation_without_key op)) (sym near) (asks_without op fits)
   fits_without n past op Doing.Idle kept Kind.Ok is client own near fits = absurd fits
   fits_without n past op Doing.Idle kept Kind.Fail is client own near fits = absurd fits
   fits_without n past op Doing.Idle kept Kind.Info is client own near fits = absurd fits
   fits_without n past op (Doing.Busy call) kept Kind.Invoke is client own near fits = absurd fits
   fits_without n past op (Doing.Busy call) kept Kind.Ok is client own near fits =
-      subst (λ x. FitsDoing (Invokes checker) (Completes checker) x Kind.Ok (operation_without_key op)) (sym (near_busy (Doing.Busy call) kept call true near refl (same_key call op (busy_client n past call is) client fits ∙ own))) (ends_without call op fits)
+      subst (λ x. FitsDoing (Invokes workload) (Completes workload) x Kind.Ok (operation_without_key op)) (sym (near_busy (Doing.Busy call) kept call true near refl (same_key call op (busy_client n past call is) client fits ∙ own))) (ends_without call op fits)
   fits_without n past op (Doing.Busy call) kept Kind.Fail is client own near fits =
-      subst (λ x. FitsDoing (Invokes checker) (Completes checker) x Kind.Fail (operation_without_key op)) (sym (near_busy (Doing.Busy call) kept call true near refl (same_key call op (busy_client n past call is) client fits ∙ own))) (ends_without call op fits)
+      subst (λ x. FitsDoing (Invokes workload) (Completes workload) x Kind.Fail (operation_without_key op)) (sym (near_busy (Doing.Busy call) kept call true near refl (same_key call op (busy_client n past call is) client fits ∙ own))) (ends_without call op fits)
   fits_without n past op (Doing.Busy call) kept Kind.Info is client own near fits =
-      subst (λ x. FitsDoing (Invokes checker) (Completes checker) x Kind.Info (operation_without_key op)) (sym (near_busy (Doing.Busy call) kept call true near refl (same_key call op (busy_client n past call is) client fits ∙ own))) (ends_without call op fits)
+      subst (λ x. FitsDoing (Invokes workload) (Completes workload) x Kind.Info (operation_without_key op)) (sym (near_busy (Doing.Busy call) kept call true near refl (same_key call op (busy_client n past call is) client fits ∙ own))) (ends_without call op fits)
   fits_without n past op Doing.Gone kept kind is client own near fits = absurd (never_gone kind fits)
     where
-      never_gone : (k : Kind) → FitsDoing (InvokesOfKey checker) (CompletesOfKey checker) Doing.Gone k op → ⊥
+      never_gone : (k : Kind) → FitsDoing (InvokesOfKey workload) (CompletesOfKey workload) Doing.Gone k op → ⊥
       never_gone Kind.Invoke fits = fits
       never_gone Kind.Ok fits = fits
       never_gone Kind.Fail fits = fits
@@ -137,7 +137,7 @@ module _ (checker : Checker) (key : Edn) where
 
   -- behind an operation of its own, of the key or of another one, a client stands near too
   near_own : (n : ℕ) (past : List Operation) (op : Operation) (d kept : Doing) (kind : Kind) (own : Bool) → doing n past ≡ d → is_client op.process ≡ true → has_key key op ≡ own → Near d kept
-      → FitsDoing (InvokesOfKey checker) (CompletesOfKey checker) d kind op → Near (doing_after kind op) (if own then doing_after kind (operation_without_key op) else kept)
+      → FitsDoing (InvokesOfKey workload) (CompletesOfKey workload) d kind op → Near (doing_after kind op) (if own then doing_after kind (operation_without_key op) else kept)
   near_own n past op d kept Kind.Invoke true is client own near fits = sym (ap (λ b. if b then Doing.Busy (operation_without_key op) else Doing.Idle) own)
   near_own n past op d kept Kind.Ok true is client own near fits = refl
   near_own n past op d kept Kind.Fail true is client own near fits = refl
@@ -160,13 +160,13 @@ module _ (checker : Checker) (key : Edn) where
   abbrev behind : Bool → Operation → List Operation → List Operation
   behind own op past = if own then operation_without_key op ∷ of_key key past else of_key key past
 
-  near_next : (past : List Operation) (op : Operation) (own : Bool) → has_key key op ≡ own → AllNear past → FitsBehind (InvokesOfKey checker) (CompletesOfKey checker) past op.process op
+  near_next : (past : List Operation) (op : Operation) (own : Bool) → has_key key op ≡ own → AllNear past → FitsBehind (InvokesOfKey workload) (CompletesOfKey workload) past op.process op
       → (n : ℕ) → Near (doing n (op ∷ past)) (doing n (behind own op past))
   near_next past op own is near fits n = go (is_of_client n op.process) refl
     where
-      mine : (process : Process) → is_of_client n process ≡ true → FitsBehind (InvokesOfKey checker) (CompletesOfKey checker) past process op → FitsDoing (InvokesOfKey checker) (CompletesOfKey checker) (doing n past) op.kind op
+      mine : (process : Process) → is_of_client n process ≡ true → FitsBehind (InvokesOfKey workload) (CompletesOfKey workload) past process op → FitsDoing (InvokesOfKey workload) (CompletesOfKey workload) (doing n past) op.kind op
       mine Process.Nemesis e f = absurd (false≢true e)
-      mine (Process.Client m) e f = subst (λ k. FitsDoing (InvokesOfKey checker) (CompletesOfKey checker) (doing k past) op.kind op) (sym (eqb-true n m e)) f
+      mine (Process.Client m) e f = subst (λ k. FitsDoing (InvokesOfKey workload) (CompletesOfKey workload) (doing k past) op.kind op) (sym (eqb-true n m e)) f
 
       -- the operations of the key behind it, seen by this client
       seen : (b c : Bool) → has_key key op ≡ b → is_of_client n op.process ≡ c → doing n (behind b op past) ≡ (if c then (if b then doing_after op.kind (operation_without_key op) else doing n (of_key key past)) else doing n (of_key key past))
@@ -184,27 +184,27 @@ module _ (checker : Checker) (key : Edn) where
           subst (Near (doing n (op ∷ past))) (sym (seen own false is e))
           (subst (λ d. Near d (doing n (of_key key past))) (sym (ap (λ b. if b then doing_after op.kind op else doing n past) e)) (near n))
 
-  behind_without : (past : List Operation) (op : Operation) (process : Process) → op.process ≡ process → has_key key op ≡ true → AllNear past → FitsBehind (InvokesOfKey checker) (CompletesOfKey checker) past process op
-      → FitsBehind (Invokes checker) (Completes checker) (of_key key past) process (operation_without_key op)
+  behind_without : (past : List Operation) (op : Operation) (process : Process) → op.process ≡ process → has_key key op ≡ true → AllNear past → FitsBehind (InvokesOfKey workload) (CompletesOfKey workload) past process op
+      → FitsBehind (Invokes workload) (Completes workload) (of_key key past) process (operation_without_key op)
   behind_without past op Process.Nemesis is own near fits = tt
   behind_without past op (Process.Client n) is own near fits =
       fits_without n past op (doing n past) (doing n (of_key key past)) op.kind refl (ap is_client is) own (near n) fits
 
-  fits_from : (past ops : List Operation) → AllNear past → AllFit (InvokesOfKey checker) (CompletesOfKey checker) past ops → AllFit (Invokes checker) (Completes checker) (of_key key past) (of_key key ops)
+  fits_from : (past ops : List Operation) → AllNear past → AllFit (InvokesOfKey workload) (CompletesOfKey workload) past ops → AllFit (Invokes workload) (Completes workload) (of_key key past) (of_key key ops)
   fits_from past [] near h = tt
   fits_from past (op ∷ ops) near h = go (has_key key op) refl (fits_from (op ∷ past) ops (near_next past op (has_key key op) refl near h.0) h.1)
     where
-      go : (own : Bool) → has_key key op ≡ own → AllFit (Invokes checker) (Completes checker) (behind (has_key key op) op past) (of_key key ops) → AllFit (Invokes checker) (Completes checker) (of_key key past) (of_key key (op ∷ ops))
+      go : (own : Bool) → has_key key op ≡ own → AllFit (Invokes workload) (Completes workload) (behind (has_key key op) op past) (of_key key ops) → AllFit (Invokes workload) (Completes workload) (of_key key past) (of_key key (op ∷ ops))
       go true e rest =
-          let after : AllFit (Invokes checker) (Completes checker) (operation_without_key op ∷ of_key key past) (of_key key ops) =
-          subst (λ b. AllFit (Invokes checker) (Completes checker) (behind b op past) (of_key key ops)) e rest in
-          subst (λ b. AllFit (Invokes checker) (Completes checker) (of_key key past) (if b then operation_without_key op ∷ of_key key ops else of_key key ops)) (sym e)
+          let after : AllFit (Invokes workload) (Completes workload) (operation_without_key op ∷ of_key key past) (of_key key ops) =
+          subst (λ b. AllFit (Invokes workload) (Completes workload) (behind b op past) (of_key key ops)) e rest in
+          subst (λ b. AllFit (Invokes workload) (Completes workload) (of_key key past) (if b then operation_without_key op ∷ of_key key ops else of_key key ops)) (sym e)
           (behind_without past op op.process refl e near h.0, after)
       go false e rest =
-          let after : AllFit (Invokes checker) (Completes checker) (of_key key past) (of_key key ops) =
-          subst (λ b. AllFit (Invokes checker) (Completes checker) (behind b op past) (of_key key ops)) e rest in
-          subst (λ b. AllFit (Invokes checker) (Completes checker) (of_key key past) (if b then operation_without_key op ∷ of_key key ops else of_key key ops)) (sym e) after
+          let after : AllFit (Invokes workload) (Completes workload) (of_key key past) (of_key key ops) =
+          subst (λ b. AllFit (Invokes workload) (Completes workload) (behind b op past) (of_key key ops)) e rest in
+          subst (λ b. AllFit (Invokes workload) (Completes workload) (of_key key past) (if b then operation_without_key op ∷ of_key key ops else of_key key ops)) (sym e) after
 
   -- the history of a key
-  pub key_fits : (history : List Operation) → AllFit (InvokesOfKey checker) (CompletesOfKey checker) [] history → AllFit (Invokes checker) (Completes checker) [] (history_of key history)
-  key_fits history h = subst (AllFit (Invokes checker) (Completes checker) []) (sym (history_is key history)) (fits_from [] history (λ n. refl) h)
+  pub key_fits : (history : List Operation) → AllFit (InvokesOfKey workload) (CompletesOfKey workload) [] history → AllFit (Invokes workload) (Completes workload) [] (history_of key history)
+  key_fits history h = subst (AllFit (Invokes workload) (Completes workload) []) (sym (history_is key history)) (fits_from [] history (λ n. refl) h)

@@ -4,7 +4,6 @@ use mathlib.Core.Logic.{◌⊎◌, inl, inr}
 use Rattle.std.specs.Prelude.{Option, None, Some, option_and_then, pos, if◌then◌else◌}
 use Rattle.std.proofs.lemmas.Bool.{and_parts, cases_eq, false≢true, ne_eqb}
 use Rattle.std.proofs.lemmas.List.{append-nil, append_assoc, reverse-append}
-use Rattle.jh_checkers.specs.declared.checker.Checker.{Checker}
 use Rattle.jh_conversation.specs.Laws.{IsEndOfOpen, IsFormed, Status, after_end, status}
 use Rattle.jh_conversation.specs.Turn.{group_of, key_of_call, value_asked}
 use Rattle.jh_conversation.specs.Offered.{given_calls}
@@ -26,6 +25,7 @@ use Rattle.jh_test_parts.specs.declared.calls.ValuedCall.{ValuedCall}
 use Rattle.jh_test_parts.specs.declared.parts.KeyShares.{KeyShares}
 use Rattle.jh_test_parts.specs.declared.records.Recorded.{Recorded}
 use Rattle.jh_test_parts.specs.declared.records.Recorded.TheVariants.{Invoked, Ended, StepBegun, StepEnded}
+use Rattle.jh_test_parts.specs.declared.workload.TestWorkload.{TestWorkload}
 use Rattle.jh_txn_histories.specs.Written.{is_equal}
 use Rattle.jh_test_laws.specs.Asking.{AreAsked, calls_of_group, source_behind, with_key_in_turn}
 use Rattle.jh_test_laws.specs.HistoryInside.{AllFit, AllFitBehind, InvokesBy, Doing, CompletesBy, CompletesOk, FitsDoing, IsAskedValue, doing, doing_after, suits_call}
@@ -118,8 +118,8 @@ asked_value_is Generate source = refl
 asked_value_is Txn source = (transaction_written source, transaction_spells source)
 
 asks_by : (t : TestValue) (keys : Option KeyShares) (thread : ℕ) (past : List Recorded) (op : Operation) (request : Request) (source : TransactionSource)
-    → suits_call t.checker (Client request) ≡ true → op.f ≡ keyword (request_name request)
-    → op.value ≡ with_key_in_turn t keys thread past (value_asked source request) → InvokesBy keys t.checker op
+    → suits_call t.workload (Client request) ≡ true → op.f ≡ keyword (request_name request)
+    → op.value ≡ with_key_in_turn t keys thread past (value_asked source request) → InvokesBy keys t.workload op
 asks_by t None thread past op request source suits f value =
     (request, suits, f, subst (IsAskedValue request) (sym value) (asked_value_is request source))
 asks_by t (Some shares) thread past op request source suits f value =
@@ -166,16 +166,16 @@ calls_have_tuples t p (StepBegun time entry step cells ∷ past) h call e = call
 calls_have_tuples t p (StepEnded time entry code rest ∷ past) h call e = calls_have_tuples t p past h call e
 
 -- what a completion with a key fits
-with_key : (checker : Checker) (request : Request) (key asked value : Edn) (elements : Option (List Edn)) → elements_of value ≡ elements
-    → fits_with_key checker request (key ∷ asked ∷ []) elements ≡ true
-    → (answer : Edn × Edn) × (tuple_of value ≡ Some answer) × (is_equal key answer.0 ≡ true) × (fits_request checker request asked answer.1 ≡ true)
-with_key checker request key asked value None is e = absurd (false≢true e)
-with_key checker request key asked value (Some []) is e = absurd (false≢true e)
-with_key checker request key asked value (Some (x ∷ [])) is e = absurd (false≢true e)
-with_key checker request key asked value (Some (x ∷ y ∷ [])) is e =
-    let both = and_parts (is_equal key x) (fits_request checker request asked y) e in
+with_key : (workload : TestWorkload) (request : Request) (key asked value : Edn) (elements : Option (List Edn)) → elements_of value ≡ elements
+    → fits_with_key workload request (key ∷ asked ∷ []) elements ≡ true
+    → (answer : Edn × Edn) × (tuple_of value ≡ Some answer) × (is_equal key answer.0 ≡ true) × (fits_request workload request asked answer.1 ≡ true)
+with_key workload request key asked value None is e = absurd (false≢true e)
+with_key workload request key asked value (Some []) is e = absurd (false≢true e)
+with_key workload request key asked value (Some (x ∷ [])) is e = absurd (false≢true e)
+with_key workload request key asked value (Some (x ∷ y ∷ [])) is e =
+    let both = and_parts (is_equal key x) (fits_request workload request asked y) e in
     ((x, y), ap (λ o. option_and_then two_of o) is, both.0, both.1)
-with_key checker request key asked value (Some (x ∷ y ∷ z ∷ zs)) is e = absurd (false≢true e)
+with_key workload request key asked value (Some (x ∷ y ∷ z ∷ zs)) is e = absurd (false≢true e)
 
 -- the value fits the call, where keys are so
 abbrev fits_by : TestValue → Option KeyShares → Kind → ValuedCall → Edn → Bool
@@ -191,27 +191,27 @@ fits_is t Kind.Info call value e = e
 -- how a call of a test ends
 ends_by : (t : TestValue) (keys : Option KeyShares) (kind : Kind) (call : ValuedCall) (op asked : Operation) → op.kind ≡ kind
     → op.f ≡ keyword (request_name call.request) → asked.f ≡ keyword (request_name call.request) → asked.value ≡ call.value → HasTuple keys call.value
-    → fits_by t keys kind call op.value ≡ true → CompletesBy keys t.checker asked op
-ends_by t None kind call op asked is f g v tuple fits = (f ∙ sym g, subst (CompletesOk t.checker asked.f asked.value op.value) (sym is) (ok kind fits))
+    → fits_by t keys kind call op.value ≡ true → CompletesBy keys t.workload asked op
+ends_by t None kind call op asked is f g v tuple fits = (f ∙ sym g, subst (CompletesOk t.workload asked.f asked.value op.value) (sym is) (ok kind fits))
   where
-    ok : (k : Kind) → fits_by t None k call op.value ≡ true → CompletesOk t.checker asked.f asked.value op.value k
+    ok : (k : Kind) → fits_by t None k call op.value ≡ true → CompletesOk t.workload asked.f asked.value op.value k
     ok Kind.Invoke e = tt
-    ok Kind.Ok e = (call.request, g, subst (λ x. fits_request t.checker call.request x op.value ≡ true) (sym v) e)
+    ok Kind.Ok e = (call.request, g, subst (λ x. fits_request t.workload call.request x op.value ≡ true) (sym v) e)
     ok Kind.Fail e = tt
     ok Kind.Info e = tt
 ends_by t (Some shares) kind call op asked is f g v ((key, value), at) fits = go kind is fits
   where
-    by_tuple : (k : Kind) → op.kind ≡ k → (answer : Edn × Edn) → tuple_of op.value ≡ Some answer → is_equal key answer.0 ≡ true → CompletesOk t.checker asked.f value answer.1 k → CompletesBy (Some shares) t.checker asked op
-    by_tuple k is answer there same ok = ((key, value), answer, ap tuple_of (v ∙ at), there, same, f ∙ sym g, subst (CompletesOk t.checker asked.f value answer.1) (sym is) ok)
+    by_tuple : (k : Kind) → op.kind ≡ k → (answer : Edn × Edn) → tuple_of op.value ≡ Some answer → is_equal key answer.0 ≡ true → CompletesOk t.workload asked.f value answer.1 k → CompletesBy (Some shares) t.workload asked op
+    by_tuple k is answer there same ok = ((key, value), answer, ap tuple_of (v ∙ at), there, same, f ∙ sym g, subst (CompletesOk t.workload asked.f value answer.1) (sym is) ok)
 
     equal : is_equal call.value op.value ≡ true → IsTupleWith key op.value
     equal e = is_tuple key value op.value (subst (λ x. is_equal x op.value ≡ true) at e)
 
-    go : (k : Kind) → op.kind ≡ k → fits_by t (Some shares) k call op.value ≡ true → CompletesBy (Some shares) t.checker asked op
+    go : (k : Kind) → op.kind ≡ k → fits_by t (Some shares) k call op.value ≡ true → CompletesBy (Some shares) t.workload asked op
     go Kind.Invoke is e = let w = equal e in by_tuple Kind.Invoke is w.tuple w.is w.same tt
     go Kind.Ok is e =
-        let w = with_key t.checker call.request key value op.value (elements_of op.value) refl
-        (subst (λ x. fits_with_key t.checker call.request (list_or_none (elements_of x)) (elements_of op.value) ≡ true) at e) in
+        let w = with_key t.workload call.request key value op.value (elements_of op.value) refl
+        (subst (λ x. fits_with_key t.workload call.request (list_or_none (elements_of x)) (elements_of op.value) ≡ true) at e) in
         by_tuple Kind.Ok is w.0 w.1 w.2 (call.request, g, w.3)
     go Kind.Fail is e = let w = equal e in by_tuple Kind.Fail is w.tuple w.is w.same tt
     go Kind.Info is e = let w = equal e in by_tuple Kind.Info is w.tuple w.is w.same tt
@@ -234,9 +234,9 @@ fits_open t A E (Status.Busy call) (Doing.Busy asked) kind request op same h end
 
 fits_busy : (t : TestValue) (s : Status) (d : Doing) (kind : Kind) (request : Request) (op : Operation) → Same s d → IsEndOfOpen t s kind request op.value
     → op.kind ≡ kind → op.f ≡ keyword (request_name request) → ((call : ValuedCall) → s ≡ Status.Busy call → HasTuple t.keys call.value)
-    → FitsDoing (InvokesBy t.keys t.checker) (CompletesBy t.keys t.checker) d kind op
+    → FitsDoing (InvokesBy t.keys t.workload) (CompletesBy t.keys t.workload) d kind op
 fits_busy t s d kind request op same h is f tuples =
-    fits_open t (InvokesBy t.keys t.checker) (CompletesBy t.keys t.checker) s d kind request op same h
+    fits_open t (InvokesBy t.keys t.workload) (CompletesBy t.keys t.workload) s d kind request op same h
     (λ call asked busy like end.
     ends_by t t.keys kind call op asked is (f ∙ ap (λ r. keyword (request_name r)) end.1) like.0 like.1 (tuples call busy) (fits_is t kind call op.value end.2))
 
@@ -261,12 +261,12 @@ shaped_behind t names (StepBegun time entry step cells ∷ past) f = (tt, shaped
 shaped_behind t names (StepEnded time entry code rest ∷ past) f = (tt, shaped_behind t names past f)
 
 -- each operation of a test fits behind those before it
-pub all_behind : (t : TestValue) (names : List (List ℕ)) (past : List Recorded) → IsFormed t past → AreAsked t past → AllSuit t.checker (given_calls t past)
-    → AllFitBehind (InvokesBy t.keys t.checker) (CompletesBy t.keys t.checker) (newest names past)
+pub all_behind : (t : TestValue) (names : List (List ℕ)) (past : List Recorded) → IsFormed t past → AreAsked t past → AllSuit t.workload (given_calls t past)
+    → AllFitBehind (InvokesBy t.keys t.workload) (CompletesBy t.keys t.workload) (newest names past)
 all_behind t names [] f a s = tt
 all_behind t names (Invoked time process node call ∷ past) f a s =
     let op = operation_of_record names (length past) (Invoked time process node call) in (
-      fits_idle (InvokesBy t.keys t.checker) (CompletesBy t.keys t.checker) (status process past) (doing process (newest names past)) op f.0 (same_status t names process past f.1)
+      fits_idle (InvokesBy t.keys t.workload) (CompletesBy t.keys t.workload) (status process past) (doing process (newest names past)) op f.0 (same_status t names process past f.1)
           (asks_by t t.keys (thread_of_process t process) past op call.request (source_behind t past) s.0 refl a.1),
       all_behind t names past f.1 a.2 s.1,
     )

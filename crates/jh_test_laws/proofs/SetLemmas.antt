@@ -5,12 +5,12 @@ use Rattle.std.specs.List.{enumerate_from}
 use Rattle.std.proofs.lemmas.Bool.{and_parts, false≢true}
 use Rattle.std.proofs.lemmas.Option.{same_Some}
 use Rattle.jh_check.specs.SetResults.{elements_shown, final_read}
-use Rattle.jh_checkers.specs.declared.checker.Checker.TheVariants.{Set}
 use Rattle.jh_edn.specs.Edn.{Edn, nil, boolean, int, char, str, keyword, symbol, list, vector, mapping, set, tagged, is_keyword}
 use Rattle.jh_ops.specs.Operation.{Operation, is_asked, is_client, is_kind}
 use Rattle.jh_ops.specs.declared.operation.Kind.{Kind}
 use Rattle.jh_ops.specs.declared.operation.Process.{Process}
 use Rattle.jh_test_parts.specs.Values.{is_collection}
+use Rattle.jh_test_parts.specs.declared.workload.TestWorkload.TheVariants.{Set}
 use Rattle.jh_test_laws.specs.HistoryInside.{AllFit, Invokes, Doing, Completes, FitsBehind, FitsDoing, doing}
 use Rattle.jh_test_laws.proofs.ReadLemmas.{good_read}
 

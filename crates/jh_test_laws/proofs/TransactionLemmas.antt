@@ -4,7 +4,6 @@ use Rattle.std.specs.Prelude.{codes, slice_get, Option, None, Some, option_and_t
 use Rattle.std.specs.List.{AllByRecursion}
 use Rattle.std.specs.Option.{option_map_or}
 use Rattle.std.proofs.lemmas.Bool.{false≢true}
-use Rattle.jh_checkers.specs.declared.checker.Checker.TheVariants.{ListAppend}
 use Rattle.jh_edn.specs.Edn.{is_keyword, keyword}
 use Rattle.jh_ops.specs.Operation.{Operation}
 use Rattle.jh_ops.specs.Pairing.{history_pairs}
@@ -16,6 +15,7 @@ use Rattle.jh_ops.specs.declared.operation.Kind.{Kind}
 use Rattle.jh_ops.specs.declared.pairs.Pair.{Pair}
 use Rattle.jh_txn_histories.specs.Histories.{IsBadAt, asked_by, bad_value_place, is_txn, is_txn_at, pair_completion, place_if_bad, txn_answer, txn_asked, value_if_ok}
 use Rattle.jh_txn_histories.specs.Written.{Written, answers}
+use Rattle.jh_test_parts.specs.declared.workload.TestWorkload.TheVariants.{ListAppend}
 use Rattle.jh_test_laws.specs.HistoryInside.{AllFit, Invokes, Completes, CompletesOk, IsAskedValue, ops_asked, suits_call}
 use Rattle.jh_test_laws.proofs.PairLemmas.{IsEndAt, IsPairOf, all_pairs}
 use Rattle.jh_test_laws.proofs.ReadLemmas.{good_transaction}

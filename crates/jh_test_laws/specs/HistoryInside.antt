@@ -3,9 +3,6 @@
 use Rattle.std.specs.Prelude.{◌≡◌, ℕ, Bool, true, List, [], ◌∷◌, codes, Option, None, Some}
 use Rattle.std.specs.Prelude.{if◌then◌else◌}
 use Rattle.jh_edn.specs.Edn.{Edn, keyword}
-use Rattle.jh_checkers.specs.declared.checker.Checker.{Checker}
-use Rattle.jh_checkers.specs.declared.checker.Checker.TheVariants.{Register, Counter, Set, Ids}
-use Rattle.jh_checkers.specs.declared.checker.Checker.TheVariants.{ListAppend}
 use Rattle.jh_gen.specs.Suits.{is_call_for, is_transaction}
 use Rattle.jh_independent.specs.Keys.{tuple_of}
 use Rattle.jh_ops.specs.Operation.{Operation}
@@ -16,11 +13,14 @@ use Rattle.jh_ops.specs.declared.call.Call.{Call}
 use Rattle.jh_ops.specs.declared.call.Call.TheVariants.{Client}
 use Rattle.jh_ops.specs.declared.call.Request.{Request}
 use Rattle.jh_ops.specs.declared.call.Request.TheVariants.{Txn}
-use Rattle.jh_ops.specs.declared.call.Workload.TheVariants as workload
+use Rattle.jh_ops.specs.declared.call.Workload.{Workload}
 use Rattle.jh_ops.specs.declared.operation.Kind.{Kind}
 use Rattle.jh_ops.specs.declared.operation.Process.{Process}
 use Rattle.jh_test_parts.specs.Values.{fits_request}
 use Rattle.jh_test_parts.specs.declared.parts.KeyShares.{KeyShares}
+use Rattle.jh_test_parts.specs.declared.workload.TestWorkload.{TestWorkload}
+use Rattle.jh_test_parts.specs.declared.workload.TestWorkload.TheVariants.{Register, Counter, Set}
+use Rattle.jh_test_parts.specs.declared.workload.TestWorkload.TheVariants.{Ids, ListAppend}
 use Rattle.jh_txn_histories.specs.Histories.{asked_by}
 use Rattle.jh_txn_histories.specs.Written.{Written, is_equal}
 
@@ -61,14 +61,14 @@ abbrev pub AllFit : (Operation → Type 0) → (Operation → Operation → Type
 AllFit Invokes Completes past [] = Unit {0}
 AllFit Invokes Completes past (op ∷ ops) = FitsBehind Invokes Completes past op.process op × AllFit Invokes Completes (op ∷ past) ops
 
--- ---- for a checker
+-- ---- for a workload
 
--- the calls of the workload that a checker judges
-abbrev pub suits_call : Checker → Call → Bool
-suits_call Register call = is_call_for workload.Register call
-suits_call Counter call = is_call_for workload.Counter call
-suits_call Set call = is_call_for workload.Set call
-suits_call Ids call = is_call_for workload.Ids call
+-- the calls of a workload
+abbrev pub suits_call : TestWorkload → Call → Bool
+suits_call Register call = is_call_for Workload.Register call
+suits_call Counter call = is_call_for Workload.Counter call
+suits_call Set call = is_call_for Workload.Set call
+suits_call Ids call = is_call_for Workload.Ids call
 suits_call ListAppend call = is_transaction call
 
 -- what an invocation of a function with a value asks for
@@ -88,43 +88,43 @@ abbrev pub IsAskedValue : Request → Edn → Type 0
 IsAskedValue Txn value = (ops : List Written) × (ops_asked (keyword (codes "txn")) value ≡ Some ops)
 IsAskedValue request value = value ≡ content_value (asked_content request)
 
-abbrev pub InvokesValue : Checker → (f value : Edn) → Type 0
-InvokesValue checker f value =
-    (request : Request) × (suits_call checker (Client request) ≡ true)
+abbrev pub InvokesValue : TestWorkload → (f value : Edn) → Type 0
+InvokesValue workload f value =
+    (request : Request) × (suits_call workload (Client request) ≡ true)
     × (f ≡ keyword (request_name request)) × IsAskedValue request value
 
-abbrev pub CompletesOk : Checker → (f asked value : Edn) → Kind → Type 0
-CompletesOk checker f asked value Kind.Ok =
+abbrev pub CompletesOk : TestWorkload → (f asked value : Edn) → Kind → Type 0
+CompletesOk workload f asked value Kind.Ok =
     (request : Request) × (f ≡ keyword (request_name request))
-    × (fits_request checker request asked value ≡ true)
-CompletesOk checker f asked value _ = Unit {0}
+    × (fits_request workload request asked value ≡ true)
+CompletesOk workload f asked value _ = Unit {0}
 
-abbrev pub Invokes : Checker → Operation → Type 0
-Invokes checker op = InvokesValue checker op.f op.value
+abbrev pub Invokes : TestWorkload → Operation → Type 0
+Invokes workload op = InvokesValue workload op.f op.value
 
-abbrev pub Completes : Checker → Operation → Operation → Type 0
-Completes checker call op = (op.f ≡ call.f) × CompletesOk checker call.f call.value op.value op.kind
+abbrev pub Completes : TestWorkload → Operation → Operation → Type 0
+Completes workload call op = (op.f ≡ call.f) × CompletesOk workload call.f call.value op.value op.kind
 
 -- ---- with keys
 
-abbrev pub InvokesOfKey : Checker → Operation → Type 0
-InvokesOfKey checker op =
-    (tuple : Edn × Edn) × (tuple_of op.value ≡ Some tuple) × InvokesValue checker op.f tuple.1
+abbrev pub InvokesOfKey : TestWorkload → Operation → Type 0
+InvokesOfKey workload op =
+    (tuple : Edn × Edn) × (tuple_of op.value ≡ Some tuple) × InvokesValue workload op.f tuple.1
 
-abbrev pub CompletesOfKey : Checker → Operation → Operation → Type 0
-CompletesOfKey checker call op =
+abbrev pub CompletesOfKey : TestWorkload → Operation → Operation → Type 0
+CompletesOfKey workload call op =
     (asked got : Edn × Edn) × (tuple_of call.value ≡ Some asked) × (tuple_of op.value ≡ Some got)
-    × (is_equal asked.0 got.0 ≡ true) × (op.f ≡ call.f) × CompletesOk checker call.f asked.1 got.1 op.kind
+    × (is_equal asked.0 got.0 ≡ true) × (op.f ≡ call.f) × CompletesOk workload call.f asked.1 got.1 op.kind
 
 -- ---- as a test has it
 
-abbrev pub InvokesBy : Option KeyShares → Checker → Operation → Type 0
-InvokesBy None checker = Invokes checker
-InvokesBy (Some shares) checker = InvokesOfKey checker
+abbrev pub InvokesBy : Option KeyShares → TestWorkload → Operation → Type 0
+InvokesBy None workload = Invokes workload
+InvokesBy (Some shares) workload = InvokesOfKey workload
 
-abbrev pub CompletesBy : Option KeyShares → Checker → Operation → Operation → Type 0
-CompletesBy None checker = Completes checker
-CompletesBy (Some shares) checker = CompletesOfKey checker
+abbrev pub CompletesBy : Option KeyShares → TestWorkload → Operation → Operation → Type 0
+CompletesBy None workload = Completes workload
+CompletesBy (Some shares) workload = CompletesOfKey workload
 
 -- each of these fits behind the rest, the newest first
 abbrev pub AllFitBehind : (Operation → Type 0) → (Operation → Operation → Type 0) → List Operation → Type 0

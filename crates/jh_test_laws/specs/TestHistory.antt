@@ -4,7 +4,6 @@ use Rattle.std.specs.Prelude.{◌≡◌, ◌≢◌, ◌⊎◌, ℕ, List, None, 
 use Rattle.jh_check.specs.declared.error.CheckError.{CheckError}
 use Rattle.jh_check.specs.declared.error.CheckError.TheVariants as check_errors
 use Rattle.jh_checkers.specs.Findings.{RefusesChecking}
-use Rattle.jh_checkers.specs.declared.checker.Checker.TheVariants.{ListAppend}
 use Rattle.jh_checkers.specs.declared.finding.Judging.{Judging}
 use Rattle.jh_conversation.specs.Laws.{Drivers, run}
 use Rattle.jh_conversation.specs.Text.{recorded_history}
@@ -14,6 +13,8 @@ use Rattle.jh_independent.specs.declared.error.KeysError.TheVariants as keys_err
 use Rattle.jh_ops.specs.Operation.{Operation}
 use Rattle.jh_ops.specs.Pairing.{IsWellFormed}
 use Rattle.jh_test_parts.specs.Test.{TestValue, IsFitTest}
+use Rattle.jh_test_parts.specs.Workloads.{test_checker}
+use Rattle.jh_test_parts.specs.declared.workload.TestWorkload.TheVariants.{ListAppend}
 
 -- the history of a test after these lines
 abbrev pub history_after : (t : TestValue) → Drivers t → List (List ℕ) → List Operation
@@ -27,13 +28,13 @@ HistoriesAreFormed = (t : TestValue) (d : Drivers t) (lines : List (List ℕ)) �
 abbrev pub HistoriesAreJudged : Type 0
 HistoriesAreJudged =
     (t : TestValue) (d : Drivers t) (lines : List (List ℕ)) → IsFitTest t → t.keys ≡ None
-    → (error : CheckError) → RefusesChecking t.checker (history_after t d lines) error
+    → (error : CheckError) → RefusesChecking (test_checker t.workload) (history_after t d lines) error
     → error ≡ check_errors.OutOfMemory
 
 -- where they are, it is refused only for a thread or as out of memory; transactions are judged as one
 abbrev pub KeyHistoriesAreJudged : Type 0
 KeyHistoriesAreJudged =
     (t : TestValue) (d : Drivers t) (lines : List (List ℕ)) → IsFitTest t → IsSome t.keys
-    → t.checker ≢ ListAppend → (judging : Judging) → judging.checker ≡ t.checker
+    → t.workload ≢ ListAppend → (judging : Judging) → judging.checker ≡ test_checker t.workload
     → (error : KeysError) → RefusesKeys (keys_question judging (history_after t d lines)) error
     → (error ≡ keys_errors.Thread) ⊎ (error ≡ keys_errors.OutOfMemory)

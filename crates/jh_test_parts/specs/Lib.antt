@@ -1,4 +1,5 @@
 pub mod Limits
+pub mod Workloads
 pub mod Test
 pub mod TestInside
 pub mod Changes

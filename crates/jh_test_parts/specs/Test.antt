@@ -9,12 +9,12 @@ use Rattle.jh_gen.specs.Generator.{Generator}
 use Rattle.jh_gen.specs.Suits.{suits, suits_transactions}
 use Rattle.jh_gen.specs.View.{generator_of}
 use Rattle.jh_nemesis.specs.Steps.{FitsNodes}
-use Rattle.jh_ops.specs.declared.call.Workload.TheVariants as workload
+use Rattle.jh_ops.specs.declared.call.Workload.{Workload}
 use Rattle.jh_test_parts.specs.declared.parts.TestEntry.{TestEntry}
 use Rattle.jh_test_parts.specs.declared.parts.KeyShares.{KeyShares}
-use Rattle.jh_checkers.specs.declared.checker.Checker.{Checker}
-use Rattle.jh_checkers.specs.declared.checker.Checker.TheVariants.{Register, Counter, Set, Ids}
-use Rattle.jh_checkers.specs.declared.checker.Checker.TheVariants.{ListAppend}
+use Rattle.jh_test_parts.specs.declared.workload.TestWorkload.{TestWorkload}
+use Rattle.jh_test_parts.specs.declared.workload.TestWorkload.TheVariants.{Register, Counter, Set}
+use Rattle.jh_test_parts.specs.declared.workload.TestWorkload.TheVariants.{Ids, ListAppend}
 use Rattle.jh_test_parts.specs.declared.parts.TransactionShape.{TransactionShape}
 use Rattle.jh_test_parts.specs.Limits.{max_key_appends, max_test_entries, max_transaction_keys}
 use Rattle.jh_test_parts.specs.Limits.{max_transaction_ops}
@@ -28,7 +28,7 @@ use Rattle.jh_test_parts.specs.declared.test.TestError.TheVariants.{OutOfMemory}
 pub record TestValue : Type 0 where
   -- the environment before the first fault
   pub start : EnvValue
-  pub checker : Checker
+  pub workload : TestWorkload
   -- the calls of *main*, and of *final* where there is one
   pub generator : Generator
   pub final_calls : Option Generator
@@ -50,7 +50,7 @@ pub record TestValue : Type 0 where
 abbrev pub test_of_data : TestData → TestValue
 test_of_data fields = record {
   start = fields.environment;
-  checker = fields.checker;
+  workload = fields.workload;
   generator = generator_of fields.generator;
   final_calls = option_map generator_of fields.final_calls;
   clients = fields.clients;
@@ -82,22 +82,22 @@ abbrev pub FitsKeys : TestValue → Type 0
 FitsKeys t = are_shares t.clients t.keys ≡ true
 
 -- the generator's calls are requests of what is tested
-abbrev pub suits_checker : Checker → ℕ → Generator → Bool
-suits_checker Register clients generator = suits workload.Register clients generator
-suits_checker Counter clients generator = suits workload.Counter clients generator
-suits_checker Set clients generator = suits workload.Set clients generator
-suits_checker Ids clients generator = suits workload.Ids clients generator
-suits_checker ListAppend clients generator = suits_transactions clients generator
+abbrev pub suits_workload : TestWorkload → ℕ → Generator → Bool
+suits_workload Register clients generator = suits Workload.Register clients generator
+suits_workload Counter clients generator = suits Workload.Counter clients generator
+suits_workload Set clients generator = suits Workload.Set clients generator
+suits_workload Ids clients generator = suits Workload.Ids clients generator
+suits_workload ListAppend clients generator = suits_transactions clients generator
 
-abbrev pub final_calls_suit : Checker → ℕ → Option Generator → Bool
-final_calls_suit checker clients None = true
-final_calls_suit checker clients (Some generator) = suits_checker checker clients generator
+abbrev pub final_calls_suit : TestWorkload → ℕ → Option Generator → Bool
+final_calls_suit workload clients None = true
+final_calls_suit workload clients (Some generator) = suits_workload workload clients generator
 
 abbrev pub HasTestGenerator : TestValue → Type 0
-HasTestGenerator t = suits_checker t.checker t.clients t.generator ≡ true
+HasTestGenerator t = suits_workload t.workload t.clients t.generator ≡ true
 
 abbrev pub FitsFinal : TestValue → Type 0
-FitsFinal t = final_calls_suit t.checker t.clients t.final_calls ≡ true
+FitsFinal t = final_calls_suit t.workload t.clients t.final_calls ≡ true
 
 -- there are not too many entries, and each node that a fault names is in the environment
 abbrev pub HasSchedule : TestValue → Type 0

@@ -7,7 +7,7 @@ use Rattle.jh_test_parts.specs.declared.test.Test.TheInside.{Inside}
 abbrev pub test_of : Inside → TestValue
 test_of a = record {
   start = a.environment;
-  checker = a.checker;
+  workload = a.workload;
   generator = a.generator;
   final_calls = a.final_calls;
   clients = a.clients;

@@ -11,9 +11,9 @@ use Rattle.jh_txn_histories.specs.Written.{is_answered, is_equal}
 use Rattle.jh_test_parts.specs.Test.{TestValue}
 use Rattle.jh_test_parts.specs.declared.calls.ValuedCall.{ValuedCall}
 use Rattle.jh_test_parts.specs.declared.parts.KeyShares.{KeyShares}
-use Rattle.jh_checkers.specs.declared.checker.Checker.{Checker}
-use Rattle.jh_checkers.specs.declared.checker.Checker.TheVariants.{Register, Counter, Set, Ids}
-use Rattle.jh_checkers.specs.declared.checker.Checker.TheVariants.{ListAppend}
+use Rattle.jh_test_parts.specs.declared.workload.TestWorkload.{TestWorkload}
+use Rattle.jh_test_parts.specs.declared.workload.TestWorkload.TheVariants.{Register, Counter, Set}
+use Rattle.jh_test_parts.specs.declared.workload.TestWorkload.TheVariants.{Ids, ListAppend}
 
 abbrev pub is_nil_value : Edn → Bool
 is_nil_value nil = true
@@ -25,7 +25,7 @@ is_collection value = is_some (elements_of value)
 
 -- what a read may see: an integer or nil of a register, an integer of a counter, of a set a list, a
 -- vector or a set
-abbrev pub is_readable : Checker → Edn → Bool
+abbrev pub is_readable : TestWorkload → Edn → Bool
 is_readable Register value = is_nil_value value || is_integer value
 is_readable Counter value = is_integer value
 is_readable Set value = is_collection value
@@ -34,16 +34,16 @@ is_readable ListAppend value = true
 
 -- what a call that was done may have got, but for its key; a transaction has done the same, with what
 -- its reads saw
-abbrev pub fits_request : Checker → Request → (asked got : Edn) → Bool
-fits_request checker Read asked got = is_readable checker got
-fits_request checker Generate asked got = true
-fits_request checker Txn asked got = is_answered asked got
-fits_request checker _ asked got = is_equal asked got
+abbrev pub fits_request : TestWorkload → Request → (asked got : Edn) → Bool
+fits_request workload Read asked got = is_readable workload got
+fits_request workload Generate asked got = true
+fits_request workload Txn asked got = is_answered asked got
+fits_request workload _ asked got = is_equal asked got
 
-abbrev pub fits_with_key : Checker → Request → List Edn → Option (List Edn) → Bool
-fits_with_key checker request (key ∷ asked ∷ []) (Some (other ∷ got ∷ [])) =
-    is_equal key other && fits_request checker request asked got
-fits_with_key checker request _ _ = false
+abbrev pub fits_with_key : TestWorkload → Request → List Edn → Option (List Edn) → Bool
+fits_with_key workload request (key ∷ asked ∷ []) (Some (other ∷ got ∷ [])) =
+    is_equal key other && fits_request workload request asked got
+fits_with_key workload request _ _ = false
 
 abbrev pub list_or_none : Option (List Edn) → List Edn
 list_or_none None = []
@@ -51,9 +51,9 @@ list_or_none (Some values) = values
 
 -- of independent keys a tuple of the same key and such a value
 abbrev pub is_good_value : TestValue → Option KeyShares → ValuedCall → Edn → Bool
-is_good_value t None call value = fits_request t.checker call.request call.value value
+is_good_value t None call value = fits_request t.workload call.request call.value value
 is_good_value t (Some shares) call value =
-    fits_with_key t.checker call.request (list_or_none (elements_of call.value))
+    fits_with_key t.workload call.request (list_or_none (elements_of call.value))
     (elements_of value)
 
 -- a completion that is not `:ok` has the call's own value

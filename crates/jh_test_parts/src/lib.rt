@@ -14,6 +14,7 @@ mod records;
 mod test;
 mod transactions;
 mod values;
+mod workload;
 
 pub use calls::{Datum, ValuedCall};
 pub use complaints::Complaint;
@@ -29,3 +30,4 @@ pub use records::{ChangedCells, ChangedLink, ChangedNode, Recorded};
 pub use test::{MAX_TEST_ENTRIES, Test, TestData, TestError};
 pub use transactions::{Slot, TransactionSource};
 pub use values::fits_call;
+pub use workload::TestWorkload;

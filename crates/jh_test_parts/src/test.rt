@@ -13,7 +13,7 @@ use crate::parts::{
     KeyShares, MAX_KEY_APPENDS, MAX_TRANSACTION_KEYS, MAX_TRANSACTION_OPS, TestEntry,
     TransactionShape,
 };
-use jh_checkers::Checker;
+use crate::workload::TestWorkload;
 use jh_env::{Env, Node, Nodes};
 use jh_gen::{Gen, Inner, MAX_CALLS, MAX_CLIENTS};
 use jh_nemesis::Step;
@@ -31,7 +31,7 @@ pub const MAX_TEST_ENTRIES: usize = 1_024;
 pub struct TestData {
     /// The environment, on which no fault is laid.
     pub environment: Env,
-    pub checker: Checker,
+    pub workload: TestWorkload,
     /// Where the calls of *main* come from.
     pub generator: Gen,
     /// Where the calls of *final* come from, where there are some.
@@ -100,7 +100,7 @@ impl From<AllocError> for TestError {
 #[derive(Drop)]
 pub struct Test {
     environment: Env,
-    checker: Checker,
+    workload: TestWorkload,
     generator: Inner,
     final_calls: Option<Inner>,
     clients: u32,
@@ -168,26 +168,26 @@ fn are_shares(clients: u32, keys: Option<KeyShares>) -> bool
 }
 
 /// Whether the calls of a generator are requests of what is tested.
-fn suits(checker: Checker, clients: u32, generator: &Gen) -> bool
-    ensures { result ≡ rule.suits_checker checker clients (generator_of generator.now) }
+fn suits(workload: TestWorkload, clients: u32, generator: &Gen) -> bool
+    ensures { result ≡ rule.suits_workload workload clients (generator_of generator.now) }
 {
-    match checker {
-        Checker::Register => generator.suits(Workload::Register, clients),
-        Checker::Counter => generator.suits(Workload::Counter, clients),
-        Checker::Set => generator.suits(Workload::Set, clients),
-        Checker::Ids => generator.suits(Workload::Ids, clients),
-        Checker::ListAppend => generator.suits_transactions(clients),
+    match workload {
+        TestWorkload::Register => generator.suits(Workload::Register, clients),
+        TestWorkload::Counter => generator.suits(Workload::Counter, clients),
+        TestWorkload::Set => generator.suits(Workload::Set, clients),
+        TestWorkload::Ids => generator.suits(Workload::Ids, clients),
+        TestWorkload::ListAppend => generator.suits_transactions(clients),
     }
 }
 
 /// Whether the generator of the final calls, where there is one, suits too.
-fn final_calls_suit(checker: Checker, clients: u32, final_calls: &Option<Gen>) -> bool
+fn final_calls_suit(workload: TestWorkload, clients: u32, final_calls: &Option<Gen>) -> bool
     ensures { result
-        ≡ rule.final_calls_suit checker clients (option_map generator_of final_calls.now) }
+        ≡ rule.final_calls_suit workload clients (option_map generator_of final_calls.now) }
 {
     match final_calls {
         None => true,
-        Some(generator) => suits(checker, clients, generator),
+        Some(generator) => suits(workload, clients, generator),
     }
 }
 
@@ -217,10 +217,10 @@ fn judge(fields: &TestData) -> Result<(), TestError>
     if !are_shares(fields.clients, fields.keys) {
         return Err(TestError::BadKeys);
     }
-    if !suits(fields.checker, fields.clients, &fields.generator) {
+    if !suits(fields.workload, fields.clients, &fields.generator) {
         return Err(TestError::BadGenerator);
     }
-    if !final_calls_suit(fields.checker, fields.clients, &fields.final_calls) {
+    if !final_calls_suit(fields.workload, fields.clients, &fields.final_calls) {
         return Err(TestError::BadFinal);
     }
     if fields.schedule.len() > MAX_TEST_ENTRIES || !all_fit(&fields.schedule, &fields.environment) {
@@ -250,7 +250,7 @@ impl Test {
         judge(&fields)?;
         let TestData {
             environment,
-            checker,
+            workload,
             generator,
             final_calls,
             clients,
@@ -269,7 +269,7 @@ impl Test {
         };
         Ok(Test {
             environment,
-            checker,
+            workload,
             generator: Inner::of(alloc, generator)?,
             final_calls,
             clients,
@@ -299,11 +299,11 @@ impl Test {
         self.environment.nodes()
     }
 
-    /// Which checker judges its history: what the database is asked to be.
-    pub fn checker(&self) -> Checker
-        ensures { result ≡ self.now.checker }
+    /// What its clients call, and which checker judges its history: what the database is asked to be.
+    pub fn workload(&self) -> TestWorkload
+        ensures { result ≡ self.now.workload }
     {
-        self.checker
+        self.workload
     }
 
     /// Where the calls of *main* come from.

@@ -6,7 +6,7 @@ ghost use Rattle.jh_test_parts.specs.Values as rule;
 
 use crate::calls::ValuedCall;
 use crate::test::Test;
-use jh_checkers::Checker;
+use crate::workload::TestWorkload;
 use jh_edn::Value;
 use jh_ops::{Kind, Request};
 use jh_txn_histories::{is_answered, is_equal};
@@ -35,30 +35,30 @@ fn is_collection(value: &Value) -> bool
 }
 
 /// Whether a read may see a value.
-fn is_readable(checker: Checker, value: &Value) -> bool
-    ensures { result ≡ rule.is_readable checker (view value.now) }
+fn is_readable(workload: TestWorkload, value: &Value) -> bool
+    ensures { result ≡ rule.is_readable workload (view value.now) }
 {
-    match checker {
-        Checker::Register => is_nil(value) || value.is_integer(),
-        Checker::Counter => value.is_integer(),
-        Checker::Set => is_collection(value),
-        Checker::Ids | Checker::ListAppend => true,
+    match workload {
+        TestWorkload::Register => is_nil(value) || value.is_integer(),
+        TestWorkload::Counter => value.is_integer(),
+        TestWorkload::Set => is_collection(value),
+        TestWorkload::Ids | TestWorkload::ListAppend => true,
     }
 }
 
 /// Whether a call that was done may have got this, but for its key.
 fn fits_request(
     alloc: Global,
-    checker: Checker,
+    workload: TestWorkload,
     request: Request,
     asked: &Value,
     got: &Value,
 ) -> Result<bool, AllocError>
     ensures { IfOk result
-        (λ yes. yes ≡ rule.fits_request checker request (view asked.now) (view got.now)) }
+        (λ yes. yes ≡ rule.fits_request workload request (view asked.now) (view got.now)) }
 {
     match request {
-        Request::Read => Ok(is_readable(checker, got)),
+        Request::Read => Ok(is_readable(workload, got)),
         Request::Generate => Ok(true),
         Request::Txn => is_answered(alloc, asked, got),
         Request::Write(_) | Request::Cas(_, _) | Request::Add(_) => is_equal(alloc, asked, got),
@@ -68,20 +68,20 @@ fn fits_request(
 /// Whether one pair has the same key as another, and what a call with the other's value may have got.
 fn fits_with_key(
     alloc: Global,
-    checker: Checker,
+    workload: TestWorkload,
     request: Request,
     asked: &[Value],
     got: &[Value],
 ) -> Result<bool, AllocError>
     ensures { IfOk result (λ yes. yes
-        ≡ rule.fits_with_key checker request (views asked.now) (Some (views got.now))) }
+        ≡ rule.fits_with_key workload request (views asked.now) (Some (views got.now))) }
 {
     if asked.len() != 2 || got.len() != 2 {
         return Ok(false);
     }
     Ok(
         is_equal(alloc, &asked[0], &got[0])?
-            && fits_request(alloc, checker, request, &asked[1], &got[1])?,
+            && fits_request(alloc, workload, request, &asked[1], &got[1])?,
     )
 }
 
@@ -97,12 +97,12 @@ fn is_good_value(
 {
     let asked = call.value.value();
     if test.keys().is_none() {
-        return fits_request(alloc, test.checker(), call.request, asked, value);
+        return fits_request(alloc, test.workload(), call.request, asked, value);
     }
     let (Some(asked), Some(got)) = (asked.elements(), value.elements()) else {
         return Ok(false);
     };
-    fits_with_key(alloc, test.checker(), call.request, asked, got)
+    fits_with_key(alloc, test.workload(), call.request, asked, got)
 }
 
 /// Whether a call can end as this kind, with this value.

@@ -46,7 +46,7 @@ fn document_of(alloc: Global, lines: &str) -> Result<String, AllocError> {
 fn put_test(text: &mut Vec<u8>, test: &Test) -> Option<()> {
     let counts = (test.clients(), test.ops(), test.recovery(), test.seed());
     let limits = (test.time_limit(), test.rate(), test.keys());
-    let calls = (test.checker(), test.generator(), test.final_calls());
+    let calls = (test.workload(), test.generator(), test.final_calls());
     let shape = test.transactions();
     write!(text, "{counts:?} {limits:?} {calls:?} {shape:?} ").ok()
 }

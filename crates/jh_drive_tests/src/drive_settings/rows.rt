@@ -19,6 +19,11 @@ threads_per_key = 3 ; ops_per_key = 1 ; generator = '[:once [:add 1]]' → threa
 generator = '[:once [:add 1]]' ; final = '[:once [:add 1]]' → generator: bad value
 final = '[:once [:add 1]]' → final: bad value
 threads_per_key = 2 ; ops_per_key = 1 ; final = '[:once :read]' → final: bad value
+workload = "total-queue" → workload: bad value
+workload = "queue" → workload: bad value
+workload = "bank" → workload: bad value
+workload = "set-full" → workload: bad value
+workload = "mutex" → workload: bad value
 workload = "set" ; initial = 0 → initial: bad value
 workload = "list-append" ; threads_per_key = 1 ; ops_per_key = 1 → threads_per_key: bad value
 workload = "list-append" ; generator = '[:forever :txn]' ; final = '[:once :txn]' ; keys = 1000 ; max_txn = 100 ; appends_per_key = 10000 ; model = "snapshot-isolation" → (4, 2, 0, 0) (None, None, None) (ListAppend, Forever(Client(Txn)), Some(Once(Client(Txn)))) TransactionShape { keys: 1000, most: 100, appends: 10000 } (None, SnapshotIsolation, 100000)
