@@ -13,7 +13,7 @@ use Rattle.jh_cli.proofs.CheckLemmas.{input_written}
 use Rattle.jh_cli.specs.PlotRefusals.{IsUnplottable, RefusesPlot, RefusesPlotting}
 use Rattle.jh_cli.specs.Status.{plot_error, reading_error}
 use Rattle.jh_cli.specs.declared.error.CliError.{CliError}
-use Rattle.jh_cli.specs.declared.error.CliError.TheVariants.{TimeMissing, Input, EnvironmentMissing, Environment, Element, History, Check, Settings, Run, HistoryFull, Mismatch, Thread, OnlyForRegister, OnlyForListAppend, BadPalette, Unwritable, SettingsRead, Read, Write, OutOfMemory}
+use Rattle.jh_cli.specs.declared.error.CliError.TheVariants.{TimeMissing, Input, EnvironmentMissing, Environment, Element, History, Check, Settings, Run, HistoryFull, Mismatch, Thread, Misplaced, Missing, BadAccounts, BadPalette, Unwritable, SettingsRead, Read, Write, OutOfMemory}
 
 pub plotted_from : (skips_unread : Bool) (input : List ℕ) (error : ReadHistoryError) → RefusesHistoryInput skips_unread input error → RefusesPlot skips_unread input (reading_error error)
 plotted_from skips_unread input (reading.Text (edn.UnexpectedEnd line)) refused = (refl, refused)
@@ -67,8 +67,9 @@ plotting_refused skips_unread input history below (Run error) parts refused = (h
 plotting_refused skips_unread input history below HistoryFull parts refused = (history, below, parts, refused)
 plotting_refused skips_unread input history below Mismatch parts refused = (history, below, parts, refused)
 plotting_refused skips_unread input history below Thread parts refused = (history, below, parts, refused)
-plotting_refused skips_unread input history below OnlyForRegister parts refused = (history, below, parts, refused)
-plotting_refused skips_unread input history below OnlyForListAppend parts refused = (history, below, parts, refused)
+plotting_refused skips_unread input history below (Misplaced option) parts refused = (history, below, parts, refused)
+plotting_refused skips_unread input history below (Missing option) parts refused = (history, below, parts, refused)
+plotting_refused skips_unread input history below BadAccounts parts refused = (history, below, parts, refused)
 plotting_refused skips_unread input history below BadPalette parts refused = (history, below, parts, refused)
 plotting_refused skips_unread input history below Unwritable parts refused = (history, below, parts, refused)
 plotting_refused skips_unread input history below SettingsRead parts refused = (history, below, parts, refused)

@@ -12,7 +12,7 @@ use Rattle.jh_env.specs.Cells.{Table}
 use Rattle.jh_env.specs.TextCells.{SpellsEnv}
 use Rattle.jh_cli.specs.EnvRefusals.{RefusesSteps, RefusesEnvValues}
 use Rattle.jh_cli.specs.declared.error.CliError.{CliError}
-use Rattle.jh_cli.specs.declared.error.CliError.TheVariants.{TimeMissing, Input, EnvironmentMissing, Environment, Element, History, Check, Settings, Run, HistoryFull, Mismatch, Thread, OnlyForRegister, OnlyForListAppend, BadPalette, Unwritable, SettingsRead, Read, Write, OutOfMemory}
+use Rattle.jh_cli.specs.declared.error.CliError.TheVariants.{TimeMissing, Input, EnvironmentMissing, Environment, Element, History, Check, Settings, Run, HistoryFull, Mismatch, Thread, Misplaced, Missing, BadAccounts, BadPalette, Unwritable, SettingsRead, Read, Write, OutOfMemory}
 
 -- a first value that is no environment
 refuses_environment : (first : Edn) (others : List Edn) (error : EnvTextError.the_data) → env.RefusesSpelledEnv first error
@@ -60,8 +60,9 @@ others_refused values others first names start (Run error) parts text refused = 
 others_refused values others first names start HistoryFull parts text refused = absurd refused
 others_refused values others first names start Mismatch parts text refused = absurd refused
 others_refused values others first names start Thread parts text refused = absurd refused
-others_refused values others first names start OnlyForRegister parts text refused = absurd refused
-others_refused values others first names start OnlyForListAppend parts text refused = absurd refused
+others_refused values others first names start (Misplaced option) parts text refused = absurd refused
+others_refused values others first names start (Missing option) parts text refused = absurd refused
+others_refused values others first names start BadAccounts parts text refused = absurd refused
 others_refused values others first names start BadPalette parts text refused = absurd refused
 others_refused values others first names start Unwritable parts text refused = absurd refused
 others_refused values others first names start SettingsRead parts text refused = absurd refused

@@ -19,7 +19,7 @@ use Rattle.jh_cli.specs.RunInside.{recorded_history_error}
 use Rattle.jh_cli.specs.RunRefusals.{RefusesRunBytes, RefusesRecorded, RefusesRun, RefusesSerial, RefusesRunIn, RefusesThreads}
 use Rattle.jh_cli.specs.Status.{run_error, settings_error, threads_error, world_error}
 use Rattle.jh_cli.specs.declared.error.CliError.{CliError}
-use Rattle.jh_cli.specs.declared.error.CliError.TheVariants.{TimeMissing, Input, EnvironmentMissing, Environment, Element, History, Check, Settings, Run, HistoryFull, Mismatch, Thread, OnlyForRegister, OnlyForListAppend, BadPalette, Unwritable, SettingsRead, Read, Write, OutOfMemory}
+use Rattle.jh_cli.specs.declared.error.CliError.TheVariants.{TimeMissing, Input, EnvironmentMissing, Environment, Element, History, Check, Settings, Run, HistoryFull, Mismatch, Thread, Misplaced, Missing, BadAccounts, BadPalette, Unwritable, SettingsRead, Read, Write, OutOfMemory}
 
 -- bytes that mean no settings
 pub settings_refused : (input : List ℕ) (error : SettingsError.the_data) → settings.RefusesSettings input error → RefusesRunBytes input (settings_error error)
@@ -44,8 +44,9 @@ run_refused input p mode budget (Run error) parsed h = (p, mode, budget, parsed,
 run_refused input p mode budget HistoryFull parsed h = (p, mode, budget, parsed, h)
 run_refused input p mode budget Mismatch parsed h = (p, mode, budget, parsed, h)
 run_refused input p mode budget Thread parsed h = (p, mode, budget, parsed, h)
-run_refused input p mode budget OnlyForRegister parsed h = (p, mode, budget, parsed, h)
-run_refused input p mode budget OnlyForListAppend parsed h = (p, mode, budget, parsed, h)
+run_refused input p mode budget (Misplaced option) parsed h = (p, mode, budget, parsed, h)
+run_refused input p mode budget (Missing option) parsed h = (p, mode, budget, parsed, h)
+run_refused input p mode budget BadAccounts parsed h = (p, mode, budget, parsed, h)
 run_refused input p mode budget BadPalette parsed h = (p, mode, budget, parsed, h)
 run_refused input p mode budget Unwritable parsed h = (p, mode, budget, parsed, h)
 run_refused input p mode budget SettingsRead parsed h = (p, mode, budget, parsed, h)
@@ -76,8 +77,9 @@ bytes_refused input (Run error) h = h
 bytes_refused input HistoryFull h = h
 bytes_refused input Mismatch h = h
 bytes_refused input Thread h = h
-bytes_refused input OnlyForRegister h = h
-bytes_refused input OnlyForListAppend h = h
+bytes_refused input (Misplaced option) h = h
+bytes_refused input (Missing option) h = h
+bytes_refused input BadAccounts h = h
 bytes_refused input BadPalette h = h
 bytes_refused input Unwritable h = h
 bytes_refused input SettingsRead h = h
@@ -119,8 +121,9 @@ threads_refused checker history (Settings error) h = absurd h
 threads_refused checker history (Run error) h = absurd h
 threads_refused checker history HistoryFull h = absurd h
 threads_refused checker history Thread h = absurd h
-threads_refused checker history OnlyForRegister h = absurd h
-threads_refused checker history OnlyForListAppend h = absurd h
+threads_refused checker history (Misplaced option) h = absurd h
+threads_refused checker history (Missing option) h = absurd h
+threads_refused checker history BadAccounts h = absurd h
 threads_refused checker history BadPalette h = absurd h
 threads_refused checker history Unwritable h = absurd h
 threads_refused checker history SettingsRead h = absurd h

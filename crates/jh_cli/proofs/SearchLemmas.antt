@@ -24,7 +24,7 @@ use Rattle.jh_cli.specs.declared.error.CliError.{CliError}
 use Rattle.jh_cli.specs.declared.error.CliError.TheVariants.{TimeMissing, Input, EnvironmentMissing, Environment}
 use Rattle.jh_cli.specs.declared.error.CliError.TheVariants.{Element, History, Check, Settings, Run}
 use Rattle.jh_cli.specs.declared.error.CliError.TheVariants.{HistoryFull, Mismatch, Thread}
-use Rattle.jh_cli.specs.declared.error.CliError.TheVariants.{OnlyForRegister, OnlyForListAppend}
+use Rattle.jh_cli.specs.declared.error.CliError.TheVariants.{Misplaced, Missing, BadAccounts}
 use Rattle.jh_cli.specs.declared.error.CliError.TheVariants.{BadPalette, Unwritable, SettingsRead, Read, Write}
 use Rattle.jh_cli.specs.declared.error.CliError.TheVariants.{OutOfMemory}
 use Rattle.jh_cli.specs.declared.search_command.SearchQuestion.{SearchQuestion}
@@ -76,8 +76,9 @@ refused_by_bytes question input (Run error) h = h
 refused_by_bytes question input HistoryFull h = h
 refused_by_bytes question input Mismatch h = h
 refused_by_bytes question input Thread h = h
-refused_by_bytes question input OnlyForRegister h = h
-refused_by_bytes question input OnlyForListAppend h = h
+refused_by_bytes question input (Misplaced option) h = h
+refused_by_bytes question input (Missing option) h = h
+refused_by_bytes question input BadAccounts h = h
 refused_by_bytes question input BadPalette h = absurd h
 refused_by_bytes question input Unwritable h = h
 refused_by_bytes question input SettingsRead h = h

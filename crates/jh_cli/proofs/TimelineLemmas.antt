@@ -15,9 +15,10 @@ use Rattle.jh_ops.specs.declared.history.HistoryError.TheVariants as history_err
 use Rattle.jh_cli.specs.HistoryInput.{IsHistoryInput, RefusesHistoryInput}
 use Rattle.jh_cli.proofs.CheckLemmas.{IsJudging, by_checker, by_keys, input_written}
 use Rattle.jh_cli.specs.Status.{keys_error, reading_error}
+use Rattle.jh_cli.specs.JudgingOptions.{IsOptionError, RefusesJudgingOptions}
 use Rattle.jh_cli.specs.TimelineRefusals.{RefusesFinding, RefusesPage, RefusesShowing, RefusesTimeline}
 use Rattle.jh_cli.specs.declared.error.CliError.{CliError}
-use Rattle.jh_cli.specs.declared.error.CliError.TheVariants.{TimeMissing, Input, EnvironmentMissing, Environment, Element, History, Check, Settings, Run, HistoryFull, Mismatch, Thread, OnlyForRegister, OnlyForListAppend, BadPalette, Unwritable, SettingsRead, Read, Write, OutOfMemory}
+use Rattle.jh_cli.specs.declared.error.CliError.TheVariants.{TimeMissing, Input, EnvironmentMissing, Environment, Element, History, Check, Settings, Run, HistoryFull, Mismatch, Thread, Misplaced, Missing, BadAccounts, BadPalette, Unwritable, SettingsRead, Read, Write, OutOfMemory}
 use Rattle.jh_cli.specs.declared.timeline_command.TimelineQuestion.{TimelineQuestion}
 
 -- ---- no parts are read
@@ -60,8 +61,9 @@ page_refused question steps input history below (Run error) parts refused = (his
 page_refused question steps input history below HistoryFull parts refused = (history, below, parts, refused)
 page_refused question steps input history below Mismatch parts refused = (history, below, parts, refused)
 page_refused question steps input history below Thread parts refused = (history, below, parts, refused)
-page_refused question steps input history below OnlyForRegister parts refused = absurd (by_finding question.independent question.judging history OnlyForRegister refused)
-page_refused question steps input history below OnlyForListAppend parts refused = absurd (by_finding question.independent question.judging history OnlyForListAppend refused)
+page_refused question steps input history below (Misplaced option) parts refused = absurd (by_finding question.independent question.judging history (Misplaced option) refused)
+page_refused question steps input history below (Missing option) parts refused = absurd (by_finding question.independent question.judging history (Missing option) refused)
+page_refused question steps input history below BadAccounts parts refused = absurd (by_finding question.independent question.judging history BadAccounts refused)
 page_refused question steps input history below BadPalette parts refused = absurd (by_finding question.independent question.judging history BadPalette refused)
 page_refused question steps input history below Unwritable parts refused = absurd (by_finding question.independent question.judging history Unwritable refused)
 page_refused question steps input history below SettingsRead parts refused = absurd (by_finding question.independent question.judging history SettingsRead refused)
@@ -94,3 +96,54 @@ split_unjudged history (KeysErrors.BadValue place) refused = (KeysErrors.BadValu
 split_unjudged history (KeysErrors.Key error) refused = absurd refused
 split_unjudged history KeysErrors.Thread refused = absurd refused
 split_unjudged history KeysErrors.OutOfMemory refused = tt
+
+-- ---- options are refused
+
+pub options_refused : (question : TimelineQuestion) (steps : List Edn) (input : List ℕ) (e : CliError) → RefusesJudgingOptions question.judging e → RefusesTimeline question steps input e
+options_refused question steps input e refused = go question.judging refl e refused where
+  go : (judging : Option Judging) → question.judging ≡ judging → (e : CliError) → RefusesJudgingOptions judging e → RefusesTimeline question steps input e
+  go None is e h = absurd h
+  go (Some judging) is (Input error) h = absurd h
+  go (Some judging) is EnvironmentMissing h = absurd h
+  go (Some judging) is (Environment error) h = absurd h
+  go (Some judging) is (Element number error) h = absurd h
+  go (Some judging) is (History error) h = absurd h
+  go (Some judging) is (Check error) h = absurd h
+  go (Some judging) is (Settings error) h = absurd h
+  go (Some judging) is (Run error) h = absurd h
+  go (Some judging) is HistoryFull h = absurd h
+  go (Some judging) is Mismatch h = absurd h
+  go (Some judging) is Thread h = absurd h
+  go (Some judging) is (Misplaced option) h = rw (is) h
+  go (Some judging) is (Missing option) h = rw (is) h
+  go (Some judging) is BadAccounts h = absurd h
+  go (Some judging) is BadPalette h = absurd h
+  go (Some judging) is Unwritable h = absurd h
+  go (Some judging) is SettingsRead h = absurd h
+  go (Some judging) is (TimeMissing index) h = absurd h
+  go (Some judging) is Read h = absurd h
+  go (Some judging) is Write h = absurd h
+  go (Some judging) is OutOfMemory h = absurd h
+
+pub page_not_of_options : (question : TimelineQuestion) (history : List Operation) (e : CliError) → RefusesPage question history e → IsOptionError e → ⊥
+page_not_of_options question history (Misplaced option) refused of = by_finding question.independent question.judging history (Misplaced option) refused
+page_not_of_options question history (Missing option) refused of = by_finding question.independent question.judging history (Missing option) refused
+page_not_of_options question history (Input error) refused of = of
+page_not_of_options question history EnvironmentMissing refused of = of
+page_not_of_options question history (Environment error) refused of = of
+page_not_of_options question history (Element number error) refused of = of
+page_not_of_options question history (History error) refused of = of
+page_not_of_options question history (Check error) refused of = of
+page_not_of_options question history (Settings error) refused of = of
+page_not_of_options question history (Run error) refused of = of
+page_not_of_options question history HistoryFull refused of = of
+page_not_of_options question history Mismatch refused of = of
+page_not_of_options question history Thread refused of = of
+page_not_of_options question history BadAccounts refused of = of
+page_not_of_options question history BadPalette refused of = of
+page_not_of_options question history Unwritable refused of = of
+page_not_of_options question history SettingsRead refused of = of
+page_not_of_options question history (TimeMissing index) refused of = of
+page_not_of_options question history Read refused of = of
+page_not_of_options question history Write refused of = of
+page_not_of_options question history OutOfMemory refused of = of

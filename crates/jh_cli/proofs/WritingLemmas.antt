@@ -11,6 +11,11 @@ pub on_input : (fact result : List ℕ → Type 0) (known : Option (List ℕ)) �
 on_input fact result None follows given = tt
 on_input fact result (Some input) follows given = follows input given
 
+-- what holds whatever the input is
+pub on_any_input : (result : List ℕ → Type 0) (known : Option (List ℕ)) → ((input : List ℕ) → result input) → IfSome known result
+on_any_input result None holds = tt
+on_any_input result (Some input) holds = holds input
+
 -- two facts on the input are one
 pub both_on_input : (one other : List ℕ → Type 0) (known : Option (List ℕ)) → IfSome known one → IfSome known other → IfSome known (λ input. one input × other input)
 both_on_input one other None first second = tt

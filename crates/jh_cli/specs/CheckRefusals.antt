@@ -16,8 +16,8 @@ use Rattle.jh_cli.specs.JudgingOptions.{RefusesJudgingOptions}
 use Rattle.jh_cli.specs.Status.{check_error, keys_error, IsInputError, IsHistoryError}
 use Rattle.jh_cli.specs.declared.check_command.CheckQuestion.{CheckQuestion}
 use Rattle.jh_cli.specs.declared.error.CliError.{CliError}
-use Rattle.jh_cli.specs.declared.error.CliError.TheVariants.{Input, History, OnlyForRegister}
-use Rattle.jh_cli.specs.declared.error.CliError.TheVariants.{OnlyForListAppend, Read, Write}
+use Rattle.jh_cli.specs.declared.error.CliError.TheVariants.{Input, History, Misplaced}
+use Rattle.jh_cli.specs.declared.error.CliError.TheVariants.{Missing, Read, Write}
 use Rattle.jh_cli.specs.declared.error.CliError.TheVariants.{OutOfMemory}
 
 -- a history is not judged as one
@@ -45,10 +45,10 @@ RefusesJudging question history e =
 -- Why an input is refused, where for its text then for its first error. A failed read and out of
 -- memory may come with any input; a failed write comes only where there is something to write.
 abbrev pub RefusesCheck : CheckQuestion → List ℕ → CliError → Type 0
-RefusesCheck question input OnlyForRegister =
-    RefusesJudgingOptions (Some question.judging) OnlyForRegister
-RefusesCheck question input OnlyForListAppend =
-    RefusesJudgingOptions (Some question.judging) OnlyForListAppend
+RefusesCheck question input (Misplaced option) =
+    RefusesJudgingOptions (Some question.judging) (Misplaced option)
+RefusesCheck question input (Missing option) =
+    RefusesJudgingOptions (Some question.judging) (Missing option)
 RefusesCheck question input (Input error) =
     IsInputError error × RefusesHistoryInput question.skips_unread input (reading.Text error)
 RefusesCheck question input (History error) =

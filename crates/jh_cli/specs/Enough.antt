@@ -15,6 +15,11 @@ functions_of Checker.Set = codes "add" ∷ codes "read" ∷ []
 functions_of Checker.Counter = codes "add" ∷ codes "read" ∷ []
 functions_of Checker.Ids = codes "generate" ∷ []
 functions_of Checker.ListAppend = codes "txn" ∷ []
+functions_of Checker.TotalQueue = codes "enqueue" ∷ codes "dequeue" ∷ codes "drain" ∷ []
+functions_of Checker.Queue = codes "enqueue" ∷ codes "dequeue" ∷ []
+functions_of Checker.Bank = codes "read" ∷ []
+functions_of Checker.SetFull = codes "add" ∷ codes "read" ∷ []
+functions_of Checker.Mutex = codes "acquire" ∷ codes "release" ∷ []
 
 -- a client's operation of this kind, of one of these functions
 abbrev pub is_judged : Checker → Kind → Operation → Bool

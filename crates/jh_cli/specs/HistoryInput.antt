@@ -9,8 +9,8 @@ use Rattle.jh_histories.specs.declared.error.ReadHistoryError.{ReadHistoryError}
 use Rattle.jh_ops.specs.Operation.{Operation}
 use Rattle.jh_unread.specs.Unread.{without_unread}
 
--- The text that is read: the input, or, where that is asked for, the input with the keys that can't be
--- read made blank.
+-- The text that is read: the input, or, where that is asked for, the input with blanks in place of the
+-- pairs of operations that no checker reads and that can't be read.
 abbrev pub IsTextRead : Bool → List ℕ → List ℕ → Type 0
 IsTextRead false input text = text ≡ input
 IsTextRead true input text = IsUtf8 input × (text ≡ without_unread input)

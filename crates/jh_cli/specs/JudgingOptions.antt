@@ -1,36 +1,90 @@
--- Which options of a judge go with which workload: an initial value with a register, a consistency
--- model with list-append (this project's own).
-use Rattle.std.specs.Prelude.{ℤ, Option, Some, None}
+-- Which options of a judgement go with which checker, and which a checker needs (this project's own).
+use Rattle.std.specs.Prelude.{◌≡◌, ◌&&◌, Bool, true, false, not, List, [], ◌∷◌, find, codes, ℕ}
+use Rattle.std.specs.Prelude.{Option, Some, None, is_some}
 use Rattle.jh_checkers.specs.declared.checker.Checker.{Checker}
 use Rattle.jh_checkers.specs.declared.finding.Judging.{Judging}
-use Rattle.jh_txn.specs.declared.model.ConsistencyModel.{ConsistencyModel}
 use Rattle.jh_cli.specs.declared.error.CliError.{CliError}
-use Rattle.jh_cli.specs.declared.error.CliError.TheVariants.{OnlyForRegister, OnlyForListAppend}
+use Rattle.jh_cli.specs.declared.error.CliError.TheVariants.{Misplaced, Missing}
+use Rattle.jh_cli.specs.declared.judging_option.JudgingOption.{JudgingOption}
+use Rattle.jh_cli.specs.declared.judging_option.JudgingOption.TheVariants.{Initial, Model, Accounts}
+use Rattle.jh_cli.specs.declared.judging_option.JudgingOption.TheVariants.{Total, NegativeBalances}
+use Rattle.jh_cli.specs.declared.judging_option.JudgingOption.TheVariants.{Linearizable, Locked}
 
--- An initial value is for a register alone.
-abbrev pub TakesInitial : Checker → Option ℤ → Type 0
-TakesInitial Checker.Register initial = Unit {0}
-TakesInitial checker None = Unit {0}
-TakesInitial checker (Some value) = ⊥
+-- all of them, in the order in which they are looked at
+abbrev pub judging_options : List JudgingOption
+judging_options =
+    Initial ∷ Model ∷ Accounts ∷ Total ∷ NegativeBalances ∷ Linearizable ∷ Locked ∷ []
 
--- A consistency model is for transactions over lists alone.
-abbrev pub TakesModel : Checker → Option ConsistencyModel → Type 0
-TakesModel Checker.ListAppend model = Unit {0}
-TakesModel checker None = Unit {0}
-TakesModel checker (Some model) = ⊥
+-- the option, and the one workload that takes it
+abbrev pub option_name : JudgingOption → List ℕ
+option_name Initial = codes "--initial"
+option_name Model = codes "--model"
+option_name Accounts = codes "--accounts"
+option_name Total = codes "--total"
+option_name NegativeBalances = codes "--negative-balances"
+option_name Linearizable = codes "--linearizable"
+option_name Locked = codes "--locked"
 
--- the same of what a history is judged by, where it is judged
-abbrev pub TakesInitialBy : Option Judging → Type 0
-TakesInitialBy None = Unit {0}
-TakesInitialBy (Some judging) = TakesInitial judging.checker judging.initial
+abbrev pub option_checker : JudgingOption → Checker
+option_checker Initial = Checker.Register
+option_checker Model = Checker.ListAppend
+option_checker Accounts = Checker.Bank
+option_checker Total = Checker.Bank
+option_checker NegativeBalances = Checker.Bank
+option_checker Linearizable = Checker.SetFull
+option_checker Locked = Checker.Mutex
 
-abbrev pub TakesModelBy : Option Judging → Type 0
-TakesModelBy None = Unit {0}
-TakesModelBy (Some judging) = TakesModel judging.checker judging.model
+-- this checker takes the option
+abbrev pub is_taken : JudgingOption → Checker → Bool
+is_taken Initial Checker.Register = true
+is_taken Model Checker.ListAppend = true
+is_taken Accounts Checker.Bank = true
+is_taken Total Checker.Bank = true
+is_taken NegativeBalances Checker.Bank = true
+is_taken Linearizable Checker.SetFull = true
+is_taken Locked Checker.Mutex = true
+is_taken _ _ = false
 
--- Why such options are refused: for the initial value, else for the model.
+-- a bank needs its accounts and their total
+abbrev pub is_needed : JudgingOption → Checker → Bool
+is_needed Accounts Checker.Bank = true
+is_needed Total Checker.Bank = true
+is_needed _ _ = false
+
+-- the option is given
+abbrev pub is_given : JudgingOption → Judging → Bool
+is_given Initial judging = is_some judging.initial
+is_given Model judging = is_some judging.model
+is_given Accounts judging = is_some judging.accounts
+is_given Total judging = is_some judging.total
+is_given NegativeBalances judging = judging.negative_balances
+is_given Linearizable judging = judging.linearizable
+is_given Locked judging = judging.locked
+
+-- it is given with a checker that does not take it, or is not given where it is needed
+abbrev pub is_misplaced : Judging → JudgingOption → Bool
+is_misplaced judging option = is_given option judging && not (is_taken option judging.checker)
+
+abbrev pub is_wanting : Judging → JudgingOption → Bool
+is_wanting judging option = is_needed option judging.checker && not (is_given option judging)
+
+-- the first of them, in the order of all
+abbrev pub first_misplaced : Judging → Option JudgingOption
+first_misplaced judging = find (is_misplaced judging) judging_options
+
+abbrev pub first_wanting : Judging → Option JudgingOption
+first_wanting judging = find (is_wanting judging) judging_options
+
+-- Why such options are refused, where a history is judged: for the first that is misplaced, else for the
+-- first that is missing.
 abbrev pub RefusesJudgingOptions : Option Judging → CliError → Type 0
-RefusesJudgingOptions judging OnlyForRegister = TakesInitialBy judging → ⊥
-RefusesJudgingOptions judging OnlyForListAppend =
-    TakesInitialBy judging × (TakesModelBy judging → ⊥)
+RefusesJudgingOptions (Some judging) (Misplaced option) = first_misplaced judging ≡ Some option
+RefusesJudgingOptions (Some judging) (Missing option) =
+    (first_misplaced judging ≡ None) × (first_wanting judging ≡ Some option)
 RefusesJudgingOptions judging e = ⊥
+
+-- it is one of these refusals
+abbrev pub IsOptionError : CliError → Type 0
+IsOptionError (Misplaced option) = Unit {0}
+IsOptionError (Missing option) = Unit {0}
+IsOptionError e = ⊥

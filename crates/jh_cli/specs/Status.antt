@@ -19,7 +19,9 @@ use Rattle.jh_cli.specs.declared.error.CliError.{CliError}
 use Rattle.jh_cli.specs.declared.error.CliError.TheVariants.{Input, EnvironmentMissing, Environment}
 use Rattle.jh_cli.specs.declared.error.CliError.TheVariants.{Element, History, Check, Settings, Run}
 use Rattle.jh_cli.specs.declared.error.CliError.TheVariants.{HistoryFull, Mismatch, Thread}
-use Rattle.jh_cli.specs.declared.error.CliError.TheVariants.{OnlyForRegister, OnlyForListAppend}
+use Rattle.jh_cli.specs.declared.error.CliError.TheVariants.{Misplaced, Missing, BadAccounts}
+use Rattle.jh_cli.specs.JudgingOptions.{option_checker, option_name}
+use Rattle.jh_checkers.specs.Checkers.{checker_name}
 use Rattle.jh_cli.specs.declared.error.CliError.TheVariants.{BadPalette}
 use Rattle.jh_cli.specs.declared.error.CliError.TheVariants.{Unwritable, TimeMissing, SettingsRead, Read, Write}
 use Rattle.jh_cli.specs.declared.error.CliError.TheVariants.{OutOfMemory}
@@ -36,8 +38,9 @@ error_status (Run error) = 4
 error_status HistoryFull = 4
 error_status Mismatch = 4
 error_status Thread = 4
-error_status OnlyForRegister = 3
-error_status OnlyForListAppend = 3
+error_status (Misplaced option) = 3
+error_status (Missing option) = 3
+error_status BadAccounts = 3
 error_status BadPalette = 3
 error_status Unwritable = 3
 error_status (TimeMissing index) = 3
@@ -53,8 +56,11 @@ command_text EnvironmentMissing = Some (codes "environment missing")
 command_text HistoryFull = Some (codes "history full")
 command_text Mismatch = Some (codes "mismatch")
 command_text Thread = Some (codes "thread failed")
-command_text OnlyForRegister = Some (codes "--initial: only for register")
-command_text OnlyForListAppend = Some (codes "--model: only for list-append")
+command_text (Misplaced option) =
+    Some (option_name option ++ (codes ": only for " ++ checker_name (option_checker option)))
+command_text (Missing option) =
+    Some (option_name option ++ (codes ": needed for " ++ checker_name (option_checker option)))
+command_text BadAccounts = Some (codes "--accounts: no vector or list of values")
 command_text BadPalette =
     Some (codes "--palette: not kinds of cut, slow, loss, fix, pause, kill, bump, with commas between")
 command_text Unwritable = Some (codes "settings: generator too deep to be written again")

@@ -16,8 +16,8 @@ use Rattle.jh_cli.specs.Status.{IsInputError, IsHistoryError, keys_error}
 use Rattle.jh_cli.specs.JudgingOptions.{RefusesJudgingOptions}
 use Rattle.jh_cli.specs.TimelineText.{IsTimelineTextOf}
 use Rattle.jh_cli.specs.declared.error.CliError.{CliError}
-use Rattle.jh_cli.specs.declared.error.CliError.TheVariants.{Input, History, OnlyForRegister}
-use Rattle.jh_cli.specs.declared.error.CliError.TheVariants.{OnlyForListAppend, Read, Write}
+use Rattle.jh_cli.specs.declared.error.CliError.TheVariants.{Input, History, Misplaced}
+use Rattle.jh_cli.specs.declared.error.CliError.TheVariants.{Missing, Read, Write}
 use Rattle.jh_cli.specs.declared.error.CliError.TheVariants.{OutOfMemory}
 use Rattle.jh_cli.specs.declared.timeline_command.TimelineQuestion.{TimelineQuestion}
 
@@ -52,10 +52,10 @@ RefusesPage question history e = RefusesShowing question.independent question.ju
 -- Why an input is refused, where for its text then as its parts are. A failed read and out of
 -- memory may come with any input; a failed write comes only where there is something to write.
 abbrev pub RefusesTimeline : TimelineQuestion → List Edn → List ℕ → CliError → Type 0
-RefusesTimeline question steps input OnlyForRegister =
-    RefusesJudgingOptions question.judging OnlyForRegister
-RefusesTimeline question steps input OnlyForListAppend =
-    RefusesJudgingOptions question.judging OnlyForListAppend
+RefusesTimeline question steps input (Misplaced option) =
+    RefusesJudgingOptions question.judging (Misplaced option)
+RefusesTimeline question steps input (Missing option) =
+    RefusesJudgingOptions question.judging (Missing option)
 RefusesTimeline question steps input (Input error) =
     IsInputError error × RefusesHistoryInput question.skips_unread input (reading.Text error)
 RefusesTimeline question steps input (History error) =

@@ -40,20 +40,25 @@ abbrev pub found_status : Option Finding → ℕ
 found_status None = 0
 found_status (Some found) = verdict_status (finding_verdict found)
 
--- what a page shows of a history as one: a title, the line of its checker, and one section, which
--- has no heading
-pub record ShowsWhole
-    (judging : Option Judging) (choice : Choice) (steps : List Edn) (history : List Operation) (status : ℕ)
+-- what a page shows of a history as one, in which this is found, if it is judged: a title, the line of its
+-- checker, and one section, which has no heading
+pub record ShowsFound
+    (found : Option Finding) (choice : Choice) (steps : List Edn) (history : List Operation) (status : ℕ)
     (title line : List ℕ)
     (sections : List Section) : Type 0 where
-  pub found : Option Finding
-  pub judged : IsFoundBy judging history found
   pub section : Section
   pub shown : IsSectionOf [] history steps found choice section
   pub alone : sections ≡ section ∷ []
   pub titled : title ≡ history_title found
   pub top : line ≡ found_line found
   pub ended : status ≡ found_status found
+
+-- what a page shows of a history as one
+abbrev pub ShowsWhole : Option Judging → Choice → List Edn → List Operation → ℕ → (title line : List ℕ)
+    → List Section → Type 0
+ShowsWhole judging choice steps history status title line sections =
+    (found : Option Finding) × IsFoundBy judging history found
+    × ShowsFound found choice steps history status title line sections
 
 -- ---- independent keys
 

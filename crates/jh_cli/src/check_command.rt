@@ -4,23 +4,25 @@
 //! why a history is refused in `specs/CheckRefusals.antt`; a new checker is a row of the table in
 //! `jh_checkers`, and a case of `is_judged` in `enough.rt`.
 
-ghost use Rattle.std.specs.Prelude.{◌≡◌, ◌≢◌, ◌↔◌, IfOk, IfErr, IsErrOf, IsTrue};
+ghost use Rattle.std.specs.Prelude.{◌≡◌, ◌≢◌, ◌↔◌, IfOk, IfErr, IsErrOf};
 ghost use Rattle.std.specs.Prelude.{MatchResult, Some};
 ghost use Rattle.jh_ops.specs.Operation.{operations};
 ghost use Rattle.jh_cli.specs.CheckRefusals.{RefusesByKeys, RefusesCheck, RefusesJudging};
 ghost use Rattle.jh_cli.specs.CheckRefusals.{RefusesWhole};
 ghost use Rattle.jh_cli.specs.CheckText.{IsCheckTextOf, IsCheckLine};
-ghost use Rattle.jh_cli.specs.JudgingOptions.{RefusesJudgingOptions, TakesInitial, TakesModel};
+ghost use Rattle.jh_cli.specs.JudgingOptions.{IsOptionError, RefusesJudgingOptions};
 ghost use Rattle.jh_cli.specs.Outputs.{OnInput, WritesOutput};
 ghost use Rattle.jh_reports.specs.Judged.{IsKeysText, IsTextBy, IsWholeText};
+ghost use Rattle.jh_cli.specs.declared.error.CliError.{CliError as CliErrorData};
 ghost use Rattle.jh_tasks.specs.Threads.{IsThreadCount};
 
 use crate::counts::{HistoryObserver, history_counts};
 use crate::enough::answer_where_enough;
 use crate::error::CliError;
 use crate::history_input::read_history_input;
+use crate::judging_option::refuse_options;
 use crate::output::finish;
-use jh_checkers::{Checker, Judging};
+use jh_checkers::Judging;
 use jh_independent::check_keys;
 use jh_ops::Op;
 use jh_reports::{Output, output_of_keys};
@@ -30,9 +32,9 @@ use std::sync::Wait;
 use std::thread::Threads;
 
 /// What `check` is asked of a history.
-#[derive(Clone, Copy, Debug, PartialEq, Eq)]
-pub struct CheckQuestion {
-    pub judging: Judging,
+#[derive(Clone, Copy, Debug)]
+pub struct CheckQuestion<'a> {
+    pub judging: Judging<'a>,
     /// Whether each key of independent operations is judged by itself.
     pub independent: bool,
     /// By how many threads keys are judged, from 1 to 16.
@@ -46,8 +48,9 @@ pub struct CheckQuestion {
 }
 
 /// Reads a history as `jh_histories::read_history_and_below` does, also out of what `run` or
-/// `drive` printed, without its unread pairs where that is asked for, judges it as
-/// `jh_checkers::check_history` does, and writes one line with what is found. The answer is the exit
+/// `drive` printed; without the pairs of its operations that no checker reads and that can't be read,
+/// where that is asked for. Judges it as
+/// `jh_checkers::check_history` does, and writes one line with what is found. Returns the exit
 /// status: 0 where the history is valid, 1 where it is not, 2 where that is not known. All is read
 /// and judged before the first byte is written.
 ///
@@ -60,56 +63,32 @@ pub struct CheckQuestion {
 ///
 /// The observer is told, once the history is read, how many of its operations are judged.
 ///
-/// Errors: `OnlyForRegister` where there is an initial value and no register, `OnlyForListAppend`
-/// where there is a consistency model and no transactions over lists, both before anything is read;
-/// an error of reading, then of the text (`Input`), `History`, `Check`; `Thread`, where more than one
+/// Errors: `Misplaced` with the first option that the checker does not take, then `Missing` with the first
+/// that it needs, both before anything is read; an error of reading, then of the text (`Input`), `History`, `Check`; `Thread`, where more than one
 /// was wanted; `OutOfMemory`; `Write`. Nothing is written before any of them but `Write`.
 pub fn check_run<T: Threads + Wait + Sync, R: Read, W: Write, O: HistoryObserver>(
     rt: &T,
     alloc: Global,
     reader: &mut R,
     writer: &mut W,
-    question: CheckQuestion,
+    question: CheckQuestion<'_>,
     observer: &mut O,
 ) -> Result<u8, CliError>
     requires { IsThreadCount question.threads }
     ensures written { IfOk result (λ status. WritesOutput (R.remaining reader.old)
-        (IsCheckTextOf question) status (W.contents writer.old) (W.contents writer.new)) }
-    ensures asked { IsErrOf result CliError.OnlyForRegister
-        ↔ RefusesJudgingOptions (Some question.judging) CliError.OnlyForRegister }
-    ensures reader_kept { IsErrOf result CliError.OnlyForRegister → reader.new ≡ reader.old }
-    ensures asked_model { IsErrOf result CliError.OnlyForListAppend
-        ↔ RefusesJudgingOptions (Some question.judging) CliError.OnlyForListAppend }
-    ensures reader_kept_model { IsErrOf result CliError.OnlyForListAppend
-        → reader.new ≡ reader.old }
+        (IsCheckTextOf question.entry) status (W.contents writer.old) (W.contents writer.new)) }
+    ensures options { (e : CliErrorData) → IsOptionError e
+        → IsErrOf result e ↔ RefusesJudgingOptions (Some question.entry.judging) e }
+    ensures reader_kept { IfErr result (λ e. IsOptionError e → reader.new ≡ reader.old) }
     ensures refused { IfErr result (λ e. OnInput (R.remaining reader.old)
-        (λ input. RefusesCheck question input e)) }
+        (λ input. RefusesCheck question.entry input e)) }
     ensures unwritten { IfErr result (λ e. e ≢ CliError.Write → writer.new ≡ writer.old) }
 {
-    if !takes_initial(question.judging) {
-        return Err(CliError::OnlyForRegister);
-    }
-    if !takes_model(question.judging) {
-        return Err(CliError::OnlyForListAppend);
-    }
+    refuse_options(Some(question.judging))?;
     let parts = read_history_input(alloc, reader, question.skips_unread)?;
     observer.see_history(history_counts(question.judging.checker, &parts.history));
     let output = judge_history(rt, alloc, &parts.history, question)?;
     finish(output, writer)
-}
-
-/// Whether an initial value, if there is one, goes with the checker.
-pub(crate) fn takes_initial(judging: Judging) -> bool
-    ensures { IsTrue result ↔ TakesInitial judging.checker judging.initial }
-{
-    judging.initial.is_none() || matches!(judging.checker, Checker::Register)
-}
-
-/// Whether a consistency model, if there is one, goes with the checker.
-pub(crate) fn takes_model(judging: Judging) -> bool
-    ensures { IsTrue result ↔ TakesModel judging.checker judging.model }
-{
-    judging.model.is_none() || matches!(judging.checker, Checker::ListAppend)
 }
 
 /// What is written for a history.
@@ -117,13 +96,13 @@ fn judge_history<T: Threads + Wait + Sync>(
     rt: &T,
     alloc: Global,
     history: &[Op],
-    question: CheckQuestion,
+    question: CheckQuestion<'_>,
 ) -> Result<Output, CliError>
     requires { IsThreadCount question.threads }
     ensures { MatchResult result
-        (λ output. IsCheckLine question (operations history.now)
+        (λ output. IsCheckLine question.entry (operations history.now)
         output.status output.text.items)
-        (RefusesJudging question (operations history.now)) }
+        (RefusesJudging question.entry (operations history.now)) }
 {
     let output = judge_by(rt, alloc, history, question)?;
     Ok(answer_where_enough(alloc, history, question, output)?)
@@ -134,13 +113,13 @@ fn judge_by<T: Threads + Wait + Sync>(
     rt: &T,
     alloc: Global,
     history: &[Op],
-    question: CheckQuestion,
+    question: CheckQuestion<'_>,
 ) -> Result<Output, CliError>
     requires { IsThreadCount question.threads }
     ensures { MatchResult result
-        (λ output. IsTextBy question.independent question.judging (operations history.now)
+        (λ output. IsTextBy question.entry.independent question.entry.judging (operations history.now)
         output.status output.text.items)
-        (RefusesJudging question (operations history.now)) }
+        (RefusesJudging question.entry (operations history.now)) }
 {
     if question.independent {
         judge_keys_on_threads(rt, alloc, history, question.judging, question.threads)
@@ -150,10 +129,10 @@ fn judge_by<T: Threads + Wait + Sync>(
 }
 
 /// What is written for a history as one.
-fn judge_whole(alloc: Global, history: &[Op], judging: Judging) -> Result<Output, CliError>
+fn judge_whole(alloc: Global, history: &[Op], judging: Judging<'_>) -> Result<Output, CliError>
     ensures { MatchResult result
-        (λ output. IsWholeText judging (operations history.now) output.status output.text.items)
-        (RefusesWhole judging.checker (operations history.now)) }
+        (λ output. IsWholeText judging.entry (operations history.now) output.status output.text.items)
+        (RefusesWhole judging.entry.checker (operations history.now)) }
 {
     Ok(jh_reports::judge_whole(alloc, history, judging)?)
 }
@@ -163,13 +142,13 @@ fn judge_keys_on_threads<T: Threads + Wait + Sync>(
     rt: &T,
     alloc: Global,
     history: &[Op],
-    judging: Judging,
+    judging: Judging<'_>,
     threads: u32,
 ) -> Result<Output, CliError>
     requires { IsThreadCount threads }
     ensures { MatchResult result
-        (λ output. IsKeysText judging (operations history.now) output.status output.text.items)
-        (RefusesByKeys judging threads (operations history.now)) }
+        (λ output. IsKeysText judging.entry (operations history.now) output.status output.text.items)
+        (RefusesByKeys judging.entry threads (operations history.now)) }
 {
     let found = check_keys(rt, alloc, history, judging, threads)?;
     Ok(output_of_keys(alloc, &found)?)

@@ -19,15 +19,28 @@ static IDS: [&str; 1] = ["generate"];
 
 static TRANSACTIONS: [&str; 1] = ["txn"];
 
+static TOTAL_QUEUE: [&str; 3] = ["enqueue", "dequeue", "drain"];
+
+static QUEUE: [&str; 2] = ["enqueue", "dequeue"];
+
+// Transfers of a bank are not judged: they count among other functions.
+static BANK: [&str; 1] = ["read"];
+
+static MUTEX: [&str; 2] = ["acquire", "release"];
+
 /// The names of the functions whose operations a checker judges.
 pub fn functions_of(checker: Checker) -> &'static [&'static str]
     ensures { map (λ name. name.now) result.now ≡ rule.functions_of checker }
 {
     match checker {
         Checker::Register => REGISTER.as_slice(),
-        Checker::Set | Checker::Counter => ADDS.as_slice(),
+        Checker::Set | Checker::Counter | Checker::SetFull => ADDS.as_slice(),
         Checker::Ids => IDS.as_slice(),
         Checker::ListAppend => TRANSACTIONS.as_slice(),
+        Checker::TotalQueue => TOTAL_QUEUE.as_slice(),
+        Checker::Queue => QUEUE.as_slice(),
+        Checker::Bank => BANK.as_slice(),
+        Checker::Mutex => MUTEX.as_slice(),
     }
 }
 
@@ -41,9 +54,19 @@ pub(crate) fn is_judged(checker: Checker, kind: Kind, op: &Op) -> bool
         Checker::Register => {
             op.is_asked(kind, "read") || op.is_asked(kind, "write") || op.is_asked(kind, "cas")
         }
-        Checker::Set | Checker::Counter => op.is_asked(kind, "add") || op.is_asked(kind, "read"),
+        Checker::Set | Checker::Counter | Checker::SetFull => {
+            op.is_asked(kind, "add") || op.is_asked(kind, "read")
+        }
         Checker::Ids => op.is_asked(kind, "generate"),
         Checker::ListAppend => op.is_asked(kind, "txn"),
+        Checker::TotalQueue => {
+            op.is_asked(kind, "enqueue")
+                || op.is_asked(kind, "dequeue")
+                || op.is_asked(kind, "drain")
+        }
+        Checker::Queue => op.is_asked(kind, "enqueue") || op.is_asked(kind, "dequeue"),
+        Checker::Bank => op.is_asked(kind, "read"),
+        Checker::Mutex => op.is_asked(kind, "acquire") || op.is_asked(kind, "release"),
     }
 }
 
@@ -64,12 +87,12 @@ fn count_ok_operations(checker: Checker, history: &[Op]) -> usize
 pub(crate) fn answer_where_enough(
     alloc: Global,
     history: &[Op],
-    question: CheckQuestion,
+    question: CheckQuestion<'_>,
     found: Output,
 ) -> Result<Output, AllocError>
     ensures { IfOk result (λ output. (output.status, output.text.items)
-        ≡ rule.answer_where_enough question.at_least
-        (rule.count_ok_operations question.judging.checker (operations history.now))
+        ≡ rule.answer_where_enough question.entry.at_least
+        (rule.count_ok_operations question.entry.judging.checker (operations history.now))
         found.status found.text.items) }
 {
     let Some(wanted) = question.at_least else {

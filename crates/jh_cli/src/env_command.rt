@@ -29,7 +29,7 @@ use std::io::{Read, Write};
 const FIRST_STEP: u64 = 2;
 
 /// Reads a starting environment and steps, and writes one line with the answer to each step, one
-/// with the ids of the active faults in order, and one with the environment. The answer is the exit
+/// with the ids of the active faults in order, and one with the environment. Returns the exit
 /// status, 0. All is read and judged before the first byte is written.
 ///
 /// Errors: an error of reading, then of the text (`Input`), `EnvironmentMissing`, `Environment`,

@@ -5,6 +5,7 @@ ghost use Rattle.std.specs.Prelude.{◌≡◌, IfSome, OnOk};
 ghost use Rattle.std.specs.Io.KnownBytes.{Appends};
 ghost use Rattle.jh_cli.specs.Status.{command_text, error_status};
 
+use crate::judging_option::JudgingOption;
 use jh_check::CheckError;
 use jh_edn::EdnError;
 use jh_env::EnvTextError;
@@ -23,8 +24,8 @@ use std::fmt::{self, Display, Formatter};
 use std::io::{self, Write};
 
 /// Why a command ended early. `SettingsRead`, `Read`, `Write`, `Thread` and `OutOfMemory` are errors of the
-/// machine, `Run`, `HistoryFull` and `Mismatch` say that a run was not completed, `OnlyForRegister`,
-/// `OnlyForListAppend` and `BadPalette` refuse the arguments, and all others what was read.
+/// machine, `Run`, `HistoryFull` and `Mismatch` say that a run was not completed, `Misplaced`, `Missing`,
+/// `BadAccounts` and `BadPalette` refuse the arguments, and all others what was read.
 #[derive(Debug, Drop)]
 pub enum CliError {
     /// The input is no text of EDN values.
@@ -50,10 +51,12 @@ pub enum CliError {
     Mismatch,
     /// A thread could not be had.
     Thread,
-    /// There is an initial value, and no register.
-    OnlyForRegister,
-    /// There is a consistency model, and no transactions over lists.
-    OnlyForListAppend,
+    /// This option is given, and the workload is none that takes it.
+    Misplaced(JudgingOption),
+    /// This option is not given, and the workload needs it.
+    Missing(JudgingOption),
+    /// The accounts of a bank are no vector or list of EDN values.
+    BadAccounts,
     /// The kinds of faults of a search are no names of kinds.
     BadPalette,
     /// Settings can't say the plan of a search again.
@@ -83,8 +86,9 @@ impl CliError {
             | CliError::History(_)
             | CliError::Check(_)
             | CliError::Settings(_)
-            | CliError::OnlyForRegister
-            | CliError::OnlyForListAppend
+            | CliError::Misplaced(_)
+            | CliError::Missing(_)
+            | CliError::BadAccounts
             | CliError::BadPalette
             | CliError::Unwritable
             | CliError::TimeMissing { .. } => REFUSED,
@@ -124,8 +128,13 @@ impl Display for CliError {
             CliError::HistoryFull => f.write_str("history full"),
             CliError::Mismatch => f.write_str("mismatch"),
             CliError::Thread => f.write_str("thread failed"),
-            CliError::OnlyForRegister => f.write_str("--initial: only for register"),
-            CliError::OnlyForListAppend => f.write_str("--model: only for list-append"),
+            CliError::Misplaced(option) => {
+                write!(f, "{}: only for {}", option.name(), option.workload())
+            }
+            CliError::Missing(option) => {
+                write!(f, "{}: needed for {}", option.name(), option.workload())
+            }
+            CliError::BadAccounts => f.write_str("--accounts: no vector or list of values"),
             CliError::BadPalette => f.write_str(
                 "--palette: not kinds of cut, slow, loss, fix, pause, kill, bump, with commas between",
             ),

@@ -34,11 +34,11 @@ fn differing_text(alloc: Global, said: Verdict) -> Result<Vec<u8>, AllocError>
 /// What a page says that has this exit status, where its input says a verdict. Empty: nothing.
 pub(crate) fn notice_of(
     alloc: Global,
-    judging: Option<Judging>,
+    judging: Option<Judging<'_>>,
     status: u8,
     said: Option<Verdict>,
 ) -> Result<Vec<u8>, AllocError>
-    ensures { IfOk result (λ text. text.items ≡ rule.notice_of judging status said) }
+    ensures { IfOk result (λ text. text.items ≡ rule.notice_of judging.entry status said) }
 {
     match (judging, said) {
         (Some(_), Some(said)) if status_of(said) != status => differing_text(alloc, said),

@@ -14,12 +14,13 @@ ghost use Rattle.jh_cli.specs.TimelineRefusals.{RefusesFinding, RefusesPage, Ref
 ghost use Rattle.jh_cli.specs.TimelineRefusals.{RefusesTimeline};
 ghost use Rattle.jh_cli.specs.TimelineText as text;
 ghost use Rattle.jh_cli.specs.TimelineText.{IsFoundBy, IsPage, IsTimelineTextOf, Shows};
-ghost use Rattle.jh_cli.specs.TimelineText.{ShowsKeys, ShowsWhole};
-ghost use Rattle.jh_cli.specs.JudgingOptions.{RefusesJudgingOptions, TakesInitialBy, TakesModelBy};
+ghost use Rattle.jh_cli.specs.TimelineText.{ShowsFound, ShowsKeys, ShowsWhole};
+ghost use Rattle.jh_cli.specs.JudgingOptions.{IsOptionError, RefusesJudgingOptions};
+ghost use Rattle.jh_cli.specs.declared.error.CliError.{CliError as CliErrorData};
 
-use crate::check_command::{takes_initial, takes_model};
 use crate::error::CliError;
 use crate::history_input::read_history_input;
+use crate::judging_option::refuse_options;
 use crate::notice::notice_of;
 use crate::output::finish;
 use jh_checkers::{Finding, Judging, check_history};
@@ -36,10 +37,10 @@ use std::alloc::{AllocError, Global};
 use std::io::{Read, Write};
 
 /// What `timeline` is asked of a history.
-#[derive(Clone, Copy, Debug, PartialEq, Eq)]
-pub struct TimelineQuestion {
+#[derive(Clone, Copy, Debug)]
+pub struct TimelineQuestion<'a> {
     /// What it is judged by: where there is nothing, it is shown, and not judged.
-    pub judging: Option<Judging>,
+    pub judging: Option<Judging<'a>>,
     /// Whether each key is judged by itself, and shown in a section of its own.
     pub independent: bool,
     /// Which records are shown.
@@ -77,70 +78,40 @@ struct Shown {
 /// Takes what the checker takes, O(n log n) for n records beside it, and memory for the text, the
 /// history and the page.
 ///
-/// Errors: `OnlyForRegister` where there is an initial value and no register, `OnlyForListAppend`
-/// where there is a consistency model and no transactions over lists, both before anything is read;
-/// an error of reading, then of the text (`Input`), `History`, `Check`; `OutOfMemory`; `Write`.
+/// Errors: `Misplaced` with the first option that the checker does not take, then `Missing` with the first
+/// that it needs, both before anything is read; an error of reading, then of the text (`Input`), `History`, `Check`; `OutOfMemory`; `Write`.
 /// Nothing is written before any of them but `Write`.
 pub fn timeline_run<R: Read, W: Write>(
     alloc: Global,
     reader: &mut R,
     writer: &mut W,
-    question: TimelineQuestion,
+    question: TimelineQuestion<'_>,
     steps: &[Value],
 ) -> Result<u8, CliError>
     ensures written { IfOk result (λ status. WritesOutput (R.remaining reader.old)
-        (IsTimelineTextOf question (views steps.now)) status (W.contents writer.old) (W.contents writer.new)) }
-    ensures asked { IsErrOf result CliError.OnlyForRegister
-        ↔ RefusesJudgingOptions question.judging CliError.OnlyForRegister }
-    ensures reader_kept { IsErrOf result CliError.OnlyForRegister → reader.new ≡ reader.old }
-    ensures asked_model { IsErrOf result CliError.OnlyForListAppend
-        ↔ RefusesJudgingOptions question.judging CliError.OnlyForListAppend }
-    ensures reader_kept_model { IsErrOf result CliError.OnlyForListAppend
-        → reader.new ≡ reader.old }
+        (IsTimelineTextOf question.entry (views steps.now)) status (W.contents writer.old) (W.contents writer.new)) }
+    ensures options { (e : CliErrorData) → IsOptionError e
+        → IsErrOf result e ↔ RefusesJudgingOptions question.entry.judging e }
+    ensures reader_kept { IfErr result (λ e. IsOptionError e → reader.new ≡ reader.old) }
     ensures refused { IfErr result (λ e. OnInput (R.remaining reader.old)
-        (λ input. RefusesTimeline question (views steps.now) input e)) }
+        (λ input. RefusesTimeline question.entry (views steps.now) input e)) }
     ensures unwritten { IfErr result (λ e. e ≢ CliError.Write → writer.new ≡ writer.old) }
 {
-    if !takes_initial_by(question.judging) {
-        return Err(CliError::OnlyForRegister);
-    }
-    if !takes_model_by(question.judging) {
-        return Err(CliError::OnlyForListAppend);
-    }
+    refuse_options(question.judging)?;
     let parts = read_history_input(alloc, reader, question.skips_unread)?;
     let output = page_of(alloc, parts, question, steps)?;
     finish(output, writer)
-}
-
-/// Whether an initial value, if there is one, goes with the checker, if there is one.
-fn takes_initial_by(judging: Option<Judging>) -> bool
-    ensures { IsTrue result ↔ TakesInitialBy judging }
-{
-    match judging {
-        Some(judging) => takes_initial(judging),
-        None => true,
-    }
-}
-
-/// Whether a consistency model, if there is one, goes with the checker, if there is one.
-fn takes_model_by(judging: Option<Judging>) -> bool
-    ensures { IsTrue result ↔ TakesModelBy judging }
-{
-    match judging {
-        Some(judging) => takes_model(judging),
-        None => true,
-    }
 }
 
 /// What is found in a history, if it is judged.
 fn found_in(
     alloc: Global,
     history: &[Op],
-    judging: Option<Judging>,
+    judging: Option<Judging<'_>>,
 ) -> Result<Option<Finding>, CliError>
     ensures { MatchResult result
-        (IsFoundBy judging (operations history.now))
-        (RefusesFinding false judging (operations history.now)) }
+        (IsFoundBy judging.entry (operations history.now))
+        (RefusesFinding false judging.entry (operations history.now)) }
 {
     match judging {
         Some(judging) => Ok(Some(check_history(alloc, history, judging)?)),
@@ -172,14 +143,14 @@ fn status_of(found: Option<&Finding>) -> u8
 fn shown_of(
     alloc: Global,
     history: Vec<Op>,
-    question: TimelineQuestion,
+    question: TimelineQuestion<'_>,
     steps: &[Value],
 ) -> Result<Shown, CliError>
     requires { All (λ op. IsWritable op.process) history.items }
     ensures shows { MatchResult result
-        (λ shown. Shows question (views steps.now) (operations history.items)
+        (λ shown. Shows question.entry (views steps.now) (operations history.items)
         shown.status shown.title.items shown.line.items shown.sections.items)
-        (RefusesPage question (operations history.items)) }
+        (RefusesPage question.entry (operations history.items)) }
     ensures writable { IfOk result (λ shown.
         All (λ section. All (λ op. IsWritable op.process) section.history.items)
         shown.sections.items) }
@@ -195,34 +166,44 @@ fn shown_of(
 fn shown_whole(
     alloc: Global,
     history: Vec<Op>,
-    question: TimelineQuestion,
+    question: TimelineQuestion<'_>,
     steps: &[Value],
 ) -> Result<Shown, CliError>
     requires { All (λ op. IsWritable op.process) history.items }
     ensures shows { MatchResult result
-        (λ shown. ShowsWhole question.judging question.choice (views steps.now) (operations history.items)
+        (λ shown. ShowsWhole question.entry.judging question.entry.choice (views steps.now) (operations history.items)
         shown.status shown.title.items shown.line.items shown.sections.items)
-        (RefusesShowing false question.judging (operations history.items)) }
+        (RefusesShowing false question.entry.judging (operations history.items)) }
     ensures writable { IfOk result (λ shown.
         All (λ section. All (λ op. IsWritable op.process) section.history.items)
         shown.sections.items) }
 {
     let found = found_in(alloc, &history, question.judging)?;
-    let title = title_of(alloc, found.as_ref())?;
-    let line = line_of(alloc, found.as_ref())?;
-    let status = status_of(found.as_ref());
-    let section = section_of(
-        alloc,
-        Vec::new(alloc),
-        history,
-        steps,
-        found.as_ref(),
-        question.choice,
-    )?;
+    Ok(shown_found(alloc, history, found.as_ref(), question.choice, steps)?)
+}
+
+/// What a page shows of a history as one, in which this was found, if it was judged.
+fn shown_found(
+    alloc: Global,
+    history: Vec<Op>,
+    found: Option<&Finding>,
+    choice: Choice,
+    steps: &[Value],
+) -> Result<Shown, AllocError>
+    requires { All (λ op. IsWritable op.process) history.items }
+    ensures shows { IfOk result (λ shown. ShowsFound (option_copied found.entry) choice (views steps.now)
+        (operations history.items) shown.status shown.title.items shown.line.items shown.sections.items) }
+    ensures writable { IfOk result (λ shown.
+        All (λ section. All (λ op. IsWritable op.process) section.history.items)
+        shown.sections.items) }
+{
+    let title = title_of(alloc, found)?;
+    let line = line_of(alloc, found)?;
+    let section = section_of(alloc, Vec::new(alloc), history, steps, found, choice)?;
     let mut sections = Vec::new(alloc);
     sections.push(section)?;
     Ok(Shown {
-        status,
+        status: status_of(found),
         title,
         line,
         sections,
@@ -233,13 +214,13 @@ fn shown_whole(
 fn shown_by_keys(
     alloc: Global,
     history: &[Op],
-    question: TimelineQuestion,
+    question: TimelineQuestion<'_>,
 ) -> Result<Shown, CliError>
     requires { All (λ op. IsWritable op.process) history.now }
     ensures shows { MatchResult result
-        (λ shown. ShowsKeys question.judging question.choice (operations history.now)
+        (λ shown. ShowsKeys question.entry.judging question.entry.choice (operations history.now)
         shown.status shown.title.items shown.line.items shown.sections.items)
-        (RefusesShowing true question.judging (operations history.now)) }
+        (RefusesShowing true question.entry.judging (operations history.now)) }
     ensures writable { IfOk result (λ shown.
         All (λ section. All (λ op. IsWritable op.process) section.history.items)
         shown.sections.items) }
@@ -254,14 +235,14 @@ fn shown_by_keys(
 fn shown_judged(
     alloc: Global,
     history: &[Op],
-    judging: Judging,
+    judging: Judging<'_>,
     choice: Choice,
 ) -> Result<Shown, CliError>
     requires { All (λ op. IsWritable op.process) history.now }
     ensures shows { MatchResult result
-        (λ shown. ShowsKeys (Some judging) choice (operations history.now)
+        (λ shown. ShowsKeys (Some judging.entry) choice (operations history.now)
         shown.status shown.title.items shown.line.items shown.sections.items)
-        (RefusesShowing true (Some judging) (operations history.now)) }
+        (RefusesShowing true (Some judging.entry) (operations history.now)) }
     ensures writable { IfOk result (λ shown.
         All (λ section. All (λ op. IsWritable op.process) section.history.items)
         shown.sections.items) }
@@ -321,14 +302,14 @@ fn page_text(
 fn page_of(
     alloc: Global,
     parts: HistoryAndBelow,
-    question: TimelineQuestion,
+    question: TimelineQuestion<'_>,
     steps: &[Value],
 ) -> Result<Output, CliError>
     requires { All (λ op. IsWritable op.process) parts.history.items }
     ensures { MatchResult result
-        (λ output. IsPage question (views steps.now) (operations parts.history.items) parts.below.items
+        (λ output. IsPage question.entry (views steps.now) (operations parts.history.items) parts.below.items
         output.status output.text.items)
-        (RefusesPage question (operations parts.history.items)) }
+        (RefusesPage question.entry (operations parts.history.items)) }
 {
     let HistoryAndBelow { history, below } = parts;
     let Shown {

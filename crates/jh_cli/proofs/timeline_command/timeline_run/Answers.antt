@@ -4,13 +4,39 @@ use Rattle.jh_edn.specs.View.{views}
 use Rattle.jh_ops.specs.Operation.{operations}
 use Rattle.jh_cli.specs.TimelineRefusals.{RefusesTimeline}
 use Rattle.jh_cli.specs.TimelineText.{IsTimelineTextOf}
-use Rattle.jh_cli.proofs.TimelineLemmas.{parts_refused}
-use Rattle.jh_cli.proofs.WritingLemmas.{on_input, output_refused, output_written}
+use Rattle.jh_cli.proofs.TimelineLemmas.{options_refused, page_not_of_options, parts_refused}
+use Rattle.jh_cli.proofs.CheckLemmas.{not_of_reading, tells_end, tells_other, tells_refusal}
+use Rattle.jh_cli.proofs.WritingLemmas.{on_any_input, on_input, output_refused, output_written}
 use Rattle.jh_cli.proofs.timeline_command.timeline_run.Goals as goal
+
+-- the options are refused
+pub returns-in_err-refuse_options-clause-refused : goal.returns-in_err-refuse_options-clause-refused
+returns-in_err-refuse_options-clause-refused g c =
+    let p = err_from_is_err_and c.from_residual.result c.from_residual.ensures.1 in
+    rw (p.1, p.2) (on_any_input _ (g.R.Read.remaining c.args.reader.now) (λ input. options_refused c.args.question (views c.args.steps.now) input c.in_err-refuse_options.field-0.0 c.in_err-refuse_options.ensures.refused))
+
+pub returns-in_err-refuse_options-clause-options : goal.returns-in_err-refuse_options-clause-options
+returns-in_err-refuse_options-clause-options g c =
+    let p = err_from_is_err_and c.from_residual.result c.from_residual.ensures.1 in
+    rw (p.1, p.2) (tells_refusal c.args.question.judging c.in_err-refuse_options.field-0.0 c.in_err-refuse_options.ensures.refused)
+
+-- they are taken, and it ends otherwise
+pub returns-in_err-parts-clause-options : goal.returns-in_err-parts-clause-options
+returns-in_err-parts-clause-options g c =
+    let p = err_from_is_err_and c.from_residual-in_err-parts.result c.from_residual-in_err-parts.ensures.1 in
+    rw (p.1, p.2) (tells_other c.args.question.judging _ (not_of_reading c.in_err-parts.field-0.0) c.in_ok-refuse_options.ensures.taken)
+
+pub returns-in_err-output-clause-options : goal.returns-in_err-output-clause-options
+returns-in_err-output-clause-options g c =
+    let p = err_from_is_err_and c.from_residual-in_err-output.result c.from_residual-in_err-output.ensures.1 in
+    rw (p.1, p.2) (tells_other c.args.question.judging _ (page_not_of_options c.args.question (operations c.in_ok-parts.parts.history.items) c.in_err-output.field-0.0 c.in_err-output.ensures) c.in_ok-refuse_options.ensures.taken)
+
+pub returns-clause-options : goal.returns-clause-options
+returns-clause-options g c = tells_end c.args.question.judging c.finish.result c.finish.ensures.failed c.in_ok-refuse_options.ensures.taken
 
 pub returns-in_err-parts-clause-refused : goal.returns-in_err-parts-clause-refused
 returns-in_err-parts-clause-refused g c =
-    let p = err_from_is_err_and c.from_residual.result c.from_residual.ensures.1 in
+    let p = err_from_is_err_and c.from_residual-in_err-parts.result c.from_residual-in_err-parts.ensures.1 in
     rw (p.1, p.2) (on_input _ _ (g.R.Read.remaining c.args.reader.now) (λ input refused.
     parts_refused c.args.question (views c.args.steps.now) input c.in_err-parts.field-0.0 refused
     ) c.in_err-parts.ensures.refused)
