@@ -1,6 +1,6 @@
 -- How the program ends, from what the command says that it runs.
-use Rattle.std.proofs.Common.{◌≡◌, ◌≢◌, ◌∙◌, ◌↔◌, ◌⊎◌, ap, refl, sym, List, ℕ, subst, inl, inr, Option, None}
-use Rattle.std.specs.Prelude.{Result, Ok, Err, IfOk, IfErr, IsErrAnd, IsErrOf}
+use Rattle.std.proofs.Common.{◌≡◌, ◌≢◌, ◌∙◌, ◌↔◌, ◌⊎◌, ap, refl, sym, List, ℕ, subst, inl, inr, Option, Some, None}
+use Rattle.std.specs.Prelude.{Result, Ok, Err, IfOk, IfErr, IsErrAnd, IsErrOf, option_map}
 use Rattle.clap.specs.Words.{Text, subcommand_rows_of}
 use Rattle.clap.specs.declared.error.Error.{Error}
 use Rattle.clap.specs.declared.parser.matches.ArgMatches.{ArgMatches}
@@ -12,24 +12,60 @@ use Rattle.jh_drive.specs.declared.error.DriveError.{DriveError}
 use Rattle.jh_drive.specs.declared.error.DriveError.TheVariants.{Settings}
 use Rattle.jh_settings.specs.declared.error.SettingsError.{SettingsError}
 use Rattle.jh_edn.specs.Edn.{Edn}
-use Rattle.jh_arguments.specs.Answers.{ArgumentsAskForTest, ArgumentsGive, GivesSteps, HasNoSteps, IsUnscheduled, IsConductedTo, IsCommandDone, IsFailed, IsFileUnread, IsUnfinished, of_command, of_test}
-use Rattle.jh_arguments.specs.Commands.{SubcommandHasSchedule, SubcommandIsDrive, SubcommandIs, IsOfOptions, IsOutputOf, RefusesCommand, RefusesOptions}
+use Rattle.jh_edn.specs.View.{views}
+use Rattle.jh_edn.specs.declared.value.Value.{Value}
+use Rattle.jh_arguments.specs.Accounts.{Accounts, RefusesAccountsText}
+use Rattle.jh_arguments.specs.Answers.{ArgumentsAskForTest, ArgumentsGive, GivesAccounts, GivesSteps, HasNoAccounts, HasNoSteps, accounts_seen, IsUnscheduled, IsConductedTo, IsCommandDone, IsFailed, IsFileUnread, IsUnfinished, of_command, of_test}
+use Rattle.jh_arguments.specs.Commands.{SubcommandHasAccounts, SubcommandHasSchedule, SubcommandIsDrive, SubcommandIs, IsOfOptions, IsOutputOf, RefusesCommand, RefusesOptions}
 use Rattle.jh_arguments.proofs.OptionRefusals.{is_of_options}
 use Rattle.jh_arguments.specs.Line.{AreMatches, IsRefused}
 use Rattle.jh_arguments.specs.declared.answers.Refusal.{Refusal}
 use Rattle.jh_arguments.specs.declared.answers.Refusal.TheVariants as Refusals
 use Rattle.jh_arguments.specs.declared.commands.Command.{Command}
 
-pub asked_by : (arguments : List Text) (matches : ArgMatches) (command : Command) (steps : List Edn) → AreMatches arguments matches → SubcommandIs (subcommand_rows_of matches) command
-    → GivesSteps (subcommand_rows_of matches) steps → ArgumentsGive arguments command steps
-asked_by arguments matches command steps (app, line, fault, rows, found) asks gives =
-    (app, line, fault, subst (λ o. SubcommandIs o command) found asks, subst (λ o. GivesSteps o steps) found gives)
+pub asked_by : (arguments : List Text) (matches : ArgMatches) (given : Accounts) (command : Command) (steps : List Edn) → AreMatches arguments matches
+    → GivesAccounts (subcommand_rows_of matches) (accounts_seen given) → SubcommandIs given (subcommand_rows_of matches) command → GivesSteps (subcommand_rows_of matches) steps
+    → ArgumentsGive arguments command steps
+asked_by arguments matches given command steps (app, line, fault, rows, found) accounts asks gives = record {
+  app = app;
+  line = line;
+  taken = fault;
+  given = given;
+  accounts = subst (λ o. GivesAccounts o (accounts_seen given)) found accounts;
+  asked = subst (λ o. SubcommandIs given o command) found asks;
+  steps_given = subst (λ o. GivesSteps o steps) found gives;
+}
+
+-- accounts that are lent are seen as those that are held
+pub seen_alike : {A : Type 0} (items : A → List Value) (held : Option A) (given : Accounts) → option_map (λ accounts. accounts.now) given ≡ option_map items held
+    → option_map (λ accounts. views (items accounts)) held ≡ accounts_seen given
+seen_alike items None None same = refl
+seen_alike items None (Some given) same = let bad : Some given.now ≡ None = same in cc
+seen_alike items (Some held) None same = let bad : None ≡ Some (items held) = same in cc
+seen_alike items (Some held) (Some given) same =
+    let both : Some given.now ≡ Some (items held) = same in
+    let alike : given.now ≡ items held = cc in
+    ap (λ values. Some (views values)) (sym alike)
+
+-- no accounts are taken
+pub without_accounts : (arguments : List Text) (matches : ArgMatches) (e : CliError) → AreMatches arguments matches
+    → (text : Text) × SubcommandHasAccounts (subcommand_rows_of matches) text × RefusesAccountsText text e → HasNoAccounts arguments e
+without_accounts arguments matches e (app, line, fault, rows, found) (text, has, why) =
+    record { app = app; line = line; taken = fault; text = text; asked = subst (λ o. SubcommandHasAccounts o text) found has; why = why }
 
 -- no steps can be had
-pub without_steps : (arguments : List Text) (matches : ArgMatches) (e : CliError) → AreMatches arguments matches → (path : Text) × SubcommandHasSchedule (subcommand_rows_of matches) path → IsUnscheduled e
-    → HasNoSteps arguments e
-without_steps arguments matches e (app, line, fault, rows, found) (path, has) why =
-    record { app = app; line = line; taken = fault; path = path; asked = subst (λ o. SubcommandHasSchedule o path) found has; why = why }
+pub without_steps : (arguments : List Text) (matches : ArgMatches) (given : Option (List Edn)) (e : CliError) → AreMatches arguments matches → GivesAccounts (subcommand_rows_of matches) given
+    → (path : Text) × SubcommandHasSchedule (subcommand_rows_of matches) path → IsUnscheduled e → HasNoSteps arguments e
+without_steps arguments matches given e (app, line, fault, rows, found) accounts (path, has) why = record {
+  app = app;
+  line = line;
+  taken = fault;
+  given = given;
+  accounts = subst (λ o. GivesAccounts o given) found accounts;
+  path = path;
+  asked = subst (λ o. SubcommandHasSchedule o path) found has;
+  why = why;
+}
 
 pub asked_test_by : (arguments : List Text) (matches : ArgMatches) (path : Text) → AreMatches arguments matches → SubcommandIsDrive (subcommand_rows_of matches) path → ArgumentsAskForTest arguments path
 asked_test_by arguments matches path (app, line, fault, rows, found) asks = (app, line, fault, subst (λ o. SubcommandIsDrive o path) found asks)
@@ -37,16 +73,15 @@ asked_test_by arguments matches path (app, line, fault, rows, found) asks = (app
 -- what `do_command` says of the options of a command
 pub record SaysOfOptions {R : Type 0} (command : Command) (r : Result ℕ CliError) (old new : R) : Type 0 where
   pub options : (error : CliError) → IsOfOptions command error → IsErrOf r error ↔ RefusesOptions command error
-  pub reader_kept : (error : CliError) → IsOfOptions command error → IsErrOf r error → new ≡ old
+  pub reader_kept : IfErr r (λ e. IsOfOptions command e → new ≡ old)
 
 -- options that are refused are refused so
 refused_so : {R : Type 0} (command : Command) (r : Result ℕ CliError) (old new : R) → SaysOfOptions command r old new → (refusal : CliError) → RefusesOptions command refusal → IsErrOf r refusal
 refused_so command r old new says refusal refuses = (says.options refusal (is_of_options command refusal refuses)).1 refuses
 
 -- and one that is of the options comes of them, with nothing read
-of_options : {R : Type 0} (command : Command) (r : Result ℕ CliError) (old new : R) → SaysOfOptions command r old new → (e : CliError) → IsErrOf r e → IsOfOptions command e
-    → RefusesOptions command e × (new ≡ old)
-of_options command r old new says e is of = ((says.options e of).0 is, says.reader_kept e of is)
+of_options : {R : Type 0} (command : Command) (old new : R) (e : CliError) → SaysOfOptions command (Err e) old new → IsOfOptions command e → RefusesOptions command e × (new ≡ old)
+of_options command old new e says of = ((says.options e of).0 refl, says.reader_kept of)
 
 the_same : (e refusal : CliError) → ◌≡◌ {A = Result ℕ CliError} (Err e) (Err refusal) → e ≡ refusal
 the_same e refusal both = cc
@@ -63,7 +98,7 @@ ended_so arguments command input old new e steps asked says refused = record {
   steps = steps;
   asked = asked;
   options = λ refusal refuses. the_same e refusal (refused_so command (Err e) old new says refusal refuses);
-  of_options = of_options command (Err e) old new says e refl;
+  of_options = of_options command old new e says;
   refused = refused;
 }
 
@@ -77,6 +112,9 @@ pub record Ends {R W : Type 0} (arguments : List Text) (input rest before after 
   pub unwritten : (error : Error) → IsErrOf r (Refusals.Arguments error) → writer_new ≡ writer_old
   pub failed : (error : CliError) → IsErrOf r (Refusals.Command error) → IsFailed arguments input reader_old reader_new error
   pub failed_unwritten : (error : CliError) → IsErrOf r (Refusals.Command error) → error ≢ Write → writer_new ≡ writer_old
+  pub unaccounted : (error : CliError) → IsErrOf r (Refusals.Accounts error) → HasNoAccounts arguments error
+  pub unaccounted_reader_kept : (error : CliError) → IsErrOf r (Refusals.Accounts error) → reader_new ≡ reader_old
+  pub unaccounted_unwritten : (error : CliError) → IsErrOf r (Refusals.Accounts error) → writer_new ≡ writer_old
   pub unscheduled : (error : CliError) → IsErrOf r (Refusals.Schedule error) → HasNoSteps arguments error
   pub unscheduled_reader_kept : (error : CliError) → IsErrOf r (Refusals.Schedule error) → reader_new ≡ reader_old
   pub unscheduled_unwritten : (error : CliError) → IsErrOf r (Refusals.Schedule error) → writer_new ≡ writer_old
@@ -89,6 +127,9 @@ the_arguments x y e = cc
 
 the_command : (x y : CliError) → ◌≡◌ {A = Result ℕ Refusal} (Err (Refusals.Command x)) (Err (Refusals.Command y)) → x ≡ y
 the_command x y e = cc
+
+the_accounts : (x y : CliError) → ◌≡◌ {A = Result ℕ Refusal} (Err (Refusals.Accounts x)) (Err (Refusals.Accounts y)) → x ≡ y
+the_accounts x y e = cc
 
 the_schedule : (x y : CliError) → ◌≡◌ {A = Result ℕ Refusal} (Err (Refusals.Schedule x)) (Err (Refusals.Schedule y)) → x ≡ y
 the_schedule x y e = cc
@@ -105,10 +146,31 @@ module _ {R W : Type 0} (arguments : List Text) (input rest before after : Optio
     unwritten = λ other is. unwritten;
     failed = λ other is. absurd (let bad : Err (Refusals.Arguments error) ≡ Err (Refusals.Command other) = is in cc);
     failed_unwritten = λ other is. absurd (let bad : Err (Refusals.Arguments error) ≡ Err (Refusals.Command other) = is in cc);
+    unaccounted = λ other is. absurd (let bad : Err (Refusals.Arguments error) ≡ Err (Refusals.Accounts other) = is in cc);
+    unaccounted_reader_kept = λ other is. absurd (let bad : Err (Refusals.Arguments error) ≡ Err (Refusals.Accounts other) = is in cc);
+    unaccounted_unwritten = λ other is. absurd (let bad : Err (Refusals.Arguments error) ≡ Err (Refusals.Accounts other) = is in cc);
     unscheduled = λ other is. absurd (let bad : Err (Refusals.Arguments error) ≡ Err (Refusals.Schedule other) = is in cc);
     unscheduled_reader_kept = λ other is. absurd (let bad : Err (Refusals.Arguments error) ≡ Err (Refusals.Schedule other) = is in cc);
     unscheduled_unwritten = λ other is. absurd (let bad : Err (Refusals.Arguments error) ≡ Err (Refusals.Schedule other) = is in cc);
     unfinished = λ other is. absurd (let bad : Err (Refusals.Arguments error) ≡ Err (Refusals.Test other) = is in cc);
+  }
+
+  -- no accounts are taken
+  pub unaccounted_ends : (error : CliError) → HasNoAccounts arguments error → rn ≡ ro → wn ≡ wo → Ends arguments input rest before after ro rn wo wn (Err (Refusals.Accounts error))
+  unaccounted_ends error none reader_kept unwritten = record {
+    done = tt;
+    refused = λ other is. absurd (let bad : Err (Refusals.Accounts error) ≡ Err (Refusals.Arguments other) = is in cc);
+    reader_kept = λ other is. absurd (let bad : Err (Refusals.Accounts error) ≡ Err (Refusals.Arguments other) = is in cc);
+    unwritten = λ other is. absurd (let bad : Err (Refusals.Accounts error) ≡ Err (Refusals.Arguments other) = is in cc);
+    failed = λ other is. absurd (let bad : Err (Refusals.Accounts error) ≡ Err (Refusals.Command other) = is in cc);
+    failed_unwritten = λ other is. absurd (let bad : Err (Refusals.Accounts error) ≡ Err (Refusals.Command other) = is in cc);
+    unaccounted = λ other is. subst (HasNoAccounts arguments) (the_accounts error other is) none;
+    unaccounted_reader_kept = λ other is. reader_kept;
+    unaccounted_unwritten = λ other is. unwritten;
+    unscheduled = λ other is. absurd (let bad : Err (Refusals.Accounts error) ≡ Err (Refusals.Schedule other) = is in cc);
+    unscheduled_reader_kept = λ other is. absurd (let bad : Err (Refusals.Accounts error) ≡ Err (Refusals.Schedule other) = is in cc);
+    unscheduled_unwritten = λ other is. absurd (let bad : Err (Refusals.Accounts error) ≡ Err (Refusals.Schedule other) = is in cc);
+    unfinished = λ other is. absurd (let bad : Err (Refusals.Accounts error) ≡ Err (Refusals.Test other) = is in cc);
   }
 
   -- the steps of a page can't be had
@@ -120,6 +182,9 @@ module _ {R W : Type 0} (arguments : List Text) (input rest before after : Optio
     unwritten = λ other is. absurd (let bad : Err (Refusals.Schedule error) ≡ Err (Refusals.Arguments other) = is in cc);
     failed = λ other is. absurd (let bad : Err (Refusals.Schedule error) ≡ Err (Refusals.Command other) = is in cc);
     failed_unwritten = λ other is. absurd (let bad : Err (Refusals.Schedule error) ≡ Err (Refusals.Command other) = is in cc);
+    unaccounted = λ other is. absurd (let bad : Err (Refusals.Schedule error) ≡ Err (Refusals.Accounts other) = is in cc);
+    unaccounted_reader_kept = λ other is. absurd (let bad : Err (Refusals.Schedule error) ≡ Err (Refusals.Accounts other) = is in cc);
+    unaccounted_unwritten = λ other is. absurd (let bad : Err (Refusals.Schedule error) ≡ Err (Refusals.Accounts other) = is in cc);
     unscheduled = λ other is. subst (HasNoSteps arguments) (the_schedule error other is) none;
     unscheduled_reader_kept = λ other is. reader_kept;
     unscheduled_unwritten = λ other is. unwritten;
@@ -138,6 +203,9 @@ module _ {R W : Type 0} (arguments : List Text) (input rest before after : Optio
     unwritten = λ other is. absurd (let bad : Ok status ≡ Err (Refusals.Arguments other) = is in cc);
     failed = λ other is. absurd (let bad : Ok status ≡ Err (Refusals.Command other) = is in cc);
     failed_unwritten = λ other is. absurd (let bad : Ok status ≡ Err (Refusals.Command other) = is in cc);
+    unaccounted = λ other is. absurd (let bad : Ok status ≡ Err (Refusals.Accounts other) = is in cc);
+    unaccounted_reader_kept = λ other is. absurd (let bad : Ok status ≡ Err (Refusals.Accounts other) = is in cc);
+    unaccounted_unwritten = λ other is. absurd (let bad : Ok status ≡ Err (Refusals.Accounts other) = is in cc);
     unscheduled = λ other is. absurd (let bad : Ok status ≡ Err (Refusals.Schedule other) = is in cc);
     unscheduled_reader_kept = λ other is. absurd (let bad : Ok status ≡ Err (Refusals.Schedule other) = is in cc);
     unscheduled_unwritten = λ other is. absurd (let bad : Ok status ≡ Err (Refusals.Schedule other) = is in cc);
@@ -150,6 +218,9 @@ module _ {R W : Type 0} (arguments : List Text) (input rest before after : Optio
     unwritten = λ other is. absurd (let bad : Err (Refusals.Command error) ≡ Err (Refusals.Arguments other) = is in cc);
     failed = λ other is. subst (IsFailed arguments input ro rn) (the_command error other is) (ended_so arguments command input ro rn error steps asked says refused);
     failed_unwritten = λ other is differs. unwritten (λ same. differs (sym (the_command error other is) ∙ same));
+    unaccounted = λ other is. absurd (let bad : Err (Refusals.Command error) ≡ Err (Refusals.Accounts other) = is in cc);
+    unaccounted_reader_kept = λ other is. absurd (let bad : Err (Refusals.Command error) ≡ Err (Refusals.Accounts other) = is in cc);
+    unaccounted_unwritten = λ other is. absurd (let bad : Err (Refusals.Command error) ≡ Err (Refusals.Accounts other) = is in cc);
     unscheduled = λ other is. absurd (let bad : Err (Refusals.Command error) ≡ Err (Refusals.Schedule other) = is in cc);
     unscheduled_reader_kept = λ other is. absurd (let bad : Err (Refusals.Command error) ≡ Err (Refusals.Schedule other) = is in cc);
     unscheduled_unwritten = λ other is. absurd (let bad : Err (Refusals.Command error) ≡ Err (Refusals.Schedule other) = is in cc);
@@ -168,6 +239,9 @@ module _ {R W : Type 0} (arguments : List Text) (input rest before after : Optio
     unwritten = λ other is. absurd (let bad : Ok status ≡ Err (Refusals.Arguments other) = is in cc);
     failed = λ other is. absurd (let bad : Ok status ≡ Err (Refusals.Command other) = is in cc);
     failed_unwritten = λ other is. absurd (let bad : Ok status ≡ Err (Refusals.Command other) = is in cc);
+    unaccounted = λ other is. absurd (let bad : Ok status ≡ Err (Refusals.Accounts other) = is in cc);
+    unaccounted_reader_kept = λ other is. absurd (let bad : Ok status ≡ Err (Refusals.Accounts other) = is in cc);
+    unaccounted_unwritten = λ other is. absurd (let bad : Ok status ≡ Err (Refusals.Accounts other) = is in cc);
     unscheduled = λ other is. absurd (let bad : Ok status ≡ Err (Refusals.Schedule other) = is in cc);
     unscheduled_reader_kept = λ other is. absurd (let bad : Ok status ≡ Err (Refusals.Schedule other) = is in cc);
     unscheduled_unwritten = λ other is. absurd (let bad : Ok status ≡ Err (Refusals.Schedule other) = is in cc);
@@ -184,6 +258,9 @@ module _ {R W : Type 0} (arguments : List Text) (input rest before after : Optio
     unwritten = λ other is. absurd (let bad : Err (Refusals.Test error) ≡ Err (Refusals.Arguments other) = is in cc);
     failed = λ other is. absurd (let bad : Err (Refusals.Test error) ≡ Err (Refusals.Command other) = is in cc);
     failed_unwritten = λ other is. absurd (let bad : Err (Refusals.Test error) ≡ Err (Refusals.Command other) = is in cc);
+    unaccounted = λ other is. absurd (let bad : Err (Refusals.Test error) ≡ Err (Refusals.Accounts other) = is in cc);
+    unaccounted_reader_kept = λ other is. absurd (let bad : Err (Refusals.Test error) ≡ Err (Refusals.Accounts other) = is in cc);
+    unaccounted_unwritten = λ other is. absurd (let bad : Err (Refusals.Test error) ≡ Err (Refusals.Accounts other) = is in cc);
     unscheduled = λ other is. absurd (let bad : Err (Refusals.Test error) ≡ Err (Refusals.Schedule other) = is in cc);
     unscheduled_reader_kept = λ other is. absurd (let bad : Err (Refusals.Test error) ≡ Err (Refusals.Schedule other) = is in cc);
     unscheduled_unwritten = λ other is. absurd (let bad : Err (Refusals.Test error) ≡ Err (Refusals.Schedule other) = is in cc);

@@ -26,11 +26,12 @@ use Rattle.jh_checkers.specs.Checkers.{checker_name, checker_names}
 use Rattle.jh_checkers.specs.Models.{model_named}
 use Rattle.jh_arguments.specs.Palettes.{palette_named}
 use Rattle.jh_arguments.specs.Line.{IsCommandLine, check, drive, jeprun, plot, search, shrink, timeline, without_options}
-use Rattle.jh_arguments.specs.Commands.{SubcommandIsAny, AsksCheck, SubcommandIsDrive, SubcommandIs, AsksSearch, AsksTimeline, IsFlag, IsGivenWithin, IsGivenNumber, IsInitial, IsJudging, IsJudgingBy, IsNumberWithin, IsShow}
+use Rattle.jh_arguments.specs.Accounts.{Accounts}
+use Rattle.jh_arguments.specs.Commands.{SubcommandIsAny, AsksCheck, SubcommandIsDrive, SubcommandIs, AsksSearch, AsksTimeline, IsFlag, IsGivenWithin, IsGivenNumber, IsGivenSigned, IsJudging, IsJudgingBy, IsNumberWithin, IsShow}
 use Rattle.jh_arguments.specs.Limits.{max_candidates, max_spread_ms}
 use Rattle.jh_settings.specs.Limits.{max_budget}
 use Rattle.jh_checkers.specs.declared.checker.Checker.{Checker}
-use Rattle.jh_checkers.specs.declared.checker.Checker.TheVariants.{Register, Set, Counter, Ids, ListAppend}
+use Rattle.jh_checkers.specs.declared.checker.Checker.TheVariants.{Register, Set, Counter, Ids, ListAppend, TotalQueue, Queue, Bank, SetFull, Mutex}
 use Rattle.jh_checkers.specs.declared.finding.Judging.{Judging}
 use Rattle.jh_cli.specs.declared.search_command.Show.{Show}
 use Rattle.jh_arguments.specs.declared.commands.Command.{Command}
@@ -77,12 +78,11 @@ module _ (rows : List Row) (id : Text) where
       let n = digits_value 10 (without_leading_plus t.text) in
       (Some n, subst (λ o. IsGivenNumber o (Some n)) (sym t.one) ((t.accepted.0, t.accepted.1), refl))
 
-initial_in : (rows : List Row) → ((false ≡ false) × HasNoText rows (codes "initial")) ⊎ HasText rows (codes "initial") false (vp.Signed (negsuc 9223372036854775807) (pos 9223372036854775807))
-    → (v : Option ℤ) × IsInitial (one_of (codes "initial") rows) v
-initial_in rows (inl none) = (None, subst (λ o. IsInitial o None) (sym none.1.one) refl)
-initial_in rows (inr t) =
-    let v = signed_digits_value 10 t.text in
-    (Some v, subst (λ o. IsInitial o (Some v)) (sym t.one) ((t.accepted.0, t.accepted.1), refl))
+  signed_in : ((false ≡ false) × HasNoText rows id) ⊎ HasText rows id false (vp.Signed (negsuc 9223372036854775807) (pos 9223372036854775807)) → (v : Option ℤ) × IsGivenSigned (one_of id rows) v
+  signed_in (inl none) = (None, subst (λ o. IsGivenSigned o None) (sym none.1.one) refl)
+  signed_in (inr t) =
+      let v = signed_digits_value 10 t.text in
+      (Some v, subst (λ o. IsGivenSigned o (Some v)) (sym t.one) ((t.accepted.0, t.accepted.1), refl))
 
 flag_in : (o : Option Text) → (b : Bool) × IsFlag o b
 flag_in None = (false, refl)
@@ -102,7 +102,7 @@ checker_in : (names : Bor (List (Bor Text))) → map (λ s. s.now) names.now ≡
 checker_in names all rows t =
     let among : list_any (λ n. bytes_eq n t.text) checker_names ≡ true =
     ap (list_any (λ n. bytes_eq n t.text)) (sym all) ∙ (sym (list_any-map (λ n. bytes_eq n t.text) (λ s. s.now) names.now) ∙ t.accepted) in
-    let found = any_checker t.text (Register ∷ Set ∷ Counter ∷ Ids ∷ ListAppend ∷ []) among in
+    let found = any_checker t.text (Register ∷ Set ∷ Counter ∷ Ids ∷ ListAppend ∷ TotalQueue ∷ Queue ∷ Bank ∷ SetFull ∷ Mutex ∷ []) among in
     (found.0, t.first ∙ ap Some (sym found.1))
 
 -- ---- each command
@@ -113,16 +113,16 @@ module _ (names models : Bor (List (Bor Text))) (all : map (λ s. s.now) names.n
   leaf a = built_leaf (inherited (with_leaf_noted (marked_built (jeprun names models).top)) a.top)
 
   env_asks : Leads SubcommandIsAny (leaf (without_options (codes "env")))
-  env_asks name rest named other fault = inl (Env, refl)
+  env_asks name rest named other fault = inl (λ given. (Env, refl))
 
   run_asks : Leads SubcommandIsAny (leaf (without_options (codes "run")))
-  run_asks name rest named other fault = inl (Run, refl)
+  run_asks name rest named other fault = inl (λ given. (Run, refl))
 
   plot_asks : Leads SubcommandIsAny (leaf plot)
   plot_asks name rest named other fault =
       let rows = rows_after (leaf plot).rules [] rest in
       let skips = flag_in (one_of (codes "skip-unread") rows) in
-      inl (Plot skips.0, (refl, skips.1))
+      inl (λ given. (Plot skips.0, (refl, skips.1)))
 
   plot_rules : Each (IsOwn (leaf plot).rules) (leaf plot).rules
   plot_rules = (flag_valued _ _ refl (omega arith), (flag_valued _ _ refl (omega arith), (request _ _ refl refl, tt)))
@@ -144,7 +144,7 @@ module _ (names models : Bor (List (Bor Text))) (all : map (λ s. s.now) names.n
       let holds = level_holds (leaf shrink) [] rest shrink_rules fault in
       let rows = rows_after (leaf shrink).rules [] rest in
       let budget = number_in rows (codes "budget") 0 max_budget (needed_gives _ rows holds (codes "budget") false (vp.Unsigned 0 max_budget) refl) in
-      inl (Shrink budget.0, (refl, budget.1.0))
+      inl (λ given. (Shrink budget.0, (refl, budget.1.0)))
 
   drive_rules : Each (IsOwn (leaf drive).rules) (leaf drive).rules
   drive_rules = (one_valued _ _ refl refl, (flag_valued _ _ refl (omega arith), (request _ _ refl refl, tt)))
@@ -201,16 +201,21 @@ module _ (names models : Bor (List (Bor Text))) (all : map (λ s. s.now) names.n
         threads = threads.0;
         show = show.0;
       }) = record { from = from.1; runs = runs.1; faults = faults.1; palette = refl; threads = threads.1; show = show.1 } in
-      inl (Search _, (refl, asks))
+      inl (λ given. (Search _, (refl, asks)))
 
   -- by what a history is judged, of a checker that is named
   judging_in : (c : List Rule) (rows : List Row) → HoldsOf c rows
       → option_map read_of (arg_by_id c (codes "initial")) ≡ Some (false, vp.Signed (negsuc 9223372036854775807) (pos 9223372036854775807), false)
+      → option_map read_of (arg_by_id c (codes "total")) ≡ Some (false, vp.Signed (negsuc 9223372036854775807) (pos 9223372036854775807), false)
       → option_map read_of (arg_by_id c (codes "budget")) ≡ Some (false, vp.Unsigned 0 max_budget, true)
       → (explain : Bool) (checker : Checker) → first_of (codes "workload") rows ≡ Some (checker_name checker)
-      → (judging : Judging) × IsJudgingBy rows judging × (judging.explain ≡ explain)
-  judging_in c rows holds initial budget explain checker named =
-      let first = initial_in rows (option_gives c rows holds (codes "initial") false (vp.Signed (negsuc 9223372036854775807) (pos 9223372036854775807)) false initial) in
+      → (given : Accounts) → (judging : Judging) × IsJudgingBy given rows judging × (judging.explain ≡ explain)
+  judging_in c rows holds initial total budget explain checker named given =
+      let first = signed_in rows (codes "initial") (option_gives c rows holds (codes "initial") false (vp.Signed (negsuc 9223372036854775807) (pos 9223372036854775807)) false initial) in
+      let sum = signed_in rows (codes "total") (option_gives c rows holds (codes "total") false (vp.Signed (negsuc 9223372036854775807) (pos 9223372036854775807)) false total) in
+      let negative = flag_in (one_of (codes "negative-balances") rows) in
+      let linearizable = flag_in (one_of (codes "linearizable") rows) in
+      let locked = flag_in (one_of (codes "locked") rows) in
       let most = number_in rows (codes "budget") 0 max_budget (needed_gives c rows holds (codes "budget") false (vp.Unsigned 0 max_budget) budget) in (
         record {
           checker = checker;
@@ -218,31 +223,28 @@ module _ (names models : Bor (List (Bor Text))) (all : map (λ s. s.now) names.n
           budget = most.0;
           explain = explain;
           model = option_and_then model_named (first_of (codes "model") rows);
+          accounts = given;
+          total = sum.0;
+          negative_balances = negative.0;
+          linearizable = linearizable.0;
+          locked = locked.0;
         },
-        record { workload = named; initial = first.1; model = refl; budget = most.1.0 },
+        record {
+          workload = named;
+          initial = first.1;
+          model = refl;
+          accounts = refl;
+          total = sum.1;
+          negative_balances = negative.1;
+          linearizable = linearizable.1;
+          locked = locked.1;
+          budget = most.1.0;
+        },
         refl,
       )
 
   check_rules : Each (IsOwn (leaf (check names models)).rules) (leaf (check names models)).rules
-  check_rules = (
-    one_valued _ _ refl refl,
-    (
-      one_valued _ _ refl refl,
-      (
-        one_valued _ _ refl refl,
-        (
-          one_valued _ _ refl refl,
-          (
-            flag_valued _ _ refl (omega arith),
-            (
-              flag_valued _ _ refl (omega arith),
-              (one_valued _ _ refl refl, (one_valued _ _ refl refl, (flag_valued _ _ refl (omega arith), (flag_valued _ _ refl (omega arith), (request _ _ refl refl, tt))))),
-            ),
-          ),
-        ),
-      ),
-    ),
-  )
+  check_rules = (one_valued _ _ refl refl, (one_valued _ _ refl refl, (one_valued _ _ refl refl, (one_valued _ _ refl refl, (one_valued _ _ refl refl, (flag_valued _ _ refl (omega arith), (flag_valued _ _ refl (omega arith), (flag_valued _ _ refl (omega arith), (one_valued _ _ refl refl, (flag_valued _ _ refl (omega arith), (flag_valued _ _ refl (omega arith), (one_valued _ _ refl refl, (one_valued _ _ refl refl, (flag_valued _ _ refl (omega arith), (flag_valued _ _ refl (omega arith), (request _ _ refl refl, tt))))))))))))))))
 
   check_asks : Leads SubcommandIsAny (leaf (check names models))
   check_asks name rest named other fault =
@@ -253,46 +255,29 @@ module _ (names models : Bor (List (Bor Text))) (all : map (λ s. s.now) names.n
       let independent = flag_in (one_of (codes "independent") rows) in
       let threads = number_in rows (codes "threads") 1 16 (needed_gives _ rows holds (codes "threads") false (vp.Unsigned 1 16) refl) in
       let least = given_number_in rows (codes "at-least") (option_gives _ rows holds (codes "at-least") false (vp.Unsigned 0 18446744073709551615) false refl) in
-      let by = judging_in _ rows holds refl refl explain.0 checker.0 checker.1 in
+      let by = judging_in _ rows holds refl refl refl explain.0 checker.0 checker.1 in
       let skips = flag_in (one_of (codes "skip-unread") rows) in
-      let asks : AsksCheck rows (record { judging = by.0; independent = independent.0; threads = threads.0; at_least = least.0; skips_unread = skips.0 }) = record {
-        judging = by.1;
-        explain = subst (IsFlag (one_of (codes "explain") rows)) (sym by.2) explain.1;
+      let asks : (given : Accounts) → AsksCheck given rows (record { judging = (by given).0; independent = independent.0; threads = threads.0; at_least = least.0; skips_unread = skips.0 }) =
+      λ given. record {
+        judging = (by given).1;
+        explain = subst (IsFlag (one_of (codes "explain") rows)) (sym (by given).2) explain.1;
         independent = independent.1;
         threads = threads.1;
         at_least = least.1;
         skips_unread = skips.1;
       } in
-      inl (Check _, (refl, asks))
+      inl (λ given. (Check _, (refl, asks given)))
 
   timeline_rules : Each (IsOwn (leaf (timeline names models)).rules) (leaf (timeline names models)).rules
-  timeline_rules = (
-    one_valued _ _ refl refl,
-    (
-      one_valued _ _ refl refl,
-      (
-        one_valued _ _ refl refl,
-        (
-          one_valued _ _ refl refl,
-          (
-            flag_valued _ _ refl (omega arith),
-            (
-              one_valued _ _ refl refl,
-              (one_valued _ _ refl refl, (one_valued _ _ refl refl, (flag_valued _ _ refl (omega arith), (flag_valued _ _ refl (omega arith), (request _ _ refl refl, tt))))),
-            ),
-          ),
-        ),
-      ),
-    ),
-  )
+  timeline_rules = (one_valued _ _ refl refl, (one_valued _ _ refl refl, (one_valued _ _ refl refl, (one_valued _ _ refl refl, (one_valued _ _ refl refl, (flag_valued _ _ refl (omega arith), (flag_valued _ _ refl (omega arith), (flag_valued _ _ refl (omega arith), (one_valued _ _ refl refl, (flag_valued _ _ refl (omega arith), (one_valued _ _ refl refl, (one_valued _ _ refl refl, (one_valued _ _ refl refl, (flag_valued _ _ refl (omega arith), (flag_valued _ _ refl (omega arith), (request _ _ refl refl, tt))))))))))))))))
 
   -- by what the history of a page is judged, where it is
   page_in : (rows : List Row) → HoldsOf (leaf (timeline names models)).rules rows → ((false ≡ false) × HasNoText rows (codes "workload")) ⊎ HasText rows (codes "workload") false (vp.Names names)
-      → (judging : Option Judging) × IsJudging rows judging
-  page_in rows holds (inl none) = (None, none.1.first)
-  page_in rows holds (inr t) =
+      → (given : Accounts) → (judging : Option Judging) × IsJudging given rows judging
+  page_in rows holds (inl none) given = (None, none.1.first)
+  page_in rows holds (inr t) given =
       let checker = checker_in names all rows t in
-      let by = judging_in _ rows holds refl refl true checker.0 checker.1 in
+      let by = judging_in _ rows holds refl refl refl true checker.0 checker.1 given in
       (Some by.0, (by.1, by.2))
 
   timeline_asks : Leads SubcommandIsAny (leaf (timeline names models))
@@ -304,9 +289,9 @@ module _ (names models : Bor (List (Bor Text))) (all : map (λ s. s.now) names.n
       let from = given_number_in rows (codes "from") (option_gives _ rows holds (codes "from") false (vp.Unsigned 0 18446744073709551615) false refl) in
       let to = given_number_in rows (codes "to") (option_gives _ rows holds (codes "to") false (vp.Unsigned 0 18446744073709551615) false refl) in
       let skips = flag_in (one_of (codes "skip-unread") rows) in
-      let asks : AsksTimeline rows (record { judging = judging.0; independent = independent.0; choice = record { from = from.0; to = to.0 }; skips_unread = skips.0 }) =
-      record { judging = judging.1; independent = independent.1; from = from.1; to = to.1; skips_unread = skips.1 } in
-      inl (Timeline _, (refl, asks))
+      let asks : (given : Accounts) → AsksTimeline given rows (record { judging = (judging given).0; independent = independent.0; choice = record { from = from.0; to = to.0 }; skips_unread = skips.0 }) =
+      λ given. record { judging = (judging given).1; independent = independent.1; from = from.1; to = to.1; skips_unread = skips.1 } in
+      inl (λ given. (Timeline _, (refl, asks given)))
 
   -- two subcommands have names that differ
   other_name : (a b : Text) → bytes_eq a b ≡ false → a ≡ b → ⊥
@@ -325,6 +310,11 @@ module _ (names models : Bor (List (Bor Text))) (all : map (λ s. s.now) names.n
         flag_once rows (codes "explain") (option_gives _ rows holds (codes "explain") false vp.Bool true refl),
         flag_once rows (codes "independent") (option_gives _ rows holds (codes "independent") false vp.Bool true refl),
         flag_once rows (codes "skip-unread") (option_gives _ rows holds (codes "skip-unread") false vp.Bool true refl),
+        (
+          flag_once rows (codes "negative-balances") (option_gives _ rows holds (codes "negative-balances") false vp.Bool true refl),
+          flag_once rows (codes "linearizable") (option_gives _ rows holds (codes "linearizable") false vp.Bool true refl),
+          flag_once rows (codes "locked") (option_gives _ rows holds (codes "locked") false vp.Bool true refl),
+        ),
       ))
       (λ e. absurd (other_name (codes "check") (codes "timeline") refl e)) (λ e. absurd (other_name (codes "check") (codes "plot") refl e))
 
@@ -336,6 +326,11 @@ module _ (names models : Bor (List (Bor Text))) (all : map (λ s. s.now) names.n
       (λ e. (
         flag_once rows (codes "independent") (option_gives _ rows holds (codes "independent") false vp.Bool true refl),
         flag_once rows (codes "skip-unread") (option_gives _ rows holds (codes "skip-unread") false vp.Bool true refl),
+        (
+          flag_once rows (codes "negative-balances") (option_gives _ rows holds (codes "negative-balances") false vp.Bool true refl),
+          flag_once rows (codes "linearizable") (option_gives _ rows holds (codes "linearizable") false vp.Bool true refl),
+          flag_once rows (codes "locked") (option_gives _ rows holds (codes "locked") false vp.Bool true refl),
+        ),
       ))
       (λ e. absurd (other_name (codes "timeline") (codes "plot") refl e))
 
@@ -389,29 +384,29 @@ test_alike : (found : Option (Text × List Row)) (p q : Text) → SubcommandIsDr
 test_alike None p q a b = absurd a
 test_alike (Some found) p q a b = let both : Some p ≡ Some q = sym a.1 ∙ b.1 in cc
 
-command_no_test : (found : Option (Text × List Row)) (c : Command) (path : Text) → SubcommandIs found c → SubcommandIsDrive found path → ⊥
-command_no_test None c path a b = b
-command_no_test (Some found) c path a b = no_drive c (sym (named found c a) ∙ b.0)
+command_no_test : (given : Accounts) (found : Option (Text × List Row)) (c : Command) (path : Text) → SubcommandIs given found c → SubcommandIsDrive found path → ⊥
+command_no_test given None c path a b = b
+command_no_test given (Some found) c path a b = no_drive c (sym (named given found c a) ∙ b.0)
 
 -- arguments that ask for two commands ask for one
-pub asked_alike : (arguments : List Text) (c d : Command) → ArgumentsAskFor arguments c → ArgumentsAskFor arguments d → c ≡ d
-asked_alike arguments c d (app, line, fault, asks) (other, also, beside, asks_too) =
+pub asked_alike : (arguments : List Text) (given : Accounts) (c d : Command) → ArgumentsAskFor arguments given c → ArgumentsAskFor arguments given d → c ≡ d
+asked_alike arguments given c d (app, line, fault, asks) (other, also, beside, asks_too) =
     let once : Once (subcommand_of app arguments) = subst (λ a. Once (subcommand_of a arguments)) (sym line.4)
     (line_once line.0 line.1 line.2 arguments (ap (λ a. fault_of a arguments) (sym line.4) ∙ fault)) in
-    once c d asks (subst (λ found. SubcommandIs found d) (sym (line_same app other line also arguments)) asks_too)
+    once given c d asks (subst (λ found. SubcommandIs given found d) (sym (line_same app other line also arguments)) asks_too)
 
 pub asked_test_alike : (arguments : List Text) (p q : Text) → ArgumentsAskForTest arguments p → ArgumentsAskForTest arguments q → p ≡ q
 asked_test_alike arguments p q (app, line, fault, asks) (other, also, beside, asks_too) =
     test_alike (subcommand_of app arguments) p q asks (subst (λ found. SubcommandIsDrive found q) (sym (line_same app other line also arguments)) asks_too)
 
-pub asked_apart : (arguments : List Text) (c : Command) (path : Text) → ArgumentsAskFor arguments c → ArgumentsAskForTest arguments path → ⊥
-asked_apart arguments c path (app, line, fault, asks) (other, also, beside, asks_too) =
-    command_no_test (subcommand_of app arguments) c path asks (subst (λ found. SubcommandIsDrive found path) (sym (line_same app other line also arguments)) asks_too)
+pub asked_apart : (arguments : List Text) (given : Accounts) (c : Command) (path : Text) → ArgumentsAskFor arguments given c → ArgumentsAskForTest arguments path → ⊥
+asked_apart arguments given c path (app, line, fault, asks) (other, also, beside, asks_too) =
+    command_no_test given (subcommand_of app arguments) c path asks (subst (λ found. SubcommandIsDrive found path) (sym (line_same app other line also arguments)) asks_too)
 
 -- arguments that `clap` takes ask for something
 pub asked_there : (app : App) (arguments : List Text) → IsCommandLine app → fault_of app arguments ≡ []
-    → ((command : Command) × ArgumentsAskFor arguments command) ⊎ ((path : Text) × ArgumentsAskForTest arguments path)
+    → ((given : Accounts) → (command : Command) × ArgumentsAskFor arguments given command) ⊎ ((path : Text) × ArgumentsAskForTest arguments path)
 asked_there app arguments line fault = elim (taken_asks app line arguments fault) [
-  | inl (command, asks) ↦ inl (command, (app, line, fault, asks))
+  | inl asks ↦ inl (λ given. ((asks given).0, (app, line, fault, (asks given).1)))
   | inr (path, asks) ↦ inr (path, (app, line, fault, asks))
 ]

@@ -7,10 +7,11 @@ use Rattle.clap.specs.declared.builder.value_parser.ValueParser.TheVariants as v
 use Rattle.jh_arguments.proofs.PassedTexts.{HasNoText, HasText}
 use Rattle.jh_arguments.proofs.OptionLemmas.{number_one}
 use Rattle.jh_checkers.specs.Checkers.{checker_name, checker_named}
-use Rattle.jh_arguments.specs.Commands.{AsksCheck, SubcommandIs, AsksSearch, AsksTimeline, IsFlag, IsGivenWithin, IsGivenNumber, IsInitial, IsJudging, IsJudgingBy, IsNumberWithin, IsShow}
+use Rattle.jh_arguments.specs.Accounts.{Accounts}
+use Rattle.jh_arguments.specs.Commands.{AsksCheck, SubcommandIs, AsksSearch, AsksTimeline, IsFlag, IsGivenWithin, IsGivenNumber, IsGivenSigned, IsJudging, IsJudgingBy, IsNumberWithin, IsShow}
 use Rattle.jh_arguments.specs.Limits.{max_candidates, max_spread_ms}
 use Rattle.jh_checkers.specs.declared.checker.Checker.{Checker}
-use Rattle.jh_checkers.specs.declared.checker.Checker.TheVariants.{Register, Set, Counter, Ids, ListAppend}
+use Rattle.jh_checkers.specs.declared.checker.Checker.TheVariants.{Register, Set, Counter, Ids, ListAppend, TotalQueue, Queue, Bank, SetFull, Mutex}
 use Rattle.jh_checkers.specs.declared.finding.Judging.{Judging}
 use Rattle.jh_cli.specs.declared.check_command.CheckQuestion.{CheckQuestion}
 use Rattle.jh_cli.specs.declared.search_command.SearchQuestion.{SearchQuestion}
@@ -30,16 +31,21 @@ checker_back Set = refl
 checker_back Counter = refl
 checker_back Ids = refl
 checker_back ListAppend = refl
+checker_back TotalQueue = refl
+checker_back Queue = refl
+checker_back Bank = refl
+checker_back SetFull = refl
+checker_back Mutex = refl
 
 checker_once : (c d : Checker) → checker_name c ≡ checker_name d → c ≡ d
 checker_once c d e = some_same c d (sym (checker_back c) ∙ (ap checker_named e ∙ checker_back d))
 
-initial_once : (o : Option Text) (m n : Option ℤ) → IsInitial o m → IsInitial o n → m ≡ n
-initial_once None m n a b = a ∙ sym b
-initial_once (Some t) (Some m) (Some n) a b = ap Some (a.1 ∙ sym b.1)
-initial_once (Some t) (Some m) None a b = absurd (b a.0)
-initial_once (Some t) None (Some n) a b = absurd (a b.0)
-initial_once (Some t) None None a b = refl
+signed_once : (o : Option Text) (m n : Option ℤ) → IsGivenSigned o m → IsGivenSigned o n → m ≡ n
+signed_once None m n a b = a ∙ sym b
+signed_once (Some t) (Some m) (Some n) a b = ap Some (a.1 ∙ sym b.1)
+signed_once (Some t) (Some m) None a b = absurd (b a.0)
+signed_once (Some t) None (Some n) a b = absurd (a b.0)
+signed_once (Some t) None None a b = refl
 
 given_number_once : (o : Option Text) (m n : Option ℕ) → IsGivenNumber o m → IsGivenNumber o n → m ≡ n
 given_number_once None m n a b = a ∙ sym b
@@ -76,17 +82,38 @@ show_once rows (Some m) (Some n) a b =
 abbrev pub FlagOnce : List Row → Text → Type 0
 FlagOnce rows id = (a b : Bool) → IsFlag (one_of id rows) a → IsFlag (one_of id rows) b → a ≡ b
 
-judging_once : (rows : List Row) (m n : Judging) → IsJudgingBy rows m → IsJudgingBy rows n → m.explain ≡ n.explain → m ≡ n
-judging_once rows m n a b explain =
+-- so are those of a judgement
+abbrev pub JudgingFlagsOnce : List Row → Type 0
+JudgingFlagsOnce rows = FlagOnce rows (codes "negative-balances") × FlagOnce rows (codes "linearizable") × FlagOnce rows (codes "locked")
+
+judging_once : (given : Accounts) (rows : List Row) → JudgingFlagsOnce rows → (m n : Judging) → IsJudgingBy given rows m → IsJudgingBy given rows n → m.explain ≡ n.explain → m ≡ n
+judging_once given rows flags m n a b explain =
     let checker = checker_once m.checker n.checker (some_same _ _ (sym a.workload ∙ b.workload)) in
-    let initial = initial_once (one_of (codes "initial") rows) m.initial n.initial a.initial b.initial in
+    let initial = signed_once (one_of (codes "initial") rows) m.initial n.initial a.initial b.initial in
     let budget = number_one (one_of (codes "budget") rows) m.budget n.budget a.budget b.budget in
     let model = a.model ∙ sym b.model in
-    λ i. record { checker = checker i; initial = initial i; budget = budget i; explain = explain i; model = model i }
+    let accounts = a.accounts ∙ sym b.accounts in
+    let total = signed_once (one_of (codes "total") rows) m.total n.total a.total b.total in
+    let negative_balances = flags.0 m.negative_balances n.negative_balances a.negative_balances b.negative_balances in
+    let linearizable = flags.1 m.linearizable n.linearizable a.linearizable b.linearizable in
+    let locked = flags.2 m.locked n.locked a.locked b.locked in
+    λ i. record {
+      checker = checker i;
+      initial = initial i;
+      budget = budget i;
+      explain = explain i;
+      model = model i;
+      accounts = accounts i;
+      total = total i;
+      negative_balances = negative_balances i;
+      linearizable = linearizable i;
+      locked = locked i;
+    }
 
-check_once : (rows : List Row) → FlagOnce rows (codes "explain") → FlagOnce rows (codes "independent") → FlagOnce rows (codes "skip-unread") → (m n : CheckQuestion) → AsksCheck rows m → AsksCheck rows n → m ≡ n
-check_once rows explained split skipped m n a b =
-    let judging = judging_once rows m.judging n.judging a.judging b.judging (explained m.judging.explain n.judging.explain a.explain b.explain) in
+check_once : (given : Accounts) (rows : List Row) → JudgingFlagsOnce rows → FlagOnce rows (codes "explain") → FlagOnce rows (codes "independent") → FlagOnce rows (codes "skip-unread")
+    → (m n : CheckQuestion) → AsksCheck given rows m → AsksCheck given rows n → m ≡ n
+check_once given rows flags explained split skipped m n a b =
+    let judging = judging_once given rows flags m.judging n.judging a.judging b.judging (explained m.judging.explain n.judging.explain a.explain b.explain) in
     let independent = split m.independent n.independent a.independent b.independent in
     let threads = number_one (one_of (codes "threads") rows) m.threads n.threads a.threads.0 b.threads.0 in
     let least = given_number_once (one_of (codes "at-least") rows) m.at_least n.at_least a.at_least b.at_least in
@@ -109,15 +136,16 @@ search_once rows m n a b =
     let show = show_once rows m.show n.show a.show b.show in
     λ i. record { from = from i; runs = runs i; faults = faults i; palette = palette i; threads = threads i; show = show i }
 
-page_once : (rows : List Row) (m n : Option Judging) → IsJudging rows m → IsJudging rows n → m ≡ n
-page_once rows None None a b = refl
-page_once rows None (Some n) a b = let bad : Some (checker_name n.checker) ≡ None = sym b.0.workload ∙ a in cc
-page_once rows (Some m) None a b = let bad : Some (checker_name m.checker) ≡ None = sym a.0.workload ∙ b in cc
-page_once rows (Some m) (Some n) a b = ap Some (judging_once rows m n a.0 b.0 (a.1 ∙ sym b.1))
+page_once : (given : Accounts) (rows : List Row) → JudgingFlagsOnce rows → (m n : Option Judging) → IsJudging given rows m → IsJudging given rows n → m ≡ n
+page_once given rows flags None None a b = refl
+page_once given rows flags None (Some n) a b = let bad : Some (checker_name n.checker) ≡ None = sym b.0.workload ∙ a in cc
+page_once given rows flags (Some m) None a b = let bad : Some (checker_name m.checker) ≡ None = sym a.0.workload ∙ b in cc
+page_once given rows flags (Some m) (Some n) a b = ap Some (judging_once given rows flags m n a.0 b.0 (a.1 ∙ sym b.1))
 
-timeline_once : (rows : List Row) → FlagOnce rows (codes "independent") → FlagOnce rows (codes "skip-unread") → (m n : TimelineQuestion) → AsksTimeline rows m → AsksTimeline rows n → m ≡ n
-timeline_once rows split skipped m n a b =
-    let judging = page_once rows m.judging n.judging a.judging b.judging in
+timeline_once : (given : Accounts) (rows : List Row) → JudgingFlagsOnce rows → FlagOnce rows (codes "independent") → FlagOnce rows (codes "skip-unread")
+    → (m n : TimelineQuestion) → AsksTimeline given rows m → AsksTimeline given rows n → m ≡ n
+timeline_once given rows flags split skipped m n a b =
+    let judging = page_once given rows flags m.judging n.judging a.judging b.judging in
     let independent = split m.independent n.independent a.independent b.independent in
     let from = given_number_once (one_of (codes "from") rows) m.choice.from n.choice.from a.from b.from in
     let to = given_number_once (one_of (codes "to") rows) m.choice.to n.choice.to a.to b.to in
@@ -140,14 +168,14 @@ abbrev mark_of : Text → ℕ
 mark_of [] = 0
 mark_of (x ∷ xs) = x + 256 * mark_of xs
 
-pub named : (found : Text × List Row) (c : Command) → SubcommandIs (Some found) c → found.0 ≡ command_name c
-named found Env asks = asks
-named found (Check question) asks = asks.0
-named found Run asks = asks
-named found (Shrink budget) asks = asks.0
-named found (Search question) asks = asks.0
-named found (Timeline question) asks = asks.0
-named found (Plot skips_unread) asks = asks.0
+pub named : (given : Accounts) (found : Text × List Row) (c : Command) → SubcommandIs given (Some found) c → found.0 ≡ command_name c
+named given found Env asks = asks
+named given found (Check question) asks = asks.0
+named given found Run asks = asks
+named given found (Shrink budget) asks = asks.0
+named given found (Search question) asks = asks.0
+named given found (Timeline question) asks = asks.0
+named given found (Plot skips_unread) asks = asks.0
 
 -- none is called drive
 pub no_drive : (c : Command) → command_name c ≡ codes "drive" → ⊥
@@ -163,21 +191,21 @@ no_drive c e = go c (ap mark_of e)
     go (Plot skips_unread) e = omega (arith, e)
 
 abbrev pub Once : Option (Text × List Row) → Type 0
-Once found = (c d : Command) → SubcommandIs found c → SubcommandIs found d → c ≡ d
+Once found = (given : Accounts) (c d : Command) → SubcommandIs given found c → SubcommandIs given found d → c ≡ d
 
 pub asked_once : (found : Text × List Row)
-    → (found.0 ≡ codes "check" → FlagOnce found.1 (codes "explain") × FlagOnce found.1 (codes "independent") × FlagOnce found.1 (codes "skip-unread"))
-    → (found.0 ≡ codes "timeline" → FlagOnce found.1 (codes "independent") × FlagOnce found.1 (codes "skip-unread"))
+    → (found.0 ≡ codes "check" → FlagOnce found.1 (codes "explain") × FlagOnce found.1 (codes "independent") × FlagOnce found.1 (codes "skip-unread") × JudgingFlagsOnce found.1)
+    → (found.0 ≡ codes "timeline" → FlagOnce found.1 (codes "independent") × FlagOnce found.1 (codes "skip-unread") × JudgingFlagsOnce found.1)
     → (found.0 ≡ codes "plot" → FlagOnce found.1 (codes "skip-unread")) → Once (Some found)
-asked_once found of_check of_timeline of_plot c d asks also = go c d asks also (ap mark_of (sym (named found c asks) ∙ named found d also))
+asked_once found of_check of_timeline of_plot given c d asks also = go c d asks also (ap mark_of (sym (named given found c asks) ∙ named given found d also))
   where
-    go : (c d : Command) → SubcommandIs (Some found) c → SubcommandIs (Some found) d → mark_of (command_name c) ≡ mark_of (command_name d) → c ≡ d
+    go : (c d : Command) → SubcommandIs given (Some found) c → SubcommandIs given (Some found) d → mark_of (command_name c) ≡ mark_of (command_name d) → c ≡ d
     go Env Env a b e = refl
     go Run Run a b e = refl
     go (Shrink m) (Shrink n) a b e = ap Shrink (number_one (one_of (codes "budget") found.1) m n a.1 b.1)
-    go (Check m) (Check n) a b e = ap Check (check_once found.1 (of_check a.0).0 (of_check a.0).1 (of_check a.0).2 m n a.1 b.1)
+    go (Check m) (Check n) a b e = ap Check (check_once given found.1 (of_check a.0).3 (of_check a.0).0 (of_check a.0).1 (of_check a.0).2 m n a.1 b.1)
     go (Search m) (Search n) a b e = ap Search (search_once found.1 m n a.1 b.1)
-    go (Timeline m) (Timeline n) a b e = ap Timeline (timeline_once found.1 (of_timeline a.0).0 (of_timeline a.0).1 m n a.1 b.1)
+    go (Timeline m) (Timeline n) a b e = ap Timeline (timeline_once given found.1 (of_timeline a.0).2 (of_timeline a.0).0 (of_timeline a.0).1 m n a.1 b.1)
     go (Plot m) (Plot n) a b e = ap Plot (of_plot a.0 m n a.1 b.1)
     go _ _ a b e = absurd (omega (arith, e))
 

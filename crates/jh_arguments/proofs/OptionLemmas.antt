@@ -9,7 +9,8 @@ use Rattle.clap.specs.Words.{ReadsOne, Row, Text, first_of, first_value, one_of,
 use Rattle.clap.specs.declared.parser.matches.Found.{Found}
 use Rattle.jh_checkers.specs.declared.finding.Judging.{Judging}
 use Rattle.clap.proofs.WalkLemmas.{first_value-rows, one_text-rows}
-use Rattle.jh_arguments.specs.Commands.{IsFlag, IsGivenNumber, IsInitial, IsJudging, IsJudgingBy, IsNumber, IsNumberWithin, IsGivenWithin}
+use Rattle.jh_arguments.specs.Accounts.{Accounts}
+use Rattle.jh_arguments.specs.Commands.{IsFlag, IsGivenNumber, IsGivenSigned, IsJudging, IsJudgingBy, IsNumber, IsNumberWithin, IsGivenWithin}
 
 -- what `FromStr` says of `i64` and of `u64`
 abbrev SignedGives : Text → Result ℤ ParseIntError → Type 0
@@ -18,16 +19,13 @@ SignedGives t x = ParsesSigned w64 10 t x × ExplainsSignedError 10 t x × HasSi
 abbrev UnsignedGives : Text → Result ℕ ParseIntError → Type 0
 UnsignedGives t x = ParsesUnsigned 64 10 t x × ExplainsUnsignedError 10 t x × HasUnsignedDigitsIfOk t x
 
--- an initial value, as `get_one` reads it
-pub initial_read : (f : Found) (r : Option ℤ) → (one_text f (codes "initial") ≡ None → r ≡ None)
-    → ((t : Text) → one_text f (codes "initial") ≡ Some t → ReadsOne SignedGives t r)
-    → IsInitial (one_of (codes "initial") (rows_of f)) r
-initial_read f r none some = go (one_of (codes "initial") (rows_of f)) r (one_text-rows f (codes "initial")) none some
+-- a signed number, as `get_one` reads it, if there is one
+pub signed_read : (f : Found) (id : Text) (r : Option ℤ) → (one_text f id ≡ None → r ≡ None)
+    → ((t : Text) → one_text f id ≡ Some t → ReadsOne SignedGives t r) → IsGivenSigned (one_of id (rows_of f)) r
+signed_read f id r none some = go (one_of id (rows_of f)) r (one_text-rows f id) none some
   where
-    go : (o : Option Text) (r : Option ℤ) → one_text f (codes "initial") ≡ o
-        → (one_text f (codes "initial") ≡ None → r ≡ None)
-        → ((t : Text) → one_text f (codes "initial") ≡ Some t → ReadsOne SignedGives t r)
-        → IsInitial o r
+    go : (o : Option Text) (r : Option ℤ) → one_text f id ≡ o → (one_text f id ≡ None → r ≡ None)
+        → ((t : Text) → one_text f id ≡ Some t → ReadsOne SignedGives t r) → IsGivenSigned o r
     go None r is none some = none is
     go (Some t) (Some v) is none some = (some t is).0
     go (Some t) None is none some = (some t is).1.0
@@ -64,10 +62,10 @@ given_number_read f id r none some = go (one_of id (rows_of f)) r (one_text-rows
     go (Some t) None is none some = (some t is).1.0
 
 -- the name of a workload is given, and nothing is judged by it
-pub judging_unread : (options : List Row) (name : Text) (judging : Option Judging) → first_of (codes "workload") options ≡ Some name
-    → ((by : Judging) → IsJudgingBy options by → ⊥) → IsJudging options judging → ⊥
-judging_unread options name None given none is = let bad : Some name ≡ None = sym given ∙ is in cc
-judging_unread options name (Some by) given none is = none by is.0
+pub judging_unread : (accounts : Accounts) (options : List Row) (name : Text) (judging : Option Judging) → first_of (codes "workload") options ≡ Some name
+    → ((by : Judging) → IsJudgingBy accounts options by → ⊥) → IsJudging accounts options judging → ⊥
+judging_unread accounts options name None given none is = let bad : Some name ≡ None = sym given ∙ is in cc
+judging_unread accounts options name (Some by) given none is = none by is.0
 
 -- one text writes one number
 pub number_one : (o : Option Text) (m n : ℕ) → IsNumber o m → IsNumber o n → m ≡ n

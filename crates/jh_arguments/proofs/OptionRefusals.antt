@@ -1,50 +1,32 @@
 -- What commands say of their options, as one rule for all commands.
-use Rattle.std.proofs.Common.{◌≡◌, ◌↔◌, ℕ, None, Some}
-use Rattle.std.specs.Prelude.{Result, IsErrOf}
-use Rattle.jh_cli.specs.JudgingOptions.{RefusesJudgingOptions}
-use Rattle.jh_cli.specs.declared.check_command.CheckQuestion.{CheckQuestion}
+use Rattle.std.proofs.Common.{◌≡◌, ◌↔◌, ℕ, None, Option, Some, refl}
+use Rattle.std.specs.Prelude.{Result, Ok, Err, IfErr, IsErrOf}
+use Rattle.jh_checkers.specs.declared.finding.Judging.{Judging}
+use Rattle.jh_cli.specs.JudgingOptions.{IsOptionError, RefusesJudgingOptions}
 use Rattle.jh_cli.specs.declared.error.CliError.{CliError}
-use Rattle.jh_cli.specs.declared.error.CliError.TheVariants.{OnlyForRegister, OnlyForListAppend, BadPalette}
+use Rattle.jh_cli.specs.declared.error.CliError.TheVariants.{Misplaced, Missing, BadPalette}
 use Rattle.jh_cli.specs.declared.search_command.SearchQuestion.{SearchQuestion}
-use Rattle.jh_cli.specs.declared.timeline_command.TimelineQuestion.{TimelineQuestion}
 use Rattle.jh_arguments.specs.Commands.{IsOfOptions, RefusesOptions}
 use Rattle.jh_arguments.specs.declared.commands.Command.{Command}
 use Rattle.jh_arguments.specs.declared.commands.Command.TheVariants.{Check, Search, Timeline}
 
+-- what holds of each error holds of the one that there is
+pub for_each_error : (P : CliError → Type 0) (r : Result ℕ CliError) → ((e : CliError) → P e) → IfErr r P
+for_each_error P (Ok status) holds = tt
+for_each_error P (Err e) holds = holds e
+
+-- options of a judgement are refused with no other errors than those of options
+judging_error : (judging : Option Judging) (e : CliError) → RefusesJudgingOptions judging e → IsOptionError e
+judging_error (Some judging) (Misplaced option) refuses = tt
+judging_error (Some judging) (Missing option) refuses = tt
+judging_error _ _ refuses = absurd refuses
+
 -- options are refused with no other errors than those that are of the options
 pub is_of_options : (command : Command) (e : CliError) → RefusesOptions command e → IsOfOptions command e
-is_of_options (Check question) OnlyForRegister refuses = tt
-is_of_options (Check question) OnlyForListAppend refuses = tt
-is_of_options (Timeline question) OnlyForRegister refuses = tt
-is_of_options (Timeline question) OnlyForListAppend refuses = tt
+is_of_options (Check question) e refuses = judging_error (Some question.judging) e refuses
+is_of_options (Timeline question) e refuses = judging_error question.judging e refuses
 is_of_options (Search question) BadPalette refuses = tt
 is_of_options _ _ refuses = absurd refuses
-
-pub check_options : (question : CheckQuestion) (r : Result ℕ CliError) → IsErrOf r OnlyForRegister ↔ RefusesJudgingOptions (Some question.judging) OnlyForRegister
-    → IsErrOf r OnlyForListAppend ↔ RefusesJudgingOptions (Some question.judging) OnlyForListAppend
-    → (e : CliError) → IsOfOptions (Check question) e → IsErrOf r e ↔ RefusesOptions (Check question) e
-check_options question r initial model OnlyForRegister of = initial
-check_options question r initial model OnlyForListAppend of = model
-check_options question r initial model _ of = absurd of
-
-pub check_reader_kept : {R : Type 0} (question : CheckQuestion) (r : Result ℕ CliError) (old new : R) → (IsErrOf r OnlyForRegister → new ≡ old) → (IsErrOf r OnlyForListAppend → new ≡ old)
-    → (e : CliError) → IsOfOptions (Check question) e → IsErrOf r e → new ≡ old
-check_reader_kept question r old new initial model OnlyForRegister of = initial
-check_reader_kept question r old new initial model OnlyForListAppend of = model
-check_reader_kept question r old new initial model _ of = absurd of
-
-pub timeline_options : (question : TimelineQuestion) (r : Result ℕ CliError) → IsErrOf r OnlyForRegister ↔ RefusesJudgingOptions question.judging OnlyForRegister
-    → IsErrOf r OnlyForListAppend ↔ RefusesJudgingOptions question.judging OnlyForListAppend
-    → (e : CliError) → IsOfOptions (Timeline question) e → IsErrOf r e ↔ RefusesOptions (Timeline question) e
-timeline_options question r initial model OnlyForRegister of = initial
-timeline_options question r initial model OnlyForListAppend of = model
-timeline_options question r initial model _ of = absurd of
-
-pub timeline_reader_kept : {R : Type 0} (question : TimelineQuestion) (r : Result ℕ CliError) (old new : R) → (IsErrOf r OnlyForRegister → new ≡ old) → (IsErrOf r OnlyForListAppend → new ≡ old)
-    → (e : CliError) → IsOfOptions (Timeline question) e → IsErrOf r e → new ≡ old
-timeline_reader_kept question r old new initial model OnlyForRegister of = initial
-timeline_reader_kept question r old new initial model OnlyForListAppend of = model
-timeline_reader_kept question r old new initial model _ of = absurd of
 
 pub search_options : (question : SearchQuestion) (r : Result ℕ CliError) → IsErrOf r BadPalette ↔ (question.palette ≡ None)
     → (e : CliError) → IsOfOptions (Search question) e → IsErrOf r e ↔ RefusesOptions (Search question) e
@@ -52,6 +34,10 @@ search_options question r palette BadPalette of = palette
 search_options question r palette _ of = absurd of
 
 pub search_reader_kept : {R : Type 0} (question : SearchQuestion) (r : Result ℕ CliError) (old new : R) → (IsErrOf r BadPalette → new ≡ old)
-    → (e : CliError) → IsOfOptions (Search question) e → IsErrOf r e → new ≡ old
-search_reader_kept question r old new palette BadPalette of = palette
-search_reader_kept question r old new palette _ of = absurd of
+    → IfErr r (λ e. IsOfOptions (Search question) e → new ≡ old)
+search_reader_kept question (Ok status) old new palette = tt
+search_reader_kept question (Err e) old new palette = go e palette
+  where
+    go : (e : CliError) → (IsErrOf {T = ℕ} (Err e) BadPalette → new ≡ old) → IsOfOptions (Search question) e → new ≡ old
+    go BadPalette palette of = palette refl
+    go _ palette of = absurd of

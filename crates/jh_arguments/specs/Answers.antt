@@ -1,8 +1,9 @@
 -- What the program does for its arguments (this project's own): the command that they ask for, what is
 -- written, and why it may end otherwise.
-use Rattle.std.specs.Prelude.{◌≡◌, ◌⊎◌, ℕ, List, [], Option, Result, Ok, Err}
+use Rattle.std.specs.Prelude.{◌≡◌, ◌⊎◌, ℕ, List, [], Option, Some, None, Result, Ok, Err, option_map}
 use Rattle.clap.specs.Words.{App, Row, Text, fault_of, subcommand_of}
 use Rattle.jh_edn.specs.Edn.{Edn}
+use Rattle.jh_edn.specs.View.{views}
 use Rattle.jh_cli.specs.Outputs.{OnInput, WritesOutput}
 use Rattle.jh_cli.specs.declared.error.CliError.{CliError}
 use Rattle.jh_cli.specs.declared.error.CliError.TheVariants as failures
@@ -12,7 +13,9 @@ use Rattle.jh_drive.specs.declared.error.DriveError.TheVariants.{SettingsRead, S
 use Rattle.jh_settings.specs.Settings.{RefusesSettings}
 use Rattle.jh_settings.specs.declared.error.SettingsError.{SettingsError}
 use Rattle.jh_settings_texts.specs.ScheduleSteps.{AreStepsIn}
-use Rattle.jh_arguments.specs.Commands.{SubcommandHasSchedule, SubcommandIs, SubcommandIsDrive}
+use Rattle.jh_arguments.specs.Accounts.{Accounts, RefusesAccountsText, WritesAccounts}
+use Rattle.jh_arguments.specs.Commands.{SubcommandHasAccounts, SubcommandHasSchedule}
+use Rattle.jh_arguments.specs.Commands.{SubcommandIs, SubcommandIsDrive}
 use Rattle.jh_arguments.specs.Commands.{IsOfOptions, IsOutputOf, RefusesCommand, RefusesOptions}
 use Rattle.jh_arguments.specs.Line.{IsCommandLine}
 use Rattle.jh_arguments.specs.declared.answers.Refusal.{Refusal}
@@ -21,17 +24,40 @@ use Rattle.jh_arguments.specs.declared.commands.Command.{Command}
 
 -- ---- what arguments ask for
 
--- `clap` takes the arguments, and they ask for this command.
-abbrev pub ArgumentsAskFor : List Text → Command → Type 0
-ArgumentsAskFor arguments command =
+-- `clap` takes the arguments, and they ask for this command, of which a judgement has the accounts that
+-- are given.
+abbrev pub ArgumentsAskFor : List Text → Accounts → Command → Type 0
+ArgumentsAskFor arguments given command =
     (app : App) × IsCommandLine app × (fault_of app arguments ≡ [])
-    × SubcommandIs (subcommand_of app arguments) command
+    × SubcommandIs given (subcommand_of app arguments) command
 
 -- `clap` takes the arguments, and they ask for the test that this file of settings sets.
 abbrev pub ArgumentsAskForTest : List Text → Text → Type 0
 ArgumentsAskForTest arguments path =
     (app : App) × IsCommandLine app × (fault_of app arguments ≡ [])
     × SubcommandIsDrive (subcommand_of app arguments) path
+
+-- ---- by which accounts a bank is judged
+
+-- A subcommand with its options gives these accounts: those that its text of accounts writes, and none
+-- where it has no such text.
+abbrev pub GivesAccounts : Option (Text × List Row) → Option (List Edn) → Type 0
+GivesAccounts found (Some accounts) =
+    (text : Text) × SubcommandHasAccounts found text × WritesAccounts text accounts
+GivesAccounts found None = (text : Text) → SubcommandHasAccounts found text → ⊥
+
+-- what a contract sees of the accounts that a command is given
+abbrev pub accounts_seen : Accounts → Option (List Edn)
+accounts_seen given = option_map (λ accounts. views accounts.now) given
+
+-- The arguments have a text of accounts, of which none are taken for this reason.
+pub record HasNoAccounts (arguments : List Text) (e : CliError) : Type 0 where
+  pub app : App
+  pub line : IsCommandLine app
+  pub taken : fault_of app arguments ≡ []
+  pub text : Text
+  pub asked : SubcommandHasAccounts (subcommand_of app arguments) text
+  pub why : RefusesAccountsText text e
 
 -- ---- by which steps a page names records
 
@@ -49,18 +75,25 @@ IsUnscheduled failures.OutOfMemory = Unit {0}
 IsUnscheduled (failures.Settings error) = (settings : List ℕ) × RefusesSettings settings error
 IsUnscheduled e = ⊥
 
--- `clap` takes the arguments, and they ask for this command and give these steps.
-abbrev pub ArgumentsGive : List Text → Command → List Edn → Type 0
-ArgumentsGive arguments command steps =
-    (app : App) × IsCommandLine app × (fault_of app arguments ≡ [])
-    × SubcommandIs (subcommand_of app arguments) command
-    × GivesSteps (subcommand_of app arguments) steps
+-- `clap` takes the arguments, and they ask for this command with the accounts that they give, and give
+-- these steps.
+pub record ArgumentsGive (arguments : List Text) (command : Command) (steps : List Edn) : Type 0 where
+  pub app : App
+  pub line : IsCommandLine app
+  pub taken : fault_of app arguments ≡ []
+  pub given : Accounts
+  pub accounts : GivesAccounts (subcommand_of app arguments) (accounts_seen given)
+  pub asked : SubcommandIs given (subcommand_of app arguments) command
+  pub steps_given : GivesSteps (subcommand_of app arguments) steps
 
--- The arguments name a file for the steps of a page, of which none can be had for this reason.
+-- The arguments name a file for the steps of a page, of which none can be had for this reason. Accounts,
+-- which are looked at before, are not refused.
 pub record HasNoSteps (arguments : List Text) (e : CliError) : Type 0 where
   pub app : App
   pub line : IsCommandLine app
   pub taken : fault_of app arguments ≡ []
+  pub given : Option (List Edn)
+  pub accounts : GivesAccounts (subcommand_of app arguments) given
   pub path : Text
   pub asked : SubcommandHasSchedule (subcommand_of app arguments) path
   pub why : IsUnscheduled e

@@ -9,7 +9,7 @@ use Rattle.clap.specs.Words.{Row, Text, first_of, one_of}
 use Rattle.jh_edn.specs.Edn.{Edn}
 use Rattle.jh_cli.specs.EnvText.{IsEnvTextOf}
 use Rattle.jh_cli.specs.CheckText.{IsCheckTextOf}
-use Rattle.jh_cli.specs.JudgingOptions.{RefusesJudgingOptions}
+use Rattle.jh_cli.specs.JudgingOptions.{IsOptionError, RefusesJudgingOptions}
 use Rattle.jh_cli.specs.RunText.{IsRunTextOf}
 use Rattle.jh_cli.specs.ShrinkText.{IsShrinkTextOf}
 use Rattle.jh_cli.specs.SearchText.{IsSearchTextOf}
@@ -23,7 +23,6 @@ use Rattle.jh_cli.specs.SearchRefusals.{RefusesSearch}
 use Rattle.jh_cli.specs.TimelineRefusals.{RefusesTimeline}
 use Rattle.jh_cli.specs.PlotRefusals.{RefusesPlot}
 use Rattle.jh_cli.specs.declared.error.CliError.{CliError}
-use Rattle.jh_cli.specs.declared.error.CliError.TheVariants.{OnlyForRegister, OnlyForListAppend}
 use Rattle.jh_cli.specs.declared.error.CliError.TheVariants.{BadPalette}
 use Rattle.jh_cli.specs.declared.check_command.CheckQuestion.{CheckQuestion}
 use Rattle.jh_cli.specs.declared.search_command.SearchQuestion.{SearchQuestion}
@@ -33,6 +32,7 @@ use Rattle.jh_arguments.specs.declared.commands.Command.{Command}
 use Rattle.jh_arguments.specs.declared.commands.Command.TheVariants.{Env, Check, Run, Shrink}
 use Rattle.jh_arguments.specs.declared.commands.Command.TheVariants.{Search, Timeline, Plot}
 use Rattle.jh_checkers.specs.Models.{model_named}
+use Rattle.jh_arguments.specs.Accounts.{Accounts}
 use Rattle.jh_arguments.specs.Limits.{max_candidates, max_faults, max_spread_ms}
 use Rattle.jh_tasks.specs.Threads.{IsThreadCount, max_threads}
 use Rattle.jh_arguments.specs.Palettes.{palette_named}
@@ -54,11 +54,12 @@ WritesUnsigned text =
     IsNumeral 10 (without_leading_plus text)
     × (digits_value 10 (without_leading_plus text) < 2 ^ 64)
 
--- the initial value that an option gives, if it is there
-abbrev pub IsInitial : Option Text → Option ℤ → Type 0
-IsInitial None initial = initial ≡ None
-IsInitial (Some text) (Some value) = WritesSigned text × (value ≡ signed_digits_value 10 text)
-IsInitial (Some text) None = WritesSigned text → ⊥
+-- the signed number that an option gives, if it is there
+abbrev pub IsGivenSigned : Option Text → Option ℤ → Type 0
+IsGivenSigned None number = number ≡ None
+IsGivenSigned (Some text) (Some number) =
+    WritesSigned text × (number ≡ signed_digits_value 10 text)
+IsGivenSigned (Some text) None = WritesSigned text → ⊥
 
 -- the number that an option gives
 abbrev pub IsNumber : Option Text → ℕ → Type 0
@@ -87,16 +88,23 @@ IsGivenNumber None number = number ≡ None
 IsGivenNumber (Some text) (Some number) = IsNumber (Some text) number
 IsGivenNumber (Some text) None = WritesUnsigned text → ⊥
 
--- a history is judged so, by the checker of the workload that is named
-pub record IsJudgingBy (options : List Row) (judging : Judging) : Type 0 where
+-- a history is judged so, by the checker of the workload that is named, and with the accounts that are given
+pub record IsJudgingBy (given : Accounts) (options : List Row) (judging : Judging) : Type 0 where
   pub workload : first_of (codes "workload") options ≡ Some (checker_name judging.checker)
-  pub initial : IsInitial (one_of (codes "initial") options) judging.initial
+  pub initial : IsGivenSigned (one_of (codes "initial") options) judging.initial
   pub model : judging.model ≡ option_and_then model_named (first_of (codes "model") options)
+  pub accounts : judging.accounts ≡ given
+  pub total : IsGivenSigned (one_of (codes "total") options) judging.total
+  pub negative_balances :
+      IsFlag (one_of (codes "negative-balances") options) judging.negative_balances
+  pub linearizable : IsFlag (one_of (codes "linearizable") options) judging.linearizable
+  pub locked : IsFlag (one_of (codes "locked") options) judging.locked
   pub budget : IsNumber (one_of (codes "budget") options) judging.budget
 
 -- the options of `check` ask this
-pub record AsksCheck (options : List Row) (question : CheckQuestion) : Type 0 where
-  pub judging : IsJudgingBy options question.judging
+pub record AsksCheck (given : Accounts) (options : List Row) (question : CheckQuestion)
+    : Type 0 where
+  pub judging : IsJudgingBy given options question.judging
   pub explain : IsFlag (one_of (codes "explain") options) question.judging.explain
   pub independent : IsFlag (one_of (codes "independent") options) question.independent
   pub threads : IsThreads (one_of (codes "threads") options) question.threads
@@ -104,14 +112,15 @@ pub record AsksCheck (options : List Row) (question : CheckQuestion) : Type 0 wh
   pub skips_unread : IsFlag (one_of (codes "skip-unread") options) question.skips_unread
 
 -- what the history of a page is judged by, where it is; a no is explained
-abbrev pub IsJudging : List Row → Option Judging → Type 0
-IsJudging options None = first_of (codes "workload") options ≡ None
-IsJudging options (Some judging) =
-    IsJudgingBy options judging × (judging.explain ≡ true)
+abbrev pub IsJudging : Accounts → List Row → Option Judging → Type 0
+IsJudging given options None = first_of (codes "workload") options ≡ None
+IsJudging given options (Some judging) =
+    IsJudgingBy given options judging × (judging.explain ≡ true)
 
 -- the options of `timeline` ask this
-pub record AsksTimeline (options : List Row) (question : TimelineQuestion) : Type 0 where
-  pub judging : IsJudging options question.judging
+pub record AsksTimeline (given : Accounts) (options : List Row) (question : TimelineQuestion)
+    : Type 0 where
+  pub judging : IsJudging given options question.judging
   pub independent : IsFlag (one_of (codes "independent") options) question.independent
   pub from : IsGivenNumber (one_of (codes "from") options) question.choice.from
   pub to : IsGivenNumber (one_of (codes "to") options) question.choice.to
@@ -146,33 +155,40 @@ pub record AsksSearch (options : List Row) (question : SearchQuestion) : Type 0 
   pub threads : IsGivenWithin 1 max_threads (one_of (codes "threads") options) question.threads
   pub show : IsShow options question.show
 
--- A subcommand of this name has this file of settings among its options.
-abbrev pub SubcommandHasSettings : Text → Option (Text × List Row) → Text → Type 0
-SubcommandHasSettings name None path = ⊥
-SubcommandHasSettings name (Some found) path =
-    (found.0 ≡ name) × (first_of (codes "settings") found.1 ≡ Some path)
+-- A subcommand of this name has this text for an option.
+abbrev pub SubcommandHas : Text → Text → Option (Text × List Row) → Text → Type 0
+SubcommandHas name option None text = ⊥
+SubcommandHas name option (Some found) text =
+    (found.0 ≡ name) × (first_of option found.1 ≡ Some text)
 
 -- A subcommand with its options asks for the test that this file of settings sets.
 abbrev pub SubcommandIsDrive : Option (Text × List Row) → Text → Type 0
-SubcommandIsDrive found path = SubcommandHasSettings (codes "drive") found path
+SubcommandIsDrive found path = SubcommandHas (codes "drive") (codes "settings") found path
 
 -- A subcommand with its options asks for a page that names steps by the settings in this file.
 abbrev pub SubcommandHasSchedule : Option (Text × List Row) → Text → Type 0
-SubcommandHasSchedule found path = SubcommandHasSettings (codes "timeline") found path
+SubcommandHasSchedule found path = SubcommandHas (codes "timeline") (codes "settings") found path
 
--- A subcommand with its options asks for a command.
-abbrev pub SubcommandIs : Option (Text × List Row) → Command → Type 0
-SubcommandIs None command = ⊥
-SubcommandIs (Some found) Env = found.0 ≡ codes "env"
-SubcommandIs (Some found) (Check question) = (found.0 ≡ codes "check") × AsksCheck found.1 question
-SubcommandIs (Some found) Run = found.0 ≡ codes "run"
-SubcommandIs (Some found) (Shrink budget) =
+-- A subcommand that may judge a history has this text of accounts among its options.
+abbrev pub SubcommandHasAccounts : Option (Text × List Row) → Text → Type 0
+SubcommandHasAccounts found text =
+    SubcommandHas (codes "check") (codes "accounts") found text
+    ⊎ SubcommandHas (codes "timeline") (codes "accounts") found text
+
+-- A subcommand with its options asks for a command, of which a judgement has the accounts that are given.
+abbrev pub SubcommandIs : Accounts → Option (Text × List Row) → Command → Type 0
+SubcommandIs given None command = ⊥
+SubcommandIs given (Some found) Env = found.0 ≡ codes "env"
+SubcommandIs given (Some found) (Check question) =
+    (found.0 ≡ codes "check") × AsksCheck given found.1 question
+SubcommandIs given (Some found) Run = found.0 ≡ codes "run"
+SubcommandIs given (Some found) (Shrink budget) =
     (found.0 ≡ codes "shrink") × IsNumber (one_of (codes "budget") found.1) budget
-SubcommandIs (Some found) (Search question) =
+SubcommandIs given (Some found) (Search question) =
     (found.0 ≡ codes "search") × AsksSearch found.1 question
-SubcommandIs (Some found) (Timeline question) =
-    (found.0 ≡ codes "timeline") × AsksTimeline found.1 question
-SubcommandIs (Some found) (Plot skips_unread) =
+SubcommandIs given (Some found) (Timeline question) =
+    (found.0 ≡ codes "timeline") × AsksTimeline given found.1 question
+SubcommandIs given (Some found) (Plot skips_unread) =
     (found.0 ≡ codes "plot") × AsksPlot found.1 skips_unread
 
 -- A subcommand with its options asks to be told where and why an input is refused, or does not.
@@ -180,10 +196,11 @@ abbrev pub SubcommandIsVerbose : Option (Text × List Row) → Bool → Type 0
 SubcommandIsVerbose None verbose = verbose ≡ false
 SubcommandIsVerbose (Some found) verbose = IsFlag (one_of (codes "verbose") found.1) verbose
 
--- A subcommand with its options asks for a command, or for a test.
+-- A subcommand with its options asks for a command, whichever accounts it is given, or for a test.
 abbrev pub SubcommandIsAny : Option (Text × List Row) → Type 0
 SubcommandIsAny found =
-    ((command : Command) × SubcommandIs found command) ⊎ ((path : Text) × SubcommandIsDrive found path)
+    ((given : Accounts) → (command : Command) × SubcommandIs given found command)
+    ⊎ ((path : Text) × SubcommandIsDrive found path)
 
 -- ---- what a command does
 
@@ -209,14 +226,13 @@ IsOutputOf (Plot skips_unread) steps input status output =
 
 -- The command may end with this error for its options alone.
 abbrev pub IsOfOptions : Command → CliError → Type 0
-IsOfOptions (Check question) OnlyForRegister = Unit {0}
-IsOfOptions (Check question) OnlyForListAppend = Unit {0}
-IsOfOptions (Timeline question) OnlyForRegister = Unit {0}
-IsOfOptions (Timeline question) OnlyForListAppend = Unit {0}
+IsOfOptions (Check question) e = IsOptionError e
+IsOfOptions (Timeline question) e = IsOptionError e
 IsOfOptions (Search question) BadPalette = Unit {0}
 IsOfOptions command e = ⊥
 
--- Its options do not go with one another, or name no kinds of faults, and this says so.
+-- Its options do not go with its checker, do not suffice for it, or name no kinds of faults, and this
+-- says so.
 abbrev pub RefusesOptions : Command → CliError → Type 0
 RefusesOptions (Check question) e = RefusesJudgingOptions (Some question.judging) e
 RefusesOptions (Timeline question) e = RefusesJudgingOptions question.judging e

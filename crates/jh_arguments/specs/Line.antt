@@ -38,11 +38,15 @@ model models = record (option (codes "model")) { parser = Some (Names models) }
 abbrev pub needed_rule : Rule → Rule
 needed_rule rule = record rule { required = true }
 
--- a number of `i64`
-abbrev pub initial_rule : Rule
-initial_rule =
-    record (option (codes "initial"))
+-- a number of `i64`, if it is given
+abbrev pub signed : Text → Rule
+signed name =
+    record (option name)
     { parser = Some (Signed (negsuc 9223372036854775807) (pos 9223372036854775807)) }
+
+-- the accounts of a bank, as the text of EDN values
+abbrev pub accounts : Rule
+accounts = option (codes "accounts")
 
 -- a number of `u64`, if it is given: an index, or how many at least
 abbrev pub given_number : Text → Rule
@@ -77,13 +81,19 @@ without_options name = with_rule (new_app name) verbose
 abbrev pub threads : Rule
 threads = number_rule (codes "threads") (Unsigned 1 max_threads) (codes "1")
 
+-- a command with the options of a judgement: what is said to one checker, and how much it may do
+abbrev pub judged : Bor (List (Bor Text)) → App → App
+judged models app =
+    with_rule (with_rule (with_rule (with_rule (with_rule (with_rule (with_rule (with_rule app
+    (signed (codes "initial"))) (model models)) accounts) (signed (codes "total")))
+    (flag (codes "negative-balances"))) (flag (codes "linearizable"))) (flag (codes "locked")))
+    (budget (codes "100000"))
+
 abbrev pub check : Bor (List (Bor Text)) → Bor (List (Bor Text)) → App
 check names models =
-    with_rule (with_rule (with_rule (with_rule (with_rule
-    (with_rule (with_rule (with_rule
-    (with_rule (with_rule (new_app (codes "check")) (needed_rule (workload names)))
-    initial_rule) (model models))
-    (budget (codes "100000"))) (flag (codes "explain"))) (flag (codes "independent"))) threads)
+    with_rule (with_rule (with_rule (with_rule (with_rule (with_rule
+    (judged models (with_rule (new_app (codes "check")) (needed_rule (workload names))))
+    (flag (codes "explain"))) (flag (codes "independent"))) threads)
     (given_number (codes "at-least"))) skip_unread) verbose
 
 -- the file with the settings of a run, by whose schedule the page of what it printed names steps
@@ -92,11 +102,9 @@ schedule_file = option (codes "settings")
 
 abbrev pub timeline : Bor (List (Bor Text)) → Bor (List (Bor Text)) → App
 timeline names models =
-    with_rule (with_rule (with_rule (with_rule (with_rule
-    (with_rule (with_rule (with_rule
-    (with_rule (with_rule (new_app (codes "timeline")) (workload names)) initial_rule)
-    (model models))
-    (budget (codes "100000"))) (flag (codes "independent"))) (given_number (codes "from")))
+    with_rule (with_rule (with_rule (with_rule (with_rule (with_rule
+    (judged models (with_rule (new_app (codes "timeline")) (workload names)))
+    (flag (codes "independent"))) (given_number (codes "from")))
     (given_number (codes "to"))) schedule_file) skip_unread) verbose
 
 abbrev pub shrink : App

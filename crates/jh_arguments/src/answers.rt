@@ -14,11 +14,13 @@ ghost use Rattle.jh_drive.specs.declared.error.DriveError.TheVariants as DriveEr
 ghost use Rattle.jh_settings.specs.declared.error.SettingsError.{SettingsError};
 ghost use Rattle.jh_arguments.specs.Answers as rule;
 ghost use Rattle.jh_arguments.specs.Answers.{IsConductedTo, IsCommandDone, IsFailed, IsFileUnread};
-ghost use Rattle.jh_arguments.specs.Answers.{GivesSteps, HasNoSteps, IsUnfinished, IsUnscheduled};
+ghost use Rattle.jh_arguments.specs.Answers.{GivesSteps, HasNoAccounts, HasNoSteps};
+ghost use Rattle.jh_arguments.specs.Answers.{IsUnfinished, IsUnscheduled};
 ghost use Rattle.jh_arguments.specs.Commands.{SubcommandHasSchedule};
 ghost use Rattle.jh_arguments.specs.Line.{IsRefused};
 ghost use Rattle.jh_arguments.specs.declared.answers.Refusal.TheVariants as Refusals;
 
+use crate::accounts::accounts_of;
 use crate::commands::{Command, command_of, do_command, run_settings_path_of, test_path_of};
 use crate::line::parse;
 use clap::ArgMatches;
@@ -41,6 +43,8 @@ use std::thread::Threads;
 pub enum Refusal {
     /// The arguments ask for help or for the version, or are wrong.
     Arguments(clap::Error),
+    /// The accounts of a bank are refused.
+    Accounts(CliError),
     /// The command refuses its options or its input, or did not do its work.
     Command(CliError),
     /// The settings of the run that is shown could not be read, or are refused.
@@ -52,7 +56,7 @@ pub enum Refusal {
 /// Who is told what is done next.
 pub trait CommandObserver {
     /// This command is run next.
-    fn see_command(&mut self, command: Command);
+    fn see_command(&mut self, command: Command<'_>);
 
     /// The settings of a test were read, and it is conducted next.
     fn see_test(&mut self);
@@ -155,8 +159,8 @@ fn of_test(answer: Result<u8, DriveError>) -> Result<u8, Refusal>
 ///
 /// A run on threads, a search and the judgement of keys may wait, and of a test a reader that blocks.
 ///
-/// Errors: `Arguments`, then `Schedule`, both before anything is read or written; then, of a command, `Command` as
-/// `do_command` has it, and of a test `Test` as `drive` has it, or where its file could not be read.
+/// Errors: `Arguments`, then `Accounts`, then `Schedule`, all before anything is read or written; then, of a command,
+/// `Command` as `do_command` has it, and of a test `Test` as `drive` has it, or where its file could not be read.
 pub fn answer<T, S, R, W, O>(
     rt: &T,
     arguments: &[S],
@@ -184,6 +188,12 @@ where
         → IsFailed (map S.text arguments.now) (R.remaining streams.old.reader) streams.old.reader streams.new.reader error }
     ensures failed_unwritten { (error : CliErrorData) → IsErrOf result (Refusals.Command error)
         → error ≢ CliErrors.Write → streams.new.writer ≡ streams.old.writer }
+    ensures unaccounted { (error : CliErrorData) → IsErrOf result (Refusals.Accounts error)
+        → HasNoAccounts (map S.text arguments.now) error }
+    ensures unaccounted_reader_kept { (error : CliErrorData)
+        → IsErrOf result (Refusals.Accounts error) → streams.new.reader ≡ streams.old.reader }
+    ensures unaccounted_unwritten { (error : CliErrorData)
+        → IsErrOf result (Refusals.Accounts error) → streams.new.writer ≡ streams.old.writer }
     ensures unscheduled { (error : CliErrorData) → IsErrOf result (Refusals.Schedule error)
         → HasNoSteps (map S.text arguments.now) error }
     ensures unscheduled_reader_kept { (error : CliErrorData)
@@ -203,8 +213,12 @@ where
     if let Some(path) = test_path_of(&matches) {
         return of_test(conduct_file(rt, path, streams, observer));
     }
+    let accounts = match accounts_of(rt.alloc(), &matches) {
+        Ok(accounts) => accounts,
+        Err(error) => return Err(Refusal::Accounts(error)),
+    };
     // `clap` takes no arguments that ask for neither.
-    let Some(command) = command_of(&matches) else {
+    let Some(command) = command_of(&matches, accounts.as_deref()) else {
         unreachable!()
     };
     let steps = match steps_of(rt, &matches) {

@@ -10,13 +10,14 @@ ghost use Rattle.jh_checkers.specs.declared.finding.Judging.{Judging};
 ghost use Rattle.jh_cli.specs.Outputs.{OnInput, WritesOutput};
 ghost use Rattle.jh_cli.specs.declared.error.CliError.{CliError as CliErrorData};
 ghost use Rattle.jh_cli.specs.declared.error.CliError.TheVariants as CliError;
-ghost use Rattle.jh_arguments.specs.Commands.{AsksCheck, AsksPlot, SubcommandHasSchedule};
+ghost use Rattle.jh_arguments.specs.Commands.{AsksCheck, AsksPlot, SubcommandHasAccounts};
+ghost use Rattle.jh_arguments.specs.Commands.{SubcommandHasSchedule};
 ghost use Rattle.jh_arguments.specs.Commands.{SubcommandIs};
 ghost use Rattle.jh_arguments.specs.Commands.{SubcommandIsDrive, SubcommandIsVerbose};
 ghost use Rattle.jh_arguments.specs.Commands.{AsksSearch, IsShow};
 ghost use Rattle.jh_arguments.specs.Commands.{AsksTimeline, HasNumbersInRange, IsFlag};
-ghost use Rattle.jh_arguments.specs.Commands.{IsGivenNumber, IsGivenWithin};
-ghost use Rattle.jh_arguments.specs.Commands.{IsInitial, IsNumberWithin};
+ghost use Rattle.jh_arguments.specs.Commands.{IsGivenNumber, IsGivenSigned, IsGivenWithin};
+ghost use Rattle.jh_arguments.specs.Commands.{IsNumberWithin};
 ghost use Rattle.jh_arguments.specs.Commands.{IsJudging, IsJudgingBy, IsNumber};
 ghost use Rattle.jh_arguments.specs.Commands.{IsOfOptions, IsOutputOf, IsThreads, RefusesCommand};
 ghost use Rattle.jh_arguments.specs.Commands.{RefusesOptions};
@@ -47,12 +48,12 @@ use std::sync::Wait;
 use std::thread::Threads;
 
 /// What the arguments ask for.
-#[derive(Clone, Copy, Debug, PartialEq, Eq)]
-pub enum Command {
+#[derive(Clone, Copy, Debug)]
+pub enum Command<'a> {
     /// Faults over an environment.
     Env,
     /// The judgement of a history.
-    Check(CheckQuestion),
+    Check(CheckQuestion<'a>),
     /// A run of a simulated cluster.
     Run,
     /// The schedule of a run made small, by so many runs at most.
@@ -60,26 +61,32 @@ pub enum Command {
     /// Random schedules tried for a run that fails.
     Search(SearchQuestion),
     /// A page that shows a history.
-    Timeline(TimelineQuestion),
+    Timeline(TimelineQuestion<'a>),
     /// A page that shows the latencies and rates of a history, without keys that can't be read where
     /// that is asked for.
     Plot(bool),
 }
 
-/// The command that the arguments ask for. `parse` has seen to it that there is one.
-pub fn command_of(matches: &ArgMatches<'_>) -> Option<Command>
-    ensures parsed { IfSome result (SubcommandIs (subcommand_rows_of matches.now)) }
+/// The command that the arguments ask for, with the accounts that they give. `parse` has seen to it that there
+/// is one.
+pub fn command_of<'a>(
+    matches: &ArgMatches<'_>,
+    accounts: Option<&'a [Value]>,
+) -> Option<Command<'a>>
+    ensures parsed { IfSome result (SubcommandIs accounts.entry (subcommand_rows_of matches.now)) }
     ensures ranges { IfSome result HasNumbersInRange }
     ensures taken { IsNone result → (command : Command)
-        → SubcommandIs (subcommand_rows_of matches.now) command → ⊥ }
+        → SubcommandIs accounts.entry (subcommand_rows_of matches.now) command → ⊥ }
 {
     match matches.subcommand()? {
         ("env", _) => Some(Command::Env),
-        ("check", options) => Some(Command::Check(question_of(options)?)),
+        ("check", options) => Some(Command::Check(question_of(options, accounts)?)),
         ("run", _) => Some(Command::Run),
         ("shrink", options) => Some(Command::Shrink(number_of(options, "budget")?)),
         ("search", options) => Some(Command::Search(search_question_of(options)?)),
-        ("timeline", options) => Some(Command::Timeline(timeline_question_of(options)?)),
+        ("timeline", options) => {
+            Some(Command::Timeline(timeline_question_of(options, accounts)?))
+        }
         ("plot", options) => Some(Command::Plot(plot_skips_unread(options))),
         _ => None,
     }
@@ -104,7 +111,7 @@ pub fn test_path_of<'a>(matches: &ArgMatches<'a>) -> Option<&'a str>
         → SubcommandIsDrive (subcommand_rows_of matches.now) path → ⊥ }
 {
     match matches.subcommand()? {
-        ("drive", options) => Some(path_of(options)?),
+        ("drive", options) => Some(text_of(options, "settings")?),
         _ => None,
     }
 }
@@ -118,36 +125,53 @@ pub(crate) fn run_settings_path_of<'a>(matches: &ArgMatches<'a>) -> Option<&'a s
         → SubcommandHasSchedule (subcommand_rows_of matches.now) path → ⊥ }
 {
     match matches.subcommand()? {
-        ("timeline", options) => Some(path_of(options)?),
+        ("timeline", options) => Some(text_of(options, "settings")?),
         _ => None,
     }
 }
 
-/// The file of settings that options give, if they do.
-fn path_of<'a>(options: &ArgMatches<'a>) -> Option<&'a str>
+/// The text of the accounts of a bank, where `check` or `timeline` is given one. No other command has one.
+pub(crate) fn accounts_text_of<'a>(matches: &ArgMatches<'a>) -> Option<&'a str>
     ensures parsed { IfSome result
-        (λ path. first_of (codes "settings") (rows_of (found_of options.now)) ≡ Some path.now) }
-    ensures taken { IsNone result → (path : Text)
-        → first_of (codes "settings") (rows_of (found_of options.now)) ≡ Some path → ⊥ }
+        (λ text. SubcommandHasAccounts (subcommand_rows_of matches.now) text.now) }
+    ensures taken { IsNone result → (text : Text)
+        → SubcommandHasAccounts (subcommand_rows_of matches.now) text → ⊥ }
 {
-    match options.get_str("settings") {
-        Some(path) => Some(path),
+    match matches.subcommand()? {
+        ("check", options) => Some(text_of(options, "accounts")?),
+        ("timeline", options) => Some(text_of(options, "accounts")?),
+        _ => None,
+    }
+}
+
+/// The text that an option gives, if it is there.
+fn text_of<'a>(options: &ArgMatches<'a>, name: &str) -> Option<&'a str>
+    ensures parsed { IfSome result
+        (λ text. first_of name.now (rows_of (found_of options.now)) ≡ Some text.now) }
+    ensures taken { IsNone result → (text : Text)
+        → first_of name.now (rows_of (found_of options.now)) ≡ Some text → ⊥ }
+{
+    match options.get_str(name) {
+        Some(text) => Some(text),
         None => None,
     }
 }
 
-/// What the options of `check` ask for. `parse` has seen to it that the workload is one that a
-/// checker judges, that the model is one, that the budget is a number, and that the number of threads
-/// is from 1 to 16.
-pub fn question_of(options: &ArgMatches<'_>) -> Option<CheckQuestion>
-    ensures parsed { IfSome result (AsksCheck (rows_of (found_of options.now))) }
+/// What the options of `check` ask for, with the accounts that they give. `parse` has seen to it that the
+/// workload is one that a checker judges, that the model is one, that the budget is a number, and that the
+/// number of threads is from 1 to 16.
+pub fn question_of<'a>(
+    options: &ArgMatches<'_>,
+    accounts: Option<&'a [Value]>,
+) -> Option<CheckQuestion<'a>>
+    ensures parsed { IfSome result (AsksCheck accounts.entry (rows_of (found_of options.now))) }
     ensures taken { IsNone result → (question : CheckQuestion)
-        → AsksCheck (rows_of (found_of options.now)) question → ⊥ }
+        → AsksCheck accounts.entry (rows_of (found_of options.now)) question → ⊥ }
 {
     let name = options.get_str("workload")?;
     let explain = flag_of(options, "explain");
     Some(CheckQuestion {
-        judging: judging_by(options, name, explain)?,
+        judging: judging_by(options, name, explain, accounts)?,
         independent: flag_of(options, "independent"),
         threads: threads_of(options)?,
         at_least: given_number(options, "at-least"),
@@ -173,17 +197,20 @@ pub fn search_question_of(options: &ArgMatches<'_>) -> Option<SearchQuestion>
     })
 }
 
-/// What the options of `timeline` ask for. Where there is no workload, an initial value, a model and
-/// a budget mean nothing. `parse` has seen to it that a workload is one that a checker judges, that a
-/// model is one, and that the budget is a number.
-pub fn timeline_question_of(options: &ArgMatches<'_>) -> Option<TimelineQuestion>
-    ensures parsed { IfSome result (AsksTimeline (rows_of (found_of options.now))) }
+/// What the options of `timeline` ask for, with the accounts that they give. Where there is no workload, what
+/// is said to a checker and a budget mean nothing. `parse` has seen to it that a workload is one that a checker
+/// judges, that a model is one, and that the budget is a number.
+pub fn timeline_question_of<'a>(
+    options: &ArgMatches<'_>,
+    accounts: Option<&'a [Value]>,
+) -> Option<TimelineQuestion<'a>>
+    ensures parsed { IfSome result (AsksTimeline accounts.entry (rows_of (found_of options.now))) }
     ensures taken { IsNone result → (question : TimelineQuestion)
-        → AsksTimeline (rows_of (found_of options.now)) question → ⊥ }
+        → AsksTimeline accounts.entry (rows_of (found_of options.now)) question → ⊥ }
 {
     let independent = flag_of(options, "independent");
     Some(TimelineQuestion {
-        judging: judging_of(options)?,
+        judging: judging_of(options, accounts)?,
         independent,
         choice: Choice {
             from: given_number(options, "from"),
@@ -201,32 +228,46 @@ fn plot_skips_unread(options: &ArgMatches<'_>) -> bool
 }
 
 /// What a history is judged by, if options give a workload. A no is explained.
-fn judging_of(options: &ArgMatches<'_>) -> Option<Option<Judging>>
-    ensures parsed { IfSome result (IsJudging (rows_of (found_of options.now))) }
+fn judging_of<'a>(
+    options: &ArgMatches<'_>,
+    accounts: Option<&'a [Value]>,
+) -> Option<Option<Judging<'a>>>
+    ensures parsed { IfSome result (IsJudging accounts.entry (rows_of (found_of options.now))) }
     ensures taken { IsNone result → (judging : Option Judging)
-        → IsJudging (rows_of (found_of options.now)) judging → ⊥ }
+        → IsJudging accounts.entry (rows_of (found_of options.now)) judging → ⊥ }
 {
     match options.get_str("workload") {
-        Some(name) => Some(Some(judging_by(options, name, true)?)),
+        Some(name) => Some(Some(judging_by(options, name, true, accounts)?)),
         None => Some(None),
     }
 }
 
-/// What a history is judged by, with the checker of the workload of this name, which options give.
-fn judging_by(options: &ArgMatches<'_>, name: &str, explain: bool) -> Option<Judging>
+/// What a history is judged by, with the checker of the workload of this name, which options give, and with
+/// the accounts that they give.
+fn judging_by<'a>(
+    options: &ArgMatches<'_>,
+    name: &str,
+    explain: bool,
+    accounts: Option<&'a [Value]>,
+) -> Option<Judging<'a>>
     ensures parsed { first_of (codes "workload") (rows_of (found_of options.now)) ≡ Some name.now
-        → IfSome result (IsJudgingBy (rows_of (found_of options.now))) }
+        → IfSome result (IsJudgingBy accounts.entry (rows_of (found_of options.now))) }
     ensures explained { IfSome result (λ judging. judging.explain ≡ explain) }
     ensures taken { first_of (codes "workload") (rows_of (found_of options.now)) ≡ Some name.now
         → IsNone result → (judging : Judging)
-        → IsJudgingBy (rows_of (found_of options.now)) judging → ⊥ }
+        → IsJudgingBy accounts.entry (rows_of (found_of options.now)) judging → ⊥ }
 {
     Some(Judging {
         checker: Checker::named(name)?,
-        initial: initial_of(options),
+        initial: signed_of(options, "initial"),
         budget: number_of(options, "budget")?,
         explain,
         model: model_of(options),
+        accounts,
+        total: signed_of(options, "total"),
+        negative_balances: flag_of(options, "negative-balances"),
+        linearizable: flag_of(options, "linearizable"),
+        locked: flag_of(options, "locked"),
     })
 }
 
@@ -241,11 +282,11 @@ fn model_of(options: &ArgMatches<'_>) -> Option<ConsistencyModel>
     }
 }
 
-/// The initial value that is given, if it is.
-fn initial_of(options: &ArgMatches<'_>) -> Option<i64>
-    ensures { IsInitial (one_of (codes "initial") (rows_of (found_of options.now))) result }
+/// The signed number that an option gives, if it is there.
+fn signed_of(options: &ArgMatches<'_>, name: &str) -> Option<i64>
+    ensures { IsGivenSigned (one_of name.now (rows_of (found_of options.now))) result }
 {
-    options.get_one::<i64>("initial")
+    options.get_one::<i64>(name)
 }
 
 /// Whether a flag is there.
@@ -348,7 +389,7 @@ fn palette_of(options: &ArgMatches<'_>) -> Option<Palette>
 pub fn do_command<T, R, W, O>(
     rt: &T,
     alloc: Global,
-    command: Command,
+    command: Command<'_>,
     steps: &[Value],
     reader: &mut R,
     writer: &mut W,
@@ -361,13 +402,13 @@ where
     O: Observer + SearchObserver + HistoryObserver,
     requires { HasNumbersInRange command }
     ensures written { IfOk result (λ status. WritesOutput (R.remaining reader.old)
-        (IsOutputOf command (views steps.now)) status (W.contents writer.old) (W.contents writer.new)) }
-    ensures options { (error : CliErrorData) → IsOfOptions command error
-        → IsErrOf result error ↔ RefusesOptions command error }
-    ensures reader_kept { (error : CliErrorData) → IsOfOptions command error → IsErrOf result error
-        → reader.new ≡ reader.old }
+        (IsOutputOf command.entry (views steps.now)) status (W.contents writer.old) (W.contents writer.new)) }
+    ensures options { (error : CliErrorData) → IsOfOptions command.entry error
+        → IsErrOf result error ↔ RefusesOptions command.entry error }
+    ensures reader_kept { IfErr result
+        (λ e. IsOfOptions command.entry e → reader.new ≡ reader.old) }
     ensures refused { IfErr result (λ e. OnInput (R.remaining reader.old)
-        (λ input. RefusesCommand command (views steps.now) input e)) }
+        (λ input. RefusesCommand command.entry (views steps.now) input e)) }
     ensures unwritten { IfErr result (λ e. e ≢ CliError.Write → writer.new ≡ writer.old) }
 {
     match command {

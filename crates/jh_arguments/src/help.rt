@@ -23,12 +23,14 @@ Examples:
   jeprun env < examples/undo-and-redo.edn";
 
 pub(crate) const CHECK: &str = "\
-It writes the verdict, and what it stands on. Of a register that is not valid, --explain
-adds the completion at which it is stuck, an order of what is before that, the value that
-this order leads to, and the numbers of the operations that are pending there; of
+It writes the verdict, and what it stands on. Of a register or a mutex that is not valid,
+--explain adds the completion at which it is stuck, an order of what is before that, the value
+that this order leads to, and the numbers of the operations that are pending there; of
 list-append, the transactions that the line names. Other workloads say themselves what is
-wrong. An empty history is valid: --at-least N answers that it is not known whether one is, where
-fewer than N calls of the workload's functions ended :ok.
+wrong. A bank needs --accounts and --total, and with --negative-balances accounts may be
+overdrawn; stale reads of a set-full are allowed without --linearizable; a mutex is free at
+first without --locked. An empty history is valid: --at-least N answers that it is not known
+whether one is, where fewer than N calls of the workload's functions ended :ok.
 
 Exit status: 0 valid, 1 not valid, 2 unknown, 3 refused arguments or input, 4 where
 memory ran out, a read or a write failed, or a thread could not be had
@@ -37,6 +39,7 @@ Examples:
   jeprun check --workload register --explain < examples/check/register-stale.edn
   jeprun check --workload list-append --model serializable < examples/postgresql/repeatable-read.edn
   jeprun check --workload register --independent < examples/check/register-keys.edn
+  jeprun check --workload bank --accounts '[0 1 2 3 4]' --total 100 < examples/checkers/bank-serializable.edn
   jeprun check --workload set --at-least 1000 < examples/check/set.edn";
 
 pub(crate) const RUN: &str = "\

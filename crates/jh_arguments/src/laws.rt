@@ -2,19 +2,22 @@
 
 ghost use Rattle.std.specs.Prelude.{◌≡◌, ◌⊎◌, List, []};
 ghost use Rattle.clap.specs.Words.{App, Text, fault_of};
+ghost use Rattle.jh_arguments.specs.Accounts.{Accounts};
 ghost use Rattle.jh_arguments.specs.Answers.{ArgumentsAskFor, ArgumentsAskForTest};
 ghost use Rattle.jh_arguments.specs.Line.{IsCommandLine};
 ghost use Rattle.jh_arguments.specs.declared.commands.Command.{Command};
 
-/// Arguments that `clap` takes ask for something: for one command and no test, or for one test and no command.
+/// Arguments that `clap` takes ask for something: for one command and no test, or for one test and no command. The
+/// command has the accounts that it is given, whichever they are.
 pub fn argument_laws()
     ensures asked { (app : App) (arguments : List Text) → IsCommandLine app → fault_of app arguments ≡ []
-        → ((command : Command) × ArgumentsAskFor arguments command)
+        → ((given : Accounts) → (command : Command) × ArgumentsAskFor arguments given command)
         ⊎ ((path : Text) × ArgumentsAskForTest arguments path) }
-    ensures one { (arguments : List Text) (command other : Command)
-        → ArgumentsAskFor arguments command → ArgumentsAskFor arguments other → command ≡ other }
+    ensures one { (arguments : List Text) (given : Accounts) (command other : Command)
+        → ArgumentsAskFor arguments given command → ArgumentsAskFor arguments given other
+        → command ≡ other }
     ensures one_test { (arguments : List Text) (path other : Text)
         → ArgumentsAskForTest arguments path → ArgumentsAskForTest arguments other → path ≡ other }
-    ensures apart { (arguments : List Text) (command : Command) (path : Text)
-        → ArgumentsAskFor arguments command → ArgumentsAskForTest arguments path → ⊥ }
+    ensures apart { (arguments : List Text) (given : Accounts) (command : Command) (path : Text)
+        → ArgumentsAskFor arguments given command → ArgumentsAskForTest arguments path → ⊥ }
 {}

@@ -1,7 +1,8 @@
 //! The arguments of the command line: which command they ask for, and what is done then.
 //!
 //! `line.rt` has the commands and their options as `clap` reads them, `help.rt` what stands at the end
-//! of their help, and `commands.rt` what each command is and does. `drive` is none of these: it has a
+//! of their help, `accounts.rt` how the accounts of a bank are read, and `commands.rt` what each command is and
+//! does. `drive` is none of these: it has a
 //! file of settings, and `answers.rt` conducts its test. There the whole stands in one call, from the
 //! arguments to the exit status; `program.rt` has the standard streams, `teller.rt` what a terminal is told, and
 //! `reasons.rt` what `--verbose` says of a refusal.
@@ -9,6 +10,7 @@
 //! `command_of`, of `do_command`, and of `input_of` in `teller.rt`.
 #![tactic(auto)]
 
+mod accounts;
 mod answers;
 mod commands;
 mod help;
@@ -27,7 +29,8 @@ pub use commands::{
     timeline_question_of,
 };
 pub use jh_cli::{
-    CheckQuestion, CliError, HistoryCounts, HistoryObserver, SearchQuestion, TimelineQuestion,
+    CheckQuestion, CliError, HistoryCounts, HistoryObserver, JudgingOption, SearchQuestion,
+    TimelineQuestion,
 };
 pub use jh_drive::{CallCounts, CallObserver, DriveError};
 pub use jh_lines::Streams;

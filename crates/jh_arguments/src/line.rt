@@ -24,7 +24,18 @@ use std::alloc::Global;
 use std::convert::AsStr;
 
 /// The names of the workloads, as `jh_checkers` has them.
-static WORKLOADS: [&str; 5] = ["register", "set", "counter", "unique-ids", "list-append"];
+static WORKLOADS: [&str; 10] = [
+    "register",
+    "set",
+    "counter",
+    "unique-ids",
+    "list-append",
+    "total-queue",
+    "queue",
+    "bank",
+    "set-full",
+    "mutex",
+];
 
 /// The names of the consistency models, as `jh_checkers` has them.
 static MODELS: [&str; 4] = [
@@ -110,20 +121,18 @@ fn check_command<'a>(
     let explain = flag_option(
         alloc,
         "explain",
-        "Says why a register or list-append is not valid",
+        "Says why a register, a mutex or list-append is not valid",
     );
     let independent = flag_option(
         alloc,
         "independent",
         "Judges each key by itself; values are tuples of a key and a value",
     );
-    let check = Command::new(alloc, "check")
+    let command = Command::new(alloc, "check")
         .about("Judges a history of operations, read from standard input as EDN")
         .after_help(help::CHECK)
-        .arg(workload_option(alloc, names).required(true))?
-        .arg(initial_option(alloc))?
-        .arg(model_option(alloc, models))?
-        .arg(judge_option(alloc))?
+        .arg(workload_option(alloc, names).required(true))?;
+    let check = judged(alloc, command, models)?
         .arg(explain)?
         .arg(independent)?
         .arg(threads_option(alloc))?
@@ -148,13 +157,11 @@ fn timeline_command<'a>(
         "independent",
         "Shows each key by itself; values are tuples of a key and a value",
     );
-    let timeline = Command::new(alloc, "timeline")
+    let command = Command::new(alloc, "timeline")
         .about("Writes a page that shows a history, which is read from standard input as EDN")
         .after_help(help::TIMELINE)
-        .arg(workload_option(alloc, names))?
-        .arg(initial_option(alloc))?
-        .arg(model_option(alloc, models))?
-        .arg(judge_option(alloc))?
+        .arg(workload_option(alloc, names))?;
+    let timeline = judged(alloc, command, models)?
         .arg(independent)?
         .arg(index_option(alloc, "from", "The first record that is shown, from 0"))?
         .arg(index_option(alloc, "to", "The record behind the last one that is shown"))?
@@ -162,6 +169,39 @@ fn timeline_command<'a>(
         .arg(skip_unread_option(alloc))?
         .arg(verbose_option(alloc))?;
     Ok(timeline)
+}
+
+/// A command with the options of a judgement: what is said to one checker, and how much it may do.
+fn judged<'a>(
+    alloc: Global,
+    command: Command<'a>,
+    models: &'static [&'static str],
+) -> Result<Command<'a>, Error>
+    ensures judged { IfOk result
+        (λ judged. app_of judged ≡ text.judged models.entry (app_of command.entry)) }
+    ensures memory { IfErr result (λ e. kind_of e ≡ ErrorKind.OutOfMemory) }
+{
+    let negative = flag_option(
+        alloc,
+        "negative-balances",
+        "Balances of a bank may be below 0",
+    );
+    let linearizable = flag_option(
+        alloc,
+        "linearizable",
+        "Stale reads make a set-full not valid",
+    );
+    let locked = flag_option(alloc, "locked", "A mutex is held at first");
+    let judged = command
+        .arg(initial_option(alloc))?
+        .arg(model_option(alloc, models))?
+        .arg(accounts_option(alloc))?
+        .arg(total_option(alloc))?
+        .arg(negative)?
+        .arg(linearizable)?
+        .arg(locked)?
+        .arg(judge_option(alloc))?;
+    Ok(judged)
 }
 
 /// The command `shrink` and its option.
@@ -367,14 +407,33 @@ fn workload_option<'a>(alloc: Global, names: &'static [&'static str]) -> Arg<'a>
 
 /// What a register holds at first: a number of `i64`.
 fn initial_option<'a>(alloc: Global) -> Arg<'a>
-    ensures rule { rule_of result ≡ text.initial_rule }
+    ensures rule { rule_of result ≡ text.signed (codes "initial") }
     ensures local { result.global ≡ false }
 {
-    Arg::new(alloc, "initial")
-        .long("initial")
-        .value_name("N")
-        .help("The register's first value, as --initial=-5; nil where it is left out")
-        .value_parser(value_parser!(i64))
+    signed_option(
+        alloc,
+        "initial",
+        "The register's first value, as --initial=-5; nil where it is left out",
+    )
+}
+
+/// The sum of the balances of a bank: a number of `i64`.
+fn total_option<'a>(alloc: Global) -> Arg<'a>
+    ensures rule { rule_of result ≡ text.signed (codes "total") }
+    ensures local { result.global ≡ false }
+{
+    signed_option(alloc, "total", "The sum of all balances of a bank")
+}
+
+/// The accounts of a bank: a text.
+fn accounts_option<'a>(alloc: Global) -> Arg<'a>
+    ensures rule { rule_of result ≡ text.accounts }
+    ensures local { result.global ≡ false }
+{
+    Arg::new(alloc, "accounts")
+        .long("accounts")
+        .value_name("VALUES")
+        .help("The accounts of a bank, as '[0 1 2]'")
 }
 
 /// By which consistency model transactions are judged: one of these names.
@@ -389,6 +448,18 @@ fn model_option<'a>(alloc: Global, models: &'static [&'static str]) -> Arg<'a>
         .value_parser(&*models)
 }
 
+/// An option that takes a number of `i64`, which may be left out.
+fn signed_option<'a>(alloc: Global, name: &'static str, help: &'static str) -> Arg<'a>
+    ensures rule { rule_of result ≡ text.signed name.now }
+    ensures local { result.global ≡ false }
+{
+    Arg::new(alloc, name)
+        .long(name)
+        .value_name("N")
+        .help(help)
+        .value_parser(value_parser!(i64))
+}
+
 /// The index of a record: a number of `u64`.
 fn index_option<'a>(alloc: Global, name: &'static str, help: &'static str) -> Arg<'a>
     ensures rule { rule_of result ≡ text.given_number name.now }
@@ -401,14 +472,14 @@ fn index_option<'a>(alloc: Global, name: &'static str, help: &'static str) -> Ar
         .value_parser(value_parser!(u64))
 }
 
-/// How much the judge of a register may do.
+/// How much the judge of a register or a mutex may do.
 fn judge_option<'a>(alloc: Global) -> Arg<'a>
     ensures rule { rule_of result ≡ text.budget (codes "100000") }
     ensures local { result.global ≡ false }
 {
     budget_option(
         alloc,
-        "How many configurations the judge of a register may reach",
+        "How many configurations the judge of a register or a mutex may reach",
         "100000",
     )
 }

@@ -66,7 +66,9 @@ fn undriven(rt: &impl Eprint, error: DriveError) -> u8 {
 fn ended(rt: &(impl Print + Eprint), refusal: Refusal) -> u8 {
     match refusal {
         Refusal::Arguments(refusal) => refused(rt, &refusal),
-        Refusal::Command(error) | Refusal::Schedule(error) => failed(rt, error),
+        Refusal::Accounts(error) | Refusal::Command(error) | Refusal::Schedule(error) => {
+            failed(rt, error)
+        }
         Refusal::Test(error) => undriven(rt, error),
     }
 }
@@ -151,7 +153,7 @@ where
     let answer = answer(rt, arguments.as_slice(), &mut streams, &mut teller);
     teller.end();
     let given = Given {
-        command: teller.command(),
+        work: teller.work(),
         input: streams.reader.kept(),
         failure: streams.reader.failure(),
     };

@@ -2,9 +2,9 @@
 //! made from the input again, which is kept for it: no command knows of them.
 
 use crate::answers::Refusal;
-use crate::commands::{Command, run_settings_path_of, test_path_of};
+use crate::commands::{run_settings_path_of, test_path_of};
 use crate::line::parse;
-use crate::teller::judging_of;
+use crate::teller::Work;
 use jh_check::CheckError;
 use jh_cli::{CliError, functions_of};
 use jh_drive::DriveError;
@@ -21,8 +21,8 @@ use std::io;
 /// What a command was given, and how reading it failed, if it did.
 #[derive(Clone, Copy)]
 pub(crate) struct Given<'a> {
-    /// The command, where the arguments ask for one.
-    pub(crate) command: Option<Command>,
+    /// The work of the command, where the arguments ask for one.
+    pub(crate) work: Option<Work>,
     /// What was read.
     pub(crate) input: &'a [u8],
     /// How the last read failed, if it did.
@@ -41,33 +41,31 @@ pub(crate) fn warnings_in(alloc: Global, settings: &[u8]) -> Result<Vec<Warning>
 }
 
 /// What a command reads its input as.
-fn kind_of(command: Option<Command>) -> InputKind {
-    match command {
-        Some(Command::Check(_)) | Some(Command::Timeline(_)) | Some(Command::Plot(_)) => {
-            InputKind::History
-        }
+fn kind_of(work: Option<Work>) -> InputKind {
+    match work {
+        Some(Work::History { .. }) => InputKind::History,
         _ => InputKind::Values,
     }
 }
 
 /// Whether a command leaves out keys that can't be read.
-fn skips_unread(command: Option<Command>) -> bool {
-    match command {
-        Some(Command::Check(question)) => question.skips_unread,
-        Some(Command::Timeline(question)) => question.skips_unread,
-        Some(Command::Plot(skips_unread)) => skips_unread,
+fn skips_unread(work: Option<Work>) -> bool {
+    match work {
+        Some(Work::History { skips_unread, .. }) => skips_unread,
         _ => false,
     }
 }
 
 /// The functions that a command's checker judges, and none where nothing is judged.
-fn judged_functions(command: Option<Command>) -> &'static [&'static str] {
-    let Some(command) = command else {
-        return &[];
-    };
-    match judging_of(command) {
-        Some(judging) => functions_of(judging.checker),
-        None => &[],
+fn judged_functions(work: Option<Work>) -> &'static [&'static str] {
+    match work {
+        Some(
+            Work::History {
+                checker: Some(checker),
+                ..
+            },
+        ) => functions_of(checker),
+        _ => &[],
     }
 }
 
@@ -89,7 +87,7 @@ fn refused_operation(error: CheckError) -> Option<usize> {
 /// The text that a command reads: its input, without what it leaves out.
 fn text_read(alloc: Global, given: Given<'_>) -> Result<Vec<u8>, AllocError> {
     match str::from_utf8(given.input) {
-        Ok(text) if skips_unread(given.command) => without_unread(alloc, text),
+        Ok(text) if skips_unread(given.work) => without_unread(alloc, text),
         _ => Vec::from_slice(alloc, given.input),
     }
 }
@@ -107,7 +105,7 @@ fn failure_lines(alloc: Global, failure: Option<io::ErrorKind>) -> Result<Lines,
 fn command_reasons(alloc: Global, given: Given<'_>, error: &CliError) -> Result<Lines, AllocError> {
     let text = text_read(alloc, given)?;
     match error {
-        CliError::Input(_) => text_reasons(alloc, &text, kind_of(given.command)),
+        CliError::Input(_) => text_reasons(alloc, &text, kind_of(given.work)),
         CliError::Environment(_) => element_reasons(alloc, &text, 1),
         CliError::Element { number, .. } => element_reasons(alloc, &text, *number),
         CliError::History(HistoryError::Op(number, _)) => {
@@ -116,7 +114,7 @@ fn command_reasons(alloc: Global, given: Given<'_>, error: &CliError) -> Result<
         CliError::TimeMissing { index } => operation_reasons(alloc, &text, *index, &[]),
         CliError::Check(error) => match refused_operation(*error) {
             Some(number) => {
-                operation_reasons(alloc, &text, number, judged_functions(given.command))
+                operation_reasons(alloc, &text, number, judged_functions(given.work))
             }
             None => Ok(Vec::new(alloc)),
         },
@@ -186,7 +184,7 @@ fn schedule_reasons<T: Files + Alloc<A = Global>>(
 }
 
 /// The lines that say where and why the program refused what it was given. None for what the arguments are
-/// refused for: `clap` says it.
+/// refused for: the line of the error says it.
 pub(crate) fn reasons_of<T: Files + Alloc<A = Global>>(
     rt: &T,
     arguments: &[String],
@@ -194,7 +192,7 @@ pub(crate) fn reasons_of<T: Files + Alloc<A = Global>>(
     refusal: &Refusal,
 ) -> Result<Lines, AllocError> {
     match refusal {
-        Refusal::Arguments(_) => Ok(Vec::new(rt.alloc())),
+        Refusal::Arguments(_) | Refusal::Accounts(_) => Ok(Vec::new(rt.alloc())),
         Refusal::Command(error) => command_reasons(rt.alloc(), given, error),
         Refusal::Schedule(error) => schedule_reasons(rt, arguments, error),
         Refusal::Test(error) => test_reasons(rt, arguments, given, error),

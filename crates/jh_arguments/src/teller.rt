@@ -22,8 +22,8 @@ pub(crate) struct Teller<'a, P> {
     terminals: Terminals,
     /// Whether the arguments ask to be told more.
     is_verbose: bool,
-    /// The command that is run, once that is known.
-    command: Option<Command>,
+    /// What the command does, once that is known.
+    work: Option<Work>,
     /// When its work began, where the clock was read.
     start: Option<Instant>,
     /// What the history holds that is judged, once it is read.
@@ -32,6 +32,72 @@ pub(crate) struct Teller<'a, P> {
     is_in_the_way: &'a Cell<bool>,
     /// Whether the input is kept, to say more of it.
     is_kept: &'a Cell<bool>,
+}
+
+/// What a command does, as far as that is told.
+#[derive(Clone, Copy, Debug)]
+pub(crate) enum Work {
+    /// It reads an environment and steps.
+    Env,
+    /// It reads a history.
+    History {
+        /// The checker that judges it, if one does.
+        checker: Option<Checker>,
+        /// Whether a number of operations is wanted of it.
+        has_least: bool,
+        /// Whether keys that can't be read are left out.
+        skips_unread: bool,
+    },
+    /// It runs a cluster.
+    Run,
+    /// It makes a schedule small.
+    Shrink,
+    /// It tries schedules.
+    Search,
+}
+
+impl Work {
+    /// What this command does.
+    fn of(command: Command<'_>) -> Work {
+        match command {
+            Command::Env => Work::Env,
+            Command::Check(question) => Work::History {
+                checker: Some(question.judging.checker),
+                has_least: question.at_least.is_some(),
+                skips_unread: question.skips_unread,
+            },
+            Command::Run => Work::Run,
+            Command::Shrink(_) => Work::Shrink,
+            Command::Search(_) => Work::Search,
+            Command::Timeline(question) => Work::History {
+                checker: checker_of(question.judging),
+                has_least: false,
+                skips_unread: question.skips_unread,
+            },
+            Command::Plot(skips_unread) => Work::History {
+                checker: None,
+                has_least: false,
+                skips_unread,
+            },
+        }
+    }
+
+    /// What is read from standard input.
+    fn input(self) -> &'static str {
+        match self {
+            Work::Env => "an environment and steps",
+            Work::History { .. } => "a history",
+            Work::Run | Work::Shrink | Work::Search => "settings",
+        }
+    }
+}
+
+/// The checker of a judgement, if there is one.
+fn checker_of(judging: Option<Judging<'_>>) -> Option<Checker> {
+    match judging {
+        Some(judging) => Some(judging.checker),
+        None => None,
+    }
 }
 
 /// Which of the standard streams lead to somebody, and not to a pipe or a file.
@@ -47,12 +113,13 @@ pub struct Terminals {
 pub(crate) const EMPTY_LINE: &str = "\r\x1b[K";
 
 impl<P: Eprint + Clock> CommandObserver for Teller<'_, P> {
-    fn see_command(&mut self, command: Command) {
-        if self.is_warned_of(command) {
+    fn see_command(&mut self, command: Command<'_>) {
+        let work = Work::of(command);
+        if self.is_warned_of(work) {
             self.is_kept.set(true);
         }
-        self.tell_input(input_of(command));
-        self.command = Some(command);
+        self.tell_input(work.input());
+        self.work = Some(work);
         self.start = Instant::now(self.rt).ok();
         self.is_in_the_way.set(self.is_shown());
     }
@@ -135,7 +202,7 @@ impl<'a, P> Teller<'a, P> {
             rt,
             terminals,
             is_verbose,
-            command: None,
+            work: None,
             start: None,
             counts: None,
             is_in_the_way,
@@ -143,9 +210,9 @@ impl<'a, P> Teller<'a, P> {
         }
     }
 
-    /// The command that is run, once that is known.
-    pub(crate) fn command(&self) -> Option<Command> {
-        self.command
+    /// What the command does, once that is known.
+    pub(crate) fn work(&self) -> Option<Work> {
+        self.work
     }
 
     /// Whether somebody sits there, or asked to be told.
@@ -154,25 +221,21 @@ impl<'a, P> Teller<'a, P> {
     }
 
     /// Whether somebody is told what is warned of the settings that a command reads.
-    fn is_warned_of(&self, command: Command) -> bool {
-        self.is_heard() && matches!(command, Command::Run | Command::Search(_))
+    fn is_warned_of(&self, work: Work) -> bool {
+        self.is_heard() && matches!(work, Work::Run | Work::Search)
     }
 
     /// Whether somebody is told what is warned of the settings that were read.
     pub(crate) fn is_warned(&self) -> bool {
-        match self.command {
-            Some(command) => self.is_warned_of(command),
+        match self.work {
+            Some(work) => self.is_warned_of(work),
             None => false,
         }
     }
 
     /// Whether anybody is told how far the work is.
     fn is_shown(&self) -> bool {
-        self.terminals.errors
-            && matches!(
-                self.command,
-                Some(Command::Shrink(_)) | Some(Command::Search(_))
-            )
+        self.terminals.errors && matches!(self.work, Some(Work::Shrink) | Some(Work::Search))
     }
 }
 
@@ -205,59 +268,37 @@ impl<P: Eprint> Teller<'_, P> {
 
     /// Says what may decide what a command left unknown.
     pub(crate) fn advise(&self, status: u8) {
-        let Some(command) = self.command else {
+        let Some(work) = self.work else {
             return;
         };
         if !self.is_heard() {
             return;
         }
-        if let Some(remedy) = remedy_of(command, status) {
+        if let Some(remedy) = remedy_of(work, status) {
             let _ = eprintln!(self.rt; "jeprun: {remedy}");
         }
     }
 }
 
-/// What a command reads from standard input.
-fn input_of(command: Command) -> &'static str {
-    match command {
-        Command::Env => "an environment and steps",
-        Command::Check(_) | Command::Timeline(_) | Command::Plot(_) => "a history",
-        Command::Run | Command::Shrink(_) | Command::Search(_) => "settings",
-    }
-}
-
-/// Whether a history is judged as one of a register.
-fn is_of_register(judging: Option<Judging>) -> bool {
-    match judging {
-        Some(judging) => judging.checker == Checker::Register,
-        None => false,
-    }
-}
-
-/// What a history is judged by, where a command judges one that it reads.
-pub(crate) fn judging_of(command: Command) -> Option<Judging> {
-    match command {
-        Command::Check(question) => Some(question.judging),
-        Command::Timeline(question) => question.judging,
-        _ => None,
-    }
-}
-
-/// What may decide what a command left unknown, of a register.
-fn remedy_of(command: Command, status: u8) -> Option<&'static str>
+/// What may decide what a command left unknown, of a register or a mutex.
+fn remedy_of(work: Work, status: u8) -> Option<&'static str>
     ensures known { status ≢ 2 → IsNone result }
 {
     if status != UNKNOWN {
         return None;
     }
-    match command {
-        Command::Run | Command::Search(_) => {
+    match work {
+        Work::Run | Work::Search => {
             Some("unknown: of a register, a larger budget in the settings may decide")
         }
-        Command::Check(question) if question.at_least.is_some() => {
-            Some("unknown: the history has too few operations, or a larger --budget may decide")
-        }
-        _ if is_of_register(judging_of(command)) => Some("unknown: a larger --budget may decide"),
+        Work::History {
+            has_least: true,
+            ..
+        } => Some("unknown: the history has too few operations, or a larger --budget may decide"),
+        Work::History {
+            checker: Some(Checker::Register | Checker::Mutex),
+            ..
+        } => Some("unknown: a larger --budget may decide"),
         _ => None,
     }
 }

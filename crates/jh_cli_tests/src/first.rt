@@ -22,13 +22,13 @@ fn an_environment_without_steps_is_written(rt: HostRuntime) {
 }
 
 /// The command that arguments ask for.
-fn asked_by(alloc: Global, arguments: &[&str]) -> Option<Command> {
-    command_of(&parse(alloc, arguments).ok()?)
+fn asked_by(alloc: Global, arguments: &[&str]) -> Option<Command<'static>> {
+    command_of(&parse(alloc, arguments).ok()?, None)
 }
 
 #[test]
 fn a_run_is_asked_for(rt: HostRuntime) {
     let arguments = ["jeprun", "run"];
     let answer = asked_by(rt.alloc(), &arguments).or_else(|| asked_by(rt.alloc(), &arguments));
-    assert_eq!(rt; answer, Some(Command::Run));
+    assert!(rt; matches!(answer, Some(Command::Run)));
 }

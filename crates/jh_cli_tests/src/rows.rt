@@ -18,12 +18,12 @@ use std::io::{Read, Write};
 use std::sync::Wait;
 use std::thread::Threads;
 
-/// The command that these arguments ask for; `None` also where memory was refused.
-pub(crate) fn command(alloc: Global, arguments: &str) -> Option<Command>
+/// The command that these arguments ask for, with no accounts; `None` also where memory was refused.
+pub(crate) fn command(alloc: Global, arguments: &str) -> Option<Command<'static>>
     ensures { IfSome result HasNumbersInRange }
 {
     let arguments: Vec<&str> = arguments.split(' ').collect(alloc).ok()?;
-    command_of(&parse(alloc, arguments.as_slice()).ok()?)
+    command_of(&parse(alloc, arguments.as_slice()).ok()?, None)
 }
 
 /// Puts the status and the message of an error behind a text.

@@ -23,17 +23,15 @@ const BUDGET: u64 = 1_000;
 const STEPS: &[u8] = b"[:begin 1 [:kill [\"n1\"]]] [:withdraw 2]";
 
 /// The question that a text asks.
-fn question_of(pieces: &str) -> Option<TimelineQuestion> {
+fn question_of(pieces: &str) -> Option<TimelineQuestion<'static>> {
     let mut pieces = pieces.split_whitespace();
     let checker = Checker::named(pieces.next()?);
     let initial = pieces.next()?.parse().ok();
     Some(TimelineQuestion {
         judging: checker.map(|checker| Judging {
-            checker,
             initial,
-            budget: BUDGET,
             explain: true,
-            model: None,
+            ..Judging::by(checker, BUDGET)
         }),
         choice: Choice {
             from: pieces.next()?.parse().ok(),
@@ -45,7 +43,7 @@ fn question_of(pieces: &str) -> Option<TimelineQuestion> {
 }
 
 /// The answer to a question and an input; `None` where memory was refused.
-fn answer_once(alloc: Global, question: TimelineQuestion, input: &str) -> Option<Vec<u8>> {
+fn answer_once(alloc: Global, question: TimelineQuestion<'_>, input: &str) -> Option<Vec<u8>> {
     let steps = read_all(alloc, &mut STEPS, 10).ok()?;
     let mut reader = input.as_bytes();
     let mut page = Vec::new(alloc);

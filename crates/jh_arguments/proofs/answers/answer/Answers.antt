@@ -3,8 +3,8 @@ use Rattle.std.specs.Prelude.{List}
 use Rattle.clap.specs.Words.{subcommand_rows_of}
 use Rattle.jh_edn.specs.View.{views}
 use Rattle.jh_edn.specs.declared.value.Value.{Value}
-use Rattle.jh_arguments.specs.Answers.{GivesSteps}
-use Rattle.jh_arguments.proofs.AnswerLemmas.{Ends, asked_by, asked_test_by, command_ends, refused_ends, test_ends, unscheduled_ends, without_steps}
+use Rattle.jh_arguments.specs.Answers.{GivesAccounts, GivesSteps}
+use Rattle.jh_arguments.proofs.AnswerLemmas.{Ends, asked_by, asked_test_by, command_ends, refused_ends, seen_alike, test_ends, unaccounted_ends, unscheduled_ends, without_accounts, without_steps}
 use Rattle.jh_arguments.proofs.answers.answer.Given as given
 use Rattle.jh_arguments.proofs.answers.answer.Goals as goal
 
@@ -33,6 +33,21 @@ pub returns-in-Err-clause-failed_unwritten : goal.returns-in-Err-clause-failed_u
 returns-in-Err-clause-failed_unwritten g c =
     (refused_ends (map g.S.AsStr.text c.args.arguments.now) (g.R.Read.remaining c.args.streams.now.reader) None None None c.args.streams.now.reader c.args.streams.now.reader c.args.streams.now.writer c.args.streams.now.writer
     c.in-Err.error c.in-Err.ensures.refused refl refl).failed_unwritten
+
+pub returns-in-Err-clause-unaccounted : goal.returns-in-Err-clause-unaccounted
+returns-in-Err-clause-unaccounted g c =
+    (refused_ends (map g.S.AsStr.text c.args.arguments.now) (g.R.Read.remaining c.args.streams.now.reader) None None None c.args.streams.now.reader c.args.streams.now.reader c.args.streams.now.writer c.args.streams.now.writer
+    c.in-Err.error c.in-Err.ensures.refused refl refl).unaccounted
+
+pub returns-in-Err-clause-unaccounted_reader_kept : goal.returns-in-Err-clause-unaccounted_reader_kept
+returns-in-Err-clause-unaccounted_reader_kept g c =
+    (refused_ends (map g.S.AsStr.text c.args.arguments.now) (g.R.Read.remaining c.args.streams.now.reader) None None None c.args.streams.now.reader c.args.streams.now.reader c.args.streams.now.writer c.args.streams.now.writer
+    c.in-Err.error c.in-Err.ensures.refused refl refl).unaccounted_reader_kept
+
+pub returns-in-Err-clause-unaccounted_unwritten : goal.returns-in-Err-clause-unaccounted_unwritten
+returns-in-Err-clause-unaccounted_unwritten g c =
+    (refused_ends (map g.S.AsStr.text c.args.arguments.now) (g.R.Read.remaining c.args.streams.now.reader) None None None c.args.streams.now.reader c.args.streams.now.reader c.args.streams.now.writer c.args.streams.now.writer
+    c.in-Err.error c.in-Err.ensures.refused refl refl).unaccounted_unwritten
 
 pub returns-in-Err-clause-unscheduled : goal.returns-in-Err-clause-unscheduled
 returns-in-Err-clause-unscheduled g c =
@@ -84,6 +99,15 @@ returns-in-Some-clause-failed g c = (tested g c).failed
 pub returns-in-Some-clause-failed_unwritten : goal.returns-in-Some-clause-failed_unwritten
 returns-in-Some-clause-failed_unwritten g c = (tested g c).failed_unwritten
 
+pub returns-in-Some-clause-unaccounted : goal.returns-in-Some-clause-unaccounted
+returns-in-Some-clause-unaccounted g c = (tested g c).unaccounted
+
+pub returns-in-Some-clause-unaccounted_reader_kept : goal.returns-in-Some-clause-unaccounted_reader_kept
+returns-in-Some-clause-unaccounted_reader_kept g c = (tested g c).unaccounted_reader_kept
+
+pub returns-in-Some-clause-unaccounted_unwritten : goal.returns-in-Some-clause-unaccounted_unwritten
+returns-in-Some-clause-unaccounted_unwritten g c = (tested g c).unaccounted_unwritten
+
 pub returns-in-Some-clause-unscheduled : goal.returns-in-Some-clause-unscheduled
 returns-in-Some-clause-unscheduled g c = (tested g c).unscheduled
 
@@ -96,10 +120,16 @@ returns-in-Some-clause-unscheduled_unwritten g c = (tested g c).unscheduled_unwr
 pub returns-in-Some-clause-unfinished : goal.returns-in-Some-clause-unfinished
 returns-in-Some-clause-unfinished g c = (tested g c).unfinished
 
+-- no accounts are taken
+pub returns-in-Err-accounts_of-clause-unaccounted : goal.returns-in-Err-accounts_of-clause-unaccounted
+returns-in-Err-accounts_of-clause-unaccounted g c =
+    (unaccounted_ends (map g.S.AsStr.text c.args.arguments.now) (g.R.Read.remaining c.args.streams.now.reader) None None None c.args.streams.now.reader c.args.streams.now.reader c.args.streams.now.writer c.args.streams.now.writer
+    c.in-Err-accounts_of.error (without_accounts _ c.in-Ok.matches c.in-Err-accounts_of.error c.in-Ok.ensures.found c.in-Err-accounts_of.ensures.refused) refl refl).unaccounted
+
 -- `clap` takes no arguments that ask for nothing
 pub unreachable-requires : goal.unreachable-requires
 unreachable-requires g c = elim c.in-Ok.ensures.asked [
-  | inl (command, asks) ↦ c.command_of.ensures.taken (search rules) command asks
+  | inl asks ↦ (let asked = asks c.as_deref.result in c.command_of.ensures.taken (search rules) asked.0 asked.1)
   | inr (path, asks) ↦ c.test_path_of.ensures.taken (search rules) path asks
 ]
 
@@ -108,10 +138,10 @@ pub returns-in-Err-steps_of-clause-unscheduled : goal.returns-in-Err-steps_of-cl
 returns-in-Err-steps_of-clause-unscheduled g c =
     (unscheduled_ends (map g.S.AsStr.text c.args.arguments.now) (g.R.Read.remaining c.args.streams.now.reader) None None None c.args.streams.now.reader c.args.streams.now.reader c.args.streams.now.writer c.args.streams.now.writer
     c.in-Err-steps_of.error
-    (without_steps _ c.in-Ok.matches c.in-Err-steps_of.error c.in-Ok.ensures.found c.in-Err-steps_of.ensures.named c.in-Err-steps_of.ensures.error) refl refl).unscheduled
+    (without_steps _ c.in-Ok.matches _ c.in-Err-steps_of.error c.in-Ok.ensures.found c.in-Ok-accounts_of.ensures.accounts c.in-Err-steps_of.ensures.named c.in-Err-steps_of.ensures.error) refl refl).unscheduled
 
 -- a command is asked for
-commanded : (g : given.Over) (c : goal.Joined-matches-3 g)
+commanded : (g : given.Over) (c : goal.Joined-matches-4 g)
     → Ends {R = g.row.R.Denot} {W = g.row.W.Denot} (map g.S.AsStr.text c.args.arguments.now) (g.R.Read.remaining c.args.streams.now.reader) (g.R.Read.remaining c.do_command.new.reader)
     (g.W.Write.contents c.args.streams.now.writer) (g.W.Write.contents c.do_command.new.writer) c.args.streams.now.reader c.do_command.new.reader c.args.streams.now.writer c.do_command.new.writer
     c.of_command.result
@@ -119,7 +149,8 @@ commanded g c =
     let says = c.do_command.ensures in
     let steps = views c.deref.result.now in
     let gives = subst (λ (items : List Value). GivesSteps (subcommand_rows_of c.in-Ok.matches) (views items)) (sym c.deref.ensures.value) c.in-Ok-steps_of.ensures.steps in
-    let asked = asked_by _ c.in-Ok.matches c.in-Some-command_of.command steps c.in-Ok.ensures.found c.in-Some-command_of.ensures.parsed gives in
+    let accounts = subst (GivesAccounts (subcommand_rows_of c.in-Ok.matches)) (seen_alike _ c.in-Ok-accounts_of.accounts c.as_deref.result c.as_deref.ensures.value) c.in-Ok-accounts_of.ensures.accounts in
+    let asked = asked_by _ c.in-Ok.matches c.as_deref.result c.in-Some-command_of.command steps c.in-Ok.ensures.found accounts c.in-Some-command_of.ensures.parsed gives in
     let ends = command_ends _ (g.R.Read.remaining c.args.streams.now.reader) (g.R.Read.remaining c.do_command.new.reader) (g.W.Write.contents c.args.streams.now.writer) (g.W.Write.contents c.do_command.new.writer)
     c.args.streams.now.reader c.do_command.new.reader c.args.streams.now.writer c.do_command.new.writer c.in-Some-command_of.command steps c.do_command.result asked
     (record { options = says.options; reader_kept = says.reader_kept }) says.written says.refused says.unwritten in
@@ -143,6 +174,15 @@ returns-clause-failed g c = (commanded g c).failed
 
 pub returns-clause-failed_unwritten : goal.returns-clause-failed_unwritten
 returns-clause-failed_unwritten g c = (commanded g c).failed_unwritten
+
+pub returns-clause-unaccounted : goal.returns-clause-unaccounted
+returns-clause-unaccounted g c = (commanded g c).unaccounted
+
+pub returns-clause-unaccounted_reader_kept : goal.returns-clause-unaccounted_reader_kept
+returns-clause-unaccounted_reader_kept g c = (commanded g c).unaccounted_reader_kept
+
+pub returns-clause-unaccounted_unwritten : goal.returns-clause-unaccounted_unwritten
+returns-clause-unaccounted_unwritten g c = (commanded g c).unaccounted_unwritten
 
 pub returns-clause-unscheduled : goal.returns-clause-unscheduled
 returns-clause-unscheduled g c = (commanded g c).unscheduled

@@ -1,4 +1,4 @@
-use Rattle.std.proofs.Common.{codes, rules, sym, ap, ◌≡◌, ◌∙◌, Some}
+use Rattle.std.proofs.Common.{codes, refl, rules, sym, ap, ◌≡◌, ◌∙◌, Some}
 use Rattle.jh_checkers.specs.Checkers.{checker_name}
 use Rattle.jh_arguments.proofs.commands.judging_by.Goals as goal
 
@@ -14,7 +14,12 @@ returns-in_err-number_of-clause-taken c = λ given none judging is. c.number_of.
 pub returns-clause-parsed : goal.returns-clause-parsed
 returns-clause-parsed c = λ given. record {
   workload = given ∙ ap Some c.in_ok-named.ensures.named;
-  initial = c.initial_of.ensures;
+  initial = c.signed_of.ensures;
   model = c.model_of.ensures;
+  accounts = refl;
+  total = c.signed_of-2.ensures;
+  negative_balances = c.flag_of.ensures;
+  linearizable = c.flag_of-2.ensures;
+  locked = c.flag_of-3.ensures;
   budget = c.in_ok-number_of.ensures.parsed;
 }

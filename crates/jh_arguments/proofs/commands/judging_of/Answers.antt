@@ -6,7 +6,7 @@ use Rattle.jh_arguments.proofs.commands.judging_of.Goals as goal
 pub returns-in_err-judging_by-in-Some-clause-taken : goal.returns-in_err-judging_by-in-Some-clause-taken
 returns-in_err-judging_by-in-Some-clause-taken c = λ none judging is.
     let given = text_given (found_of c.args.options.now) (codes "workload") c.get_str.result (Some c.in-Some.name.now) (search rules) (search rules) in
-    judging_unread (rows_of (found_of c.args.options.now)) c.in-Some.name.now judging given (c.judging_by.ensures.taken given (search rules)) is
+    judging_unread c.args.accounts (rows_of (found_of c.args.options.now)) c.in-Some.name.now judging given (c.judging_by.ensures.taken given (search rules)) is
 
 pub returns-in_ok-judging_by-in-Some-clause-parsed : goal.returns-in_ok-judging_by-in-Some-clause-parsed
 returns-in_ok-judging_by-in-Some-clause-parsed c =
