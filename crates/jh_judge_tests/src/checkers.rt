@@ -5,6 +5,7 @@
 
 mod checkers;
 mod explained;
+mod queues;
 pub(crate) mod rows;
 mod transactions;
 mod writing;

@@ -115,13 +115,7 @@ fn a_pair_stands_for_an_operation(rt: HostRuntime) {
 
 /// The verdict on all keys of a history of registers.
 fn verdict_by_keys(alloc: Global, history: &[Op]) -> Option<Verdict> {
-    let judging = Judging {
-        checker: Checker::Register,
-        initial: None,
-        budget: 1_000,
-        explain: false,
-        model: None,
-    };
+    let judging = Judging::by(Checker::Register, 1_000);
     let found = check_keys_serial(alloc, history, judging).ok()?;
     verdict_of_all(alloc, &found).ok()
 }

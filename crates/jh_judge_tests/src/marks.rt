@@ -4,4 +4,5 @@
 //! Each test passes, too, where one allocation is refused: what answers so is asked again.
 
 mod marks;
+mod queues;
 mod rows;

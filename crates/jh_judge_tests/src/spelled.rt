@@ -64,6 +64,8 @@ fn note_of(name: &str, first: Option<i128>, second: Option<i128>) -> Option<Note
             upper: second?,
         }),
         "bad-read" => Some(Note::BadRead),
+        "stale" => Some(Note::Stale),
+        "wrong-balances" => Some(Note::WrongBalances),
         name => Some(Note::Step {
             place: index(first)?,
             kind: kind_of(name)?,

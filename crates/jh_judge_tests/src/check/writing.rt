@@ -1,7 +1,7 @@
 //! Results that a checker need not make: what is written of one, and what a type gives back.
 
 use crate::narrow::Narrow;
-use jh_check::{CounterResult, Duplicate, Duplicates, ReadBounds, Reads, Verdict, write_counter};
+use jh_check::{Counted, CounterResult, ReadBounds, Reads, Tally, Verdict, write_counter};
 use jh_edn::{EdnError, Value};
 use std::alloc::{AllocError, Global};
 use std::test::Fail;
@@ -60,17 +60,17 @@ fn says_that_the_writer_failed(rt: HostRuntime) -> Result<(), Fail> {
 }
 
 /// An id that was given twice.
-fn twice_once(alloc: Global) -> Result<Duplicates, AllocError> {
+fn twice_once(alloc: Global) -> Result<Tally, AllocError> {
     let mut items = Vec::new(alloc);
-    items.push(Duplicate {
-        id: Value::Int(7),
+    items.push(Counted {
+        value: Value::Int(7),
         times: 2,
     })?;
-    Ok(Duplicates::of(items))
+    Ok(Tally::of(items))
 }
 
 #[test]
-fn gives_duplicates_back(rt: HostRuntime) -> Result<(), Fail> {
+fn gives_a_tally_back(rt: HostRuntime) -> Result<(), Fail> {
     let twice = match twice_once(rt.alloc()) {
         Err(_) => twice_once(rt.alloc())?,
         Ok(twice) => twice,

@@ -13,16 +13,23 @@ fn name_of(name: &str) -> &'static str {
         Some(Checker::Counter) => "counter",
         Some(Checker::Ids) => "unique-ids",
         Some(Checker::ListAppend) => "list-append",
+        Some(Checker::TotalQueue) => "total-queue",
+        Some(Checker::Queue) => "queue",
+        Some(Checker::Bank) => "bank",
+        Some(Checker::SetFull) => "set-full",
+        Some(Checker::Mutex) => "mutex",
         None => "none",
     }
 }
 
 #[test]
 fn names_mean_checkers(rt: HostRuntime) {
-    for name in "register set counter unique-ids list-append".split(' ') {
+    for name in "register set counter unique-ids list-append total-queue queue bank set-full mutex".split(
+        ' ',
+    ) {
         assert_eq!(rt; name_of(name), name);
     }
-    for name in "Register sets unique_ids list_append".split(' ') {
+    for name in "Register sets unique_ids list_append queues fifo-queue".split(' ') {
         assert_eq!(rt; name_of(name), "none", "{name}");
     }
 }

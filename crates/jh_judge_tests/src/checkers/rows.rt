@@ -11,18 +11,12 @@ use std::alloc::Global;
 use std::test::Fail;
 
 /// By a checker, where a register holds nil at first, the budget is large, nothing is explained, and transactions keep real time.
-pub(crate) fn by(checker: Checker) -> Judging {
-    Judging {
-        checker,
-        initial: None,
-        budget: 1_000,
-        explain: false,
-        model: None,
-    }
+pub(crate) fn by(checker: Checker) -> Judging<'static> {
+    Judging::by(checker, 1_000)
 }
 
 /// By a checker, where a register holds 0 at first, and its no is explained.
-pub(crate) fn explained(checker: Checker) -> Judging {
+pub(crate) fn explained(checker: Checker) -> Judging<'static> {
     Judging {
         initial: Some(0),
         explain: true,
@@ -31,7 +25,7 @@ pub(crate) fn explained(checker: Checker) -> Judging {
 }
 
 /// The line of a history as one, or the message of the error. None: memory was refused.
-fn line_once(alloc: Global, judging: Judging, history: &str) -> Option<String> {
+fn line_once(alloc: Global, judging: Judging<'_>, history: &str) -> Option<String> {
     let ops = ops_of(alloc, history)?;
     match check_history(alloc, &ops, judging) {
         Ok(found) => {
@@ -45,7 +39,7 @@ fn line_once(alloc: Global, judging: Judging, history: &str) -> Option<String> {
 }
 
 /// Judges each row as one history. One with another line is the failure.
-pub(crate) fn judge_all(alloc: Global, judging: Judging, rows: &str) -> Result<(), Fail> {
+pub(crate) fn judge_all(alloc: Global, judging: Judging<'_>, rows: &str) -> Result<(), Fail> {
     for row in rows.trim().lines() {
         let (history, expected) = row.split_once("=> ").ok_or("no answer")?;
         let line = match line_once(alloc, judging, history) {

@@ -7,7 +7,7 @@ use jh_txn::ConsistencyModel;
 use std::test::Fail;
 
 /// By this model.
-fn under(model: ConsistencyModel) -> Judging {
+fn under(model: ConsistencyModel) -> Judging<'static> {
     Judging {
         model: Some(model),
         ..by(Checker::ListAppend)

@@ -6,7 +6,7 @@ use jh_checkers::{Checker, Judging};
 use std::test::Fail;
 
 /// By a checker, where a register holds 0 at first, and its no is explained.
-fn explained(checker: Checker) -> Judging {
+fn explained(checker: Checker) -> Judging<'static> {
     Judging {
         initial: Some(0),
         explain: true,

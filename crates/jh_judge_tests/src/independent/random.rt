@@ -21,11 +21,8 @@ fn is_line<R: Threads + Wait + Sync>(
     seed: u64,
 ) -> Option<bool> {
     let judging = Judging {
-        checker: Checker::of(workload),
         initial: Some(0),
-        budget: seed % 5 * 4,
-        explain: false,
-        model: None,
+        ..Judging::by(Checker::of(workload), seed % 5 * 4)
     };
     let case = random_keys(alloc, workload, judging.budget, seed)?;
     if !is_always_answered(rt, alloc, judging, &case.history, &case.answer) {

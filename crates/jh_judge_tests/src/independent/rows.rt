@@ -19,7 +19,7 @@ use std::thread::Threads;
 fn found<R: Threads + Wait + Sync>(
     rt: &R,
     alloc: Global,
-    judging: Judging,
+    judging: Judging<'_>,
     history: &[Op],
     threads: u32,
 ) -> Result<Vec<KeyFinding>, KeysError> {
@@ -64,7 +64,7 @@ pub(crate) fn may_lack_memory(answer: &Option<String>, expected: &str) -> bool {
 fn is_answered<R: Threads + Wait + Sync>(
     rt: &R,
     alloc: Global,
-    judging: Judging,
+    judging: Judging<'_>,
     history: &[Op],
     threads: u32,
     expected: &str,
@@ -80,7 +80,7 @@ fn is_answered<R: Threads + Wait + Sync>(
 pub(crate) fn is_always_answered<R: Threads + Wait + Sync>(
     rt: &R,
     alloc: Global,
-    judging: Judging,
+    judging: Judging<'_>,
     history: &str,
     expected: &str,
 ) -> bool {
@@ -99,7 +99,7 @@ pub(crate) fn is_always_answered<R: Threads + Wait + Sync>(
 pub(crate) fn ask_all<R: Threads + Wait + Sync>(
     rt: &R,
     alloc: Global,
-    judging: Judging,
+    judging: Judging<'_>,
     rows: &str,
 ) -> Result<(), Fail> {
     for row in rows.trim().lines() {

@@ -1,7 +1,7 @@
 //! What is written: the messages of the errors, and lines into writers that fail.
 
 use crate::narrow::Narrow;
-use jh_check::{CheckError, Duplicates, IdsResult, Verdict};
+use jh_check::{CheckError, IdsResult, Tally, Verdict};
 use jh_checkers::Finding;
 use jh_edn::{EdnError, Value};
 use jh_independent::{KeyFinding, KeysError, verdict_of_all, write_findings};
@@ -19,7 +19,7 @@ fn ids(alloc: Global, verdict: Verdict, attempted: usize, acknowledged: usize) -
         verdict,
         attempted,
         acknowledged,
-        duplicated: Duplicates::of(Vec::new(alloc)),
+        duplicated: Tally::of(Vec::new(alloc)),
     })
 }
 

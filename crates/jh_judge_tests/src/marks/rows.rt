@@ -14,7 +14,7 @@ use std::test::Fail;
 
 /// The marks of what is found in a history, at its calls. None: memory was refused, or nothing is
 /// found.
-fn marks_in(alloc: Global, judging: Judging, history: &str) -> Option<Vec<Mark>> {
+fn marks_in(alloc: Global, judging: Judging<'_>, history: &str) -> Option<Vec<Mark>> {
     let ops = ops_of(alloc, history)?;
     let found = check_history(alloc, &ops, judging).ok()?;
     let calls = calls_of(alloc, &ops).ok()?;
@@ -33,7 +33,7 @@ fn are_spelled(marks: &[Mark], text: &str) -> bool {
 }
 
 /// Asks for the marks of each row. One with others is the failure.
-pub(crate) fn ask_all(alloc: Global, judging: Judging, rows: &str) -> Result<(), Fail> {
+pub(crate) fn ask_all(alloc: Global, judging: Judging<'_>, rows: &str) -> Result<(), Fail> {
     for row in rows.trim().lines() {
         let (history, expected) = row.split_once("=>").ok_or("no marks")?;
         let marks = match marks_in(alloc, judging, history) {

@@ -448,7 +448,7 @@ fn cuts_at_a_window(rt: HostRuntime) -> Result<(), Fail> {
 operation 1, at index 1 to 4</title><text x="228" y="12">stuck</text></svg>
 <svg class="pending" x="480" y="16" width="232" height="48"><rect width="100%" height="100%"/><title>pending: it was not over where the history is stuck
 operation 2, at index 3 to 5</title><text x="228" y="12">pending</text></svg>
-<svg class="lost" id="found-0-2" x="240" y="64" width="232" height="16"><rect width="100%" height="100%"/><title>lost: it was added, and the last read does not show it
+<svg class="lost" id="found-0-2" x="240" y="64" width="232" height="16"><rect width="100%" height="100%"/><title>lost: it was added, and it is missing
 operation 3, at index 6</title><text x="228" y="12">lost</text></svg>
 </g>
 </svg>
@@ -596,13 +596,13 @@ operation 0, at index 0 to 2</title><text x="228" y="12">12</text></svg>
 operation 1, at index 1 to 3</title><text x="228" y="12">stuck</text></svg>
 <svg class="pending" x="240" y="0" width="232" height="48"><rect width="100%" height="100%"/><title>pending: it was not over where the history is stuck
 operation 0, at index 0 to 2</title><text x="228" y="12">pending</text></svg>
-<svg class="lost" id="found-0-1" x="480" y="16" width="232" height="48"><rect width="100%" height="100%"/><title>lost: it was added, and the last read does not show it
+<svg class="lost" id="found-0-1" x="480" y="16" width="232" height="48"><rect width="100%" height="100%"/><title>lost: it was added, and it is missing
 operation 1, at index 1 to 3</title><text x="228" y="12">lost</text></svg>
-<svg class="recovered" id="found-0-0" x="240" y="0" width="232" height="48"><rect width="100%" height="100%"/><title>recovered: the last read shows it, and it was not known to be added
+<svg class="recovered" id="found-0-0" x="240" y="0" width="232" height="48"><rect width="100%" height="100%"/><title>recovered: it is there, and it was not known to be added
 operation 0, at index 0 to 2</title><text x="228" y="12">recovered</text></svg>
-<svg class="unexpected" id="found-0-1" x="480" y="16" width="232" height="48"><rect width="100%" height="100%"/><title>unexpected: this read shows what nobody tried to add
+<svg class="unexpected" id="found-0-1" x="480" y="16" width="232" height="48"><rect width="100%" height="100%"/><title>unexpected: this gives what no add explains
 operation 1, at index 1 to 3</title><text x="228" y="12">unexpected</text></svg>
-<svg class="repeated" id="found-0-0" x="240" y="0" width="232" height="48"><rect width="100%" height="100%"/><title>repeated: this id was given more than once
+<svg class="repeated" id="found-0-0" x="240" y="0" width="232" height="48"><rect width="100%" height="100%"/><title>repeated: this gives what was given more than once
 operation 0, at index 0 to 2</title><text x="228" y="12">repeated</text></svg>
 <svg class="outside" id="found-0-1" x="480" y="16" width="232" height="48"><rect width="100%" height="100%"/><title>outside its bounds: -3 to 170141183460469231731687303715884105727
 operation 1, at index 1 to 3</title><text x="228" y="12">[-3 170141183460469231731687303715884105727]</text></svg>

@@ -68,11 +68,8 @@ pub(crate) struct Part {
 fn register_answer(alloc: Global, budget: u64, history: &str) -> Option<String> {
     let ops = ops_of(alloc, history)?;
     let judging = Judging {
-        checker: Checker::Register,
         initial: Some(0),
-        budget,
-        explain: false,
-        model: None,
+        ..Judging::by(Checker::Register, budget)
     };
     match check_history(alloc, &ops, judging) {
         Ok(found) => {
