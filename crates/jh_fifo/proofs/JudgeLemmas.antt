@@ -8,17 +8,17 @@ use Rattle.jh_fifo.specs.declared.tables.Side.TheVariants.{In, Out}
 use Rattle.jh_fifo.specs.declared.verdict.FifoReason.{FifoReason}
 use Rattle.jh_fifo.specs.declared.verdict.FifoReason.TheVariants.{EndsTooSoon, Nowhere, Twice, TooSoon, Crossed, NeverEmpty}
 use Rattle.jh_fifo.specs.declared.verdict.FifoVerdict.TheVariants.{Invalid}
-use Rattle.jh_fifo.specs.Order.{op_at}
+use Rattle.jh_fifo.specs.Order.{fifo_op_at}
 use Rattle.jh_fifo.specs.Reasons as reasons
 use Rattle.jh_fifo.specs.Reasons.{call_at, Enqueues, Dequeues, TakenOnce}
 use Rattle.jh_fifo.specs.Tables.{IsTable}
-use Rattle.jh_fifo.specs.Judged.{IsUnsure, AreFit, IsReason, HasNoOrder, IsVerdict, IsTimelyAt, AreSound}
+use Rattle.jh_fifo.specs.Judged.{IsUnsure, AreJudgedOps, IsFifoReason, HasNoOrder, IsFifoVerdict, IsTimelyAt, AreSoundOps}
 use Rattle.jh_fifo.proofs.RunLemmas.{not_both_calls, not_enqueue}
 use Rattle.jh_fifo.proofs.LawLemmas.{too_soon, nowhere, of_one, early, crossed, never_empty, ends_done}
 use Rattle.jh_fifo.proofs.LayoutLemmas.{some_same, enqueue_inside, dequeue_inside, done_inside}
 
 module _ (ops : List FifoOp) where
-  pub no_order : AreFit ops → (reason : FifoReason) → IsReason ops reason → HasNoOrder ops
+  pub no_order : AreJudgedOps ops → (reason : FifoReason) → IsFifoReason ops reason → HasNoOrder ops
   no_order fit (EndsTooSoon p) h = λ order orders. too_soon ops order orders p h
   no_order fit (Nowhere p) h = λ order orders. nowhere ops order orders fit.dequeues p h
   no_order fit (Twice p q) h = λ order orders. of_one ops order orders fit.once fit.dequeues p q h
@@ -26,7 +26,7 @@ module _ (ops : List FifoOp) where
   no_order fit (Crossed p q) h = λ order orders. crossed ops order orders fit.once fit.dequeues h.0 h.1 h.4
   no_order fit (NeverEmpty p) h = λ order orders. never_empty ops order orders fit.once fit.dequeues p h
 
-  pub invalid : AreFit ops → (reason : FifoReason) → IsReason ops reason → IsVerdict ops (Invalid reason)
+  pub invalid : AreJudgedOps ops → (reason : FifoReason) → IsFifoReason ops reason → IsFifoVerdict ops (Invalid reason)
   invalid fit reason h = (fit, h, no_order fit reason h)
 
   -- what is told by its value
@@ -39,17 +39,17 @@ module _ (ops : List FifoOp) where
   pub once_taken : (table : BTreeMap ℕ ℕ Global) → IsTable ops Out (length ops) table → TakenOnce ops
   once_taken table is v p q a b = some_same p q (sym (told_out table is v p a) ∙ told_out table is v q b)
 
-  pub are_fit : (table : BTreeMap ℕ ℕ Global) → IsTable ops In (length ops) table → ((p : ℕ) → p < length ops → IsUnsure ops p → ⊥) → AreFit ops
+  pub are_fit : (table : BTreeMap ℕ ℕ Global) → IsTable ops In (length ops) table → ((p : ℕ) → p < length ops → IsUnsure ops p → ⊥) → AreJudgedOps ops
   are_fit table is none = record {
     once = λ v p q a b. some_same p q (sym (told_in table is v p a) ∙ told_in table is v q b);
     dequeues = λ v p takes unknown. none p (dequeue_inside ops v p takes) (record { unknown = unknown; other = λ w puts. not_both_calls w v (sym puts ∙ takes) });
     empties = λ p low empty unknown. none p low (record { unknown = unknown; other = λ w puts. not_enqueue w (sym puts ∙ empty) });
   }
 
-  pub are_sound : AreFit ops → ((p : ℕ) → p < length ops → reasons.EndsTooSoon ops p → ⊥) → ((p : ℕ) → p < length ops → IsTimelyAt ops p) → (table : BTreeMap ℕ ℕ Global) → IsTable ops Out (length ops) table → AreSound ops
+  pub are_sound : AreJudgedOps ops → ((p : ℕ) → p < length ops → reasons.EndsTooSoon ops p → ⊥) → ((p : ℕ) → p < length ops → IsTimelyAt ops p) → (table : BTreeMap ℕ ℕ Global) → IsTable ops Out (length ops) table → AreSoundOps ops
   are_sound fit forward timely table is = record {
     fit = fit;
-    forward = λ p h. forward p (done_inside ops p (ends_done (op_at ops p).ended _ h)) h;
+    forward = λ p h. forward p (done_inside ops p (ends_done (fifo_op_at ops p).ended _ h)) h;
     taken_once = once_taken table is;
     timely = λ p v takes. timely p (dequeue_inside ops v p takes) v takes;
   }

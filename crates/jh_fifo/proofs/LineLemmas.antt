@@ -3,9 +3,9 @@ use Rattle.std.proofs.Common.{◌≡◌, ℕ, zero, suc, ◌+◌, ◌<◌, ◌�
 use Rattle.std.specs.Prelude.{◌⊎◌}
 use Rattle.std.proofs.lemmas.Bool.{cases_lt, cases_Bool}
 use Rattle.jh_fifo.specs.declared.spans.Span.{Span}
-use Rattle.jh_fifo.specs.Sorted.{entry_at, AreSorted}
-use Rattle.jh_fifo.specs.Spans.{no_span, span_at, AreFair, AreApart}
-use Rattle.jh_fifo.specs.Lines.{moved, IsMoved, IsLined, is_taken, IsLine, ArePassed, IsTaking}
+use Rattle.jh_fifo.specs.Sorted.{key_entry_at, AreSortedKeys}
+use Rattle.jh_fifo.specs.Spans.{no_span, span_at, AreFair, AreSpansApart}
+use Rattle.jh_fifo.specs.Lines.{moved_span, IsMovedSpan, IsLined, is_put, IsPartlyLined, ArePassed, IsTaking}
 use Rattle.jh_fifo.proofs.ListLemmas.{not_both}
 use Rattle.jh_fifo.proofs.SortedLemmas.{key_at, length_map}
 
@@ -48,38 +48,38 @@ length_none : (n : ℕ) → length (replicate n false) ≡ n
 length_none zero = refl
 length_none (suc n) = ap (λ k. suc k) (length_none n)
 
-set_here : (xs : List Bool) (i : ℕ) → i < length xs → is_taken (set xs i true) i ≡ true
+set_here : (xs : List Bool) (i : ℕ) → i < length xs → is_put (set xs i true) i ≡ true
 set_here [] i low = absurd (omega (arith, low))
 set_here (x ∷ xs) zero low = refl
 set_here (x ∷ xs) (suc i) low = set_here xs i (omega (arith, low))
 
-set_there : (xs : List Bool) (i k : ℕ) → is_taken xs k ≡ true → is_taken (set xs i true) k ≡ true
+set_there : (xs : List Bool) (i k : ℕ) → is_put xs k ≡ true → is_put (set xs i true) k ≡ true
 set_there [] i k h = h
 set_there (x ∷ xs) zero zero h = refl
 set_there (x ∷ xs) zero (suc k) h = h
 set_there (x ∷ xs) (suc i) zero h = h
 set_there (x ∷ xs) (suc i) (suc k) h = set_there xs i k h
 
-set_cases : (xs : List Bool) (i k : ℕ) → is_taken (set xs i true) k ≡ true → (i ≡ k) ⊎ (is_taken xs k ≡ true)
+set_cases : (xs : List Bool) (i k : ℕ) → is_put (set xs i true) k ≡ true → (i ≡ k) ⊎ (is_put xs k ≡ true)
 set_cases [] i k h = inr h
 set_cases (x ∷ xs) zero zero h = inl refl
 set_cases (x ∷ xs) zero (suc k) h = inr h
 set_cases (x ∷ xs) (suc i) zero h = inr h
-set_cases (x ∷ xs) (suc i) (suc k) h = elim (set_cases xs i k h) as (λ _. (suc i ≡ suc k) ⊎ (is_taken xs k ≡ true)) [ inl e ↦ inl (ap (λ n. suc n) e) | inr old ↦ inr old ]
+set_cases (x ∷ xs) (suc i) (suc k) h = elim (set_cases xs i k h) as (λ _. (suc i ≡ suc k) ⊎ (is_put xs k ≡ true)) [ inl e ↦ inl (ap (λ n. suc n) e) | inr old ↦ inr old ]
 
-unset : (xs : List Bool) (i k : ℕ) → is_taken (set xs i true) k ≡ false → is_taken xs k ≡ false
-unset xs i k h = elim (cases_Bool (is_taken xs k)) as (λ _. is_taken xs k ≡ false) [ inl was_set ↦ absurd (not_both _ (set_there xs i k was_set) h) | inr free ↦ free ]
+unset : (xs : List Bool) (i k : ℕ) → is_put (set xs i true) k ≡ false → is_put xs k ≡ false
+unset xs i k h = elim (cases_Bool (is_put xs k)) as (λ _. is_put xs k ≡ false) [ inl was_set ↦ absurd (not_both _ (set_there xs i k was_set) h) | inr free ↦ free ]
 
-none_taken : (n k : ℕ) → is_taken (replicate n false) k ≡ false
+none_taken : (n k : ℕ) → is_put (replicate n false) k ≡ false
 none_taken zero k = refl
 none_taken (suc n) zero = refl
 none_taken (suc n) (suc k) = none_taken n k
 
-module _ (spans : List Span) (fair : AreFair spans) (apart : AreApart spans) where
+module _ (spans : List Span) (fair : AreFair spans) (apart : AreSpansApart spans) where
   abbrev span : ℕ → Span
   span m = span_at spans m
 
-  pub line_none : IsLine spans (replicate (length spans) false) [] 0 0
+  pub line_none : IsPartlyLined spans (replicate (length spans) false) [] 0 0
   line_none = record {
     same = length_none (length spans);
     low = λ m low free. (omega arith, omega arith);
@@ -93,17 +93,17 @@ module _ (spans : List Span) (fair : AreFair spans) (apart : AreApart spans) whe
     soon = omega arith;
   }
 
-  module _ (taken : List Bool) (turn : List Span) (from leaving : ℕ) (line : IsLine spans taken turn from leaving) where
+  module _ (taken : List Bool) (turn : List Span) (from leaving : ℕ) (line : IsPartlyLined spans taken turn from leaving) where
     -- one more span, before which nothing else has to come
-    module _ (c : ℕ) (inside : c < length spans) (new : is_taken taken c ≡ false)
-        (first : (m : ℕ) → m < length spans → is_taken taken m ≡ false → ((span c).from ≤ (span m).entered) × ((span c).leaving ≤ (span m).left)) (f l : ℕ) (f_is : f ≡ max from (span c).from) (l_is : l ≡ max leaving (span c).leaving) where
+    module _ (c : ℕ) (inside : c < length spans) (new : is_put taken c ≡ false)
+        (first : (m : ℕ) → m < length spans → is_put taken m ≡ false → ((span c).from ≤ (span m).entered) × ((span c).leaving ≤ (span m).left)) (f l : ℕ) (f_is : f ≡ max from (span c).from) (l_is : l ≡ max leaving (span c).leaving) where
       abbrev one : Span
-      one = moved (span c) f l
+      one = moved_span (span c) f l
 
       abbrev more : List Span
       more = turn ++ one ∷ []
 
-      one_moved : IsMoved (span c) one
+      one_moved : IsMovedSpan (span c) one
       one_moved =
           let a = line.low c inside new in
           let b = first c inside new in
@@ -122,8 +122,8 @@ module _ (spans : List Span) (fair : AreFair spans) (apart : AreApart spans) whe
             soon = omega (arith, f_is, g, h);
           }
 
-      old_moved : (m i : ℕ) → i < length turn → IsMoved (span m) (span_at turn i) → IsMoved (span m) (span_at more i)
-      old_moved m i low is = subst (λ s. IsMoved (span m) s) (sym (span_front turn one i low)) is
+      old_moved : (m i : ℕ) → i < length turn → IsMovedSpan (span m) (span_at turn i) → IsMovedSpan (span m) (span_at more i)
+      old_moved m i low is = subst (λ s. IsMovedSpan (span m) s) (sym (span_front turn one i low)) is
 
       in_turn_by : (g : Span → ℕ) → ((i j : ℕ) → i ≤ j → j < length turn → g (span_at turn i) ≤ g (span_at turn j)) → ((i : ℕ) → i < length turn → g (span_at turn i) ≤ g one) → (i j : ℕ) → i ≤ j → j < length more → g (span_at more i) ≤ g (span_at more j)
       in_turn_by g rise last i j le low = elim (index_cases turn one j low) as (λ _. g (span_at more i) ≤ g (span_at more j)) [
@@ -150,9 +150,9 @@ module _ (spans : List Span) (fair : AreFair spans) (apart : AreApart spans) whe
       new_apart i low is =
           let r = line.each i low in
           let same : r.0 ≡ c = apart r.0 c r.1 inside (sym r.3.place ∙ is) in
-          not_both _ (subst (λ m. is_taken taken m ≡ true) same r.2) new
+          not_both _ (subst (λ m. is_put taken m ≡ true) same r.2) new
 
-      pub line_push : IsLine spans (set taken c true) more f l
+      pub line_push : IsPartlyLined spans (set taken c true) more f l
       line_push = record {
         same = length_set taken c true ∙ line.same;
         low = λ m low free.
@@ -160,12 +160,12 @@ module _ (spans : List Span) (fair : AreFair spans) (apart : AreApart spans) whe
             let a = line.low m low was in
             let b = first m low was in
             (omega (arith, f_is, a.0, b.0), omega (arith, l_is, a.1, b.1));
-        each = λ i low. elim (index_cases turn one i low) as (λ _. (m : ℕ) × (m < length spans) × (is_taken (set taken c true) m ≡ true) × IsMoved (span m) (span_at more i)) [
+        each = λ i low. elim (index_cases turn one i low) as (λ _. (m : ℕ) × (m < length spans) × (is_put (set taken c true) m ≡ true) × IsMovedSpan (span m) (span_at more i)) [
           | inl old ↦ (let r = line.each i old.0 in (r.0, r.1, set_there taken c r.0 r.2, old_moved r.0 i old.0 r.3))
-          | inr end ↦ (c, inside, set_here taken c (omega (arith, inside, line.same)), subst (λ s. IsMoved (span c) s) (sym end.1) one_moved)
+          | inr end ↦ (c, inside, set_here taken c (omega (arith, inside, line.same)), subst (λ s. IsMovedSpan (span c) s) (sym end.1) one_moved)
         ];
-        whole = λ m low was_set. elim (set_cases taken c m was_set) as (λ _. (i : ℕ) × (i < length more) × IsMoved (span m) (span_at more i)) [
-          | inl e ↦ (length turn, index_last turn one, subst (λ s. IsMoved (span m) s) (sym (span_last turn one)) (subst (λ k. IsMoved (span k) one) e one_moved))
+        whole = λ m low was_set. elim (set_cases taken c m was_set) as (λ _. (i : ℕ) × (i < length more) × IsMovedSpan (span m) (span_at more i)) [
+          | inl e ↦ (length turn, index_last turn one, subst (λ s. IsMovedSpan (span m) s) (sym (span_last turn one)) (subst (λ k. IsMovedSpan (span k) one) e one_moved))
           | inr old ↦ (let r = line.whole m low old in (r.0, index_front turn one r.0 r.1, old_moved m r.0 r.1 r.2))
         ];
         come_in_turn = in_turn_by (λ s. s.from) line.come_in_turn (λ i low. let a = (line.last i low).0 in omega (arith, a, f_is));
@@ -189,7 +189,7 @@ module _ (spans : List Span) (fair : AreFair spans) (apart : AreApart spans) whe
       }
 
     -- nothing is left
-    pub line_all : ((m : ℕ) → m < length spans → is_taken taken m ≡ true) → IsLined spans turn
+    pub line_all : ((m : ℕ) → m < length spans → is_put taken m ≡ true) → IsLined spans turn
     line_all all = record {
       each = λ i low. let r = line.each i low in (r.0, r.1, r.3);
       whole = λ m low. line.whole m low (all m low);
@@ -202,39 +202,39 @@ module _ (spans : List Span) (fair : AreFair spans) (apart : AreApart spans) whe
 pub passed_none : (taken : List Bool) (entries : List (ℕ × ℕ)) → ArePassed taken entries 0
 passed_none taken entries = λ k low in_it. absurd (omega (arith, low))
 
-pub passed_more : (taken : List Bool) (entries : List (ℕ × ℕ)) (n : ℕ) → is_taken taken (entry_at entries n).1 ≡ true → ArePassed taken entries n → ArePassed taken entries (n + 1)
-passed_more taken entries n was_set passed = λ k low in_it. elim (cases_lt k n) as (λ _. is_taken taken (entry_at entries k).1 ≡ true) [
+pub passed_more : (taken : List Bool) (entries : List (ℕ × ℕ)) (n : ℕ) → is_put taken (key_entry_at entries n).1 ≡ true → ArePassed taken entries n → ArePassed taken entries (n + 1)
+passed_more taken entries n was_set passed = λ k low in_it. elim (cases_lt k n) as (λ _. is_put taken (key_entry_at entries k).1 ≡ true) [
   | inl lt ↦ passed k lt in_it
-  | inr ge ↦ (let same : n ≡ k = omega (arith, low, ge) in subst (λ i. is_taken taken (entry_at entries i).1 ≡ true) same was_set)
+  | inr ge ↦ (let same : n ≡ k = omega (arith, low, ge) in subst (λ i. is_put taken (key_entry_at entries i).1 ≡ true) same was_set)
 ]
 
 pub passed_set : (taken : List Bool) (entries : List (ℕ × ℕ)) (n c : ℕ) → ArePassed taken entries n → ArePassed (set taken c true) entries n
-passed_set taken entries n c passed = λ k low in_it. set_there taken c (entry_at entries k).1 (passed k low in_it)
+passed_set taken entries n c passed = λ k low in_it. set_there taken c (key_entry_at entries k).1 (passed k low in_it)
 
-pub passed_taken : (taken : List Bool) (entries : List (ℕ × ℕ)) (n c : ℕ) → c < length taken → (entry_at entries n).1 ≡ c → ArePassed taken entries n → ArePassed (set taken c true) entries (n + 1)
-passed_taken taken entries n c inside is passed = passed_more (set taken c true) entries n (subst (λ i. is_taken (set taken c true) i ≡ true) (sym is) (set_here taken c inside)) (passed_set taken entries n c passed)
+pub passed_taken : (taken : List Bool) (entries : List (ℕ × ℕ)) (n c : ℕ) → c < length taken → (key_entry_at entries n).1 ≡ c → ArePassed taken entries n → ArePassed (set taken c true) entries (n + 1)
+passed_taken taken entries n c inside is passed = passed_more (set taken c true) entries n (subst (λ i. is_put (set taken c true) i ≡ true) (sym is) (set_here taken c inside)) (passed_set taken entries n c passed)
 
-module _ (g : Span → ℕ) (spans : List Span) (entries : List (ℕ × ℕ)) (sorted : AreSorted (map g spans) entries) (taken : List Bool) (n : ℕ) (passed : ArePassed taken entries n) where
-  pub entry_inside : (k : ℕ) → k < length entries → (entry_at entries k).1 < length spans
+module _ (g : Span → ℕ) (spans : List Span) (entries : List (ℕ × ℕ)) (sorted : AreSortedKeys (map g spans) entries) (taken : List Bool) (n : ℕ) (passed : ArePassed taken entries n) where
+  pub entry_inside : (k : ℕ) → k < length entries → (key_entry_at entries k).1 < length spans
   entry_inside k low = let a = (sorted.each k low).0 in let b = length_map g spans in omega (arith, a, b)
 
   -- what is not taken has free lesser key
-  pub least : n < length entries → (m : ℕ) → m < length spans → is_taken taken m ≡ false → g (span_at spans (entry_at entries n).1) ≤ g (span_at spans m)
+  pub least : n < length entries → (m : ℕ) → m < length spans → is_put taken m ≡ false → g (span_at spans (key_entry_at entries n).1) ≤ g (span_at spans m)
   least low m inside free =
       let r = sorted.whole m (let b = length_map g spans in omega (arith, inside, b)) in
-      let a = (sorted.each n low).1 ∙ key_at g no_span spans (entry_at entries n).1 (entry_inside n low) in
-      let b : (entry_at entries r.0).0 ≡ g (span_at spans m) = (sorted.each r.0 r.1).1 ∙ ap (λ i. get_or (map g spans) i 0) r.2 ∙ key_at g no_span spans m inside in
-      elim (cases_lt r.0 n) as (λ _. g (span_at spans (entry_at entries n).1) ≤ g (span_at spans m)) [
-        | inl lt ↦ absurd (not_both _ (subst (λ i. is_taken taken i ≡ true) r.2 (passed r.0 lt r.1)) free)
+      let a = (sorted.each n low).1 ∙ key_at g no_span spans (key_entry_at entries n).1 (entry_inside n low) in
+      let b : (key_entry_at entries r.0).0 ≡ g (span_at spans m) = (sorted.each r.0 r.1).1 ∙ ap (λ i. get_or (map g spans) i 0) r.2 ∙ key_at g no_span spans m inside in
+      elim (cases_lt r.0 n) as (λ _. g (span_at spans (key_entry_at entries n).1) ≤ g (span_at spans m)) [
+        | inl lt ↦ absurd (not_both _ (subst (λ i. is_put taken i ≡ true) r.2 (passed r.0 lt r.1)) free)
         | inr ge ↦ (let h = sorted.rise n r.0 ge r.1 in omega (arith, h, a, b))
       ]
 
-  pub all_passed : length entries ≤ n → (m : ℕ) → m < length spans → is_taken taken m ≡ true
+  pub all_passed : length entries ≤ n → (m : ℕ) → m < length spans → is_put taken m ≡ true
   all_passed end m inside =
       let r = sorted.whole m (let b = length_map g spans in omega (arith, inside, b)) in
-      subst (λ i. is_taken taken i ≡ true) r.2 (passed r.0 (omega (arith, end, r.1)) r.1)
+      subst (λ i. is_put taken i ≡ true) r.2 (passed r.0 (omega (arith, end, r.1)) r.1)
 
-module _ (spans : List Span) (fair : AreFair spans) (apart : AreApart spans) (entered left : List (ℕ × ℕ)) (by_entered : AreSorted (map (λ s. s.entered) spans) entered) (by_left : AreSorted (map (λ s. s.left) spans) left) where
+module _ (spans : List Span) (fair : AreFair spans) (apart : AreSpansApart spans) (entered left : List (ℕ × ℕ)) (by_entered : AreSortedKeys (map (λ s. s.entered) spans) entered) (by_left : AreSortedKeys (map (λ s. s.left) spans) left) where
   pub taking_none : IsTaking spans entered left (replicate (length spans) false) [] 0 0 0 0
   taking_none = record {
     line = line_none spans fair apart;
@@ -242,24 +242,24 @@ module _ (spans : List Span) (fair : AreFair spans) (apart : AreApart spans) (en
     seconds = passed_none (replicate (length spans) false) left;
   }
 
-  pub inside_entered : (k : ℕ) → k < length entered → (entry_at entered k).1 < length spans
+  pub inside_entered : (k : ℕ) → k < length entered → (key_entry_at entered k).1 < length spans
   inside_entered k low = let a = (by_entered.each k low).0 in let b = length_map (λ (s : Span). s.entered) spans in omega (arith, a, b)
 
-  pub inside_left : (k : ℕ) → k < length left → (entry_at left k).1 < length spans
+  pub inside_left : (k : ℕ) → k < length left → (key_entry_at left k).1 < length spans
   inside_left k low = let a = (by_left.each k low).0 in let b = length_map (λ (s : Span). s.left) spans in omega (arith, a, b)
 
   module _ (taken : List Bool) (turn : List Span) (from leaving early late : ℕ) (so : IsTaking spans entered left taken turn from leaving early late) where
     pub taking_all : (length entered ≤ early) ⊎ (length left ≤ late) → IsLined spans turn
-    taking_all end = line_all spans fair apart taken turn from leaving so.line (λ m inside. elim end as (λ _. is_taken taken m ≡ true) [
+    taking_all end = line_all spans fair apart taken turn from leaving so.line (λ m inside. elim end as (λ _. is_put taken m ≡ true) [
       | inl a ↦ all_passed (λ s. s.entered) spans entered by_entered taken early so.firsts a m inside
       | inr b ↦ all_passed (λ s. s.left) spans left by_left taken late so.seconds b m inside
     ])
 
-    module _ (first second : ℕ) (low : early < length entered) (low_left : late < length left) (first_is : first ≡ (entry_at entered early).1) (second_is : second ≡ (entry_at left late).1) (f l : ℕ) where
-      least_entered : (m : ℕ) → m < length spans → is_taken taken m ≡ false → (span_at spans first).entered ≤ (span_at spans m).entered
+    module _ (first second : ℕ) (low : early < length entered) (low_left : late < length left) (first_is : first ≡ (key_entry_at entered early).1) (second_is : second ≡ (key_entry_at left late).1) (f l : ℕ) where
+      least_entered : (m : ℕ) → m < length spans → is_put taken m ≡ false → (span_at spans first).entered ≤ (span_at spans m).entered
       least_entered m inside free = subst (λ k. (span_at spans k).entered ≤ (span_at spans m).entered) (sym first_is) (least (λ s. s.entered) spans entered by_entered taken early so.firsts low m inside free)
 
-      least_left : (m : ℕ) → m < length spans → is_taken taken m ≡ false → (span_at spans second).left ≤ (span_at spans m).left
+      least_left : (m : ℕ) → m < length spans → is_put taken m ≡ false → (span_at spans second).left ≤ (span_at spans m).left
       least_left m inside free = subst (λ k. (span_at spans k).left ≤ (span_at spans m).left) (sym second_is) (least (λ s. s.left) spans left by_left taken late so.seconds low_left m inside free)
 
       first_inside : first < length spans
@@ -268,8 +268,8 @@ module _ (spans : List Span) (fair : AreFair spans) (apart : AreApart spans) (en
       second_inside : second < length spans
       second_inside = subst (λ k. k < length spans) (sym second_is) (inside_left late low_left)
 
-      pub take_first : is_taken taken first ≡ false → (span_at spans first).leaving ≤ (span_at spans second).left → f ≡ max from (span_at spans first).from → l ≡ max leaving (span_at spans first).leaving
-          → IsTaking spans entered left (set taken first true) (turn ++ moved (span_at spans first) f l ∷ []) f l (early + 1) late
+      pub take_first : is_put taken first ≡ false → (span_at spans first).leaving ≤ (span_at spans second).left → f ≡ max from (span_at spans first).from → l ≡ max leaving (span_at spans first).leaving
+          → IsTaking spans entered left (set taken first true) (turn ++ moved_span (span_at spans first) f l ∷ []) f l (early + 1) late
       take_first new due f_is l_is = record {
         line = line_push spans fair apart taken turn from leaving so.line first first_inside new (λ m inside free.
             let a = least_entered m inside free in
@@ -280,8 +280,8 @@ module _ (spans : List Span) (fair : AreFair spans) (apart : AreApart spans) (en
         seconds = passed_set taken left late first so.seconds;
       }
 
-      pub take_second : is_taken taken second ≡ false → (span_at spans second).from ≤ (span_at spans first).entered → f ≡ max from (span_at spans second).from → l ≡ max leaving (span_at spans second).leaving
-          → IsTaking spans entered left (set taken second true) (turn ++ moved (span_at spans second) f l ∷ []) f l early (late + 1)
+      pub take_second : is_put taken second ≡ false → (span_at spans second).from ≤ (span_at spans first).entered → f ≡ max from (span_at spans second).from → l ≡ max leaving (span_at spans second).leaving
+          → IsTaking spans entered left (set taken second true) (turn ++ moved_span (span_at spans second) f l ∷ []) f l early (late + 1)
       take_second new due f_is l_is = record {
         line = line_push spans fair apart taken turn from leaving so.line second second_inside new (λ m inside free.
             let a = least_entered m inside free in

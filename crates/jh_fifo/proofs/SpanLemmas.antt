@@ -3,12 +3,12 @@ use Rattle.std.proofs.Common.{◌≡◌, ℕ, ◌<◌, ◌≤◌, Option, Some, 
 use Rattle.std.specs.Prelude.{◌⊎◌, MatchOption}
 use Rattle.jh_fifo.specs.declared.operations.FifoOp.{FifoOp}
 use Rattle.jh_fifo.specs.declared.spans.Span.{Span}
-use Rattle.jh_fifo.specs.Order.{op_at, IsDone, EndsBefore}
+use Rattle.jh_fifo.specs.Order.{fifo_op_at, IsKnownDone, IsOverBefore}
 use Rattle.jh_fifo.specs.Reasons.{call_at, Enqueues, Dequeues, WasThere, GoesBefore, AreCrossedAt}
 use Rattle.jh_fifo.specs.Times.{never, LastsTo}
 use Rattle.jh_fifo.specs.Spans.{span_at, IsValueSpan, IsEmptySpan, AreSpans}
-use Rattle.jh_fifo.specs.Lines.{IsMoved, IsLined, AreCrossedSpans}
-use Rattle.jh_fifo.specs.Layout.{IsPlaced, IsTurn}
+use Rattle.jh_fifo.specs.Lines.{IsMovedSpan, IsLined, AreCrossedSpans}
+use Rattle.jh_fifo.specs.Layout.{IsPlaced, CanGoThrough}
 use Rattle.jh_fifo.proofs.LayoutLemmas.{under}
 
 match_map : (o : Option ℕ) (P P' : Type 0) (Q Q' : ℕ → Type 0) → (P → P') → ((d : ℕ) → Q d → Q' d) → MatchOption o P Q → MatchOption o P' Q'
@@ -20,17 +20,17 @@ pub match_cases : (o : Option ℕ) (P : Type 0) (Q : ℕ → Type 0) → MatchOp
 match_cases None P Q h = inl (refl, h)
 match_cases (Some d) P Q h = inr (d, refl, h)
 
-pub ends_at : (ended : Option ℕ) (end at : ℕ) → ended ≡ Some end → end < at → EndsBefore ended at
-ends_at ended end at is low = subst (λ e. EndsBefore e at) (sym is) low
+pub ends_at : (ended : Option ℕ) (end at : ℕ) → ended ≡ Some end → end < at → IsOverBefore ended at
+ends_at ended end at is low = subst (λ e. IsOverBefore e at) (sym is) low
 
 lasts_if : (ended : Option ℕ) (end at : ℕ) → ended ≡ Some end → at ≤ end → LastsTo ended at
-lasts_if ended end at is le = λ h. over (subst (λ e. EndsBefore e at) is h) where
+lasts_if ended end at is le = λ h. over (subst (λ e. IsOverBefore e at) is h) where
   over : end < at → ⊥
   over lt = omega (arith, lt, le)
 
 module _ (ops : List FifoOp) where
   abbrev Goes : ℕ → Span → Type 0
-  Goes value span = (d : ℕ) × (span.dequeue ≡ Some d) × Dequeues ops value d × ((op_at ops d).ended ≡ Some span.left) × (span.left < never) × ((op_at ops d).invoked ≤ span.leaving) × ((span.leaving ≡ (op_at ops d).invoked) ⊎ (span.leaving ≡ span.from))
+  Goes value span = (d : ℕ) × (span.dequeue ≡ Some d) × Dequeues ops value d × ((fifo_op_at ops d).ended ≡ Some span.left) × (span.left < never) × ((fifo_op_at ops d).invoked ≤ span.leaving) × ((span.leaving ≡ (fifo_op_at ops d).invoked) ⊎ (span.leaving ≡ span.from))
 
   abbrev Stays : ℕ → Span → Type 0
   Stays value span = (span.dequeue ≡ None) × ((d : ℕ) → Dequeues ops value d → ⊥) × (span.leaving ≡ never) × (span.left ≡ never)
@@ -47,46 +47,46 @@ module _ (ops : List FifoOp) where
     | inr b ↦ (let h = b.4 in omega (arith, h))
   ]
 
-  value_placed : (old new : Span) → IsValueSpan ops old → IsMoved old new → IsPlaced ops new
+  value_placed : (old new : Span) → IsValueSpan ops old → IsMovedSpan old new → IsPlaced ops new
   value_placed old new value moves = record {
     kind = inl (record {
       value = value.value;
       enqueues = subst (λ p. Enqueues ops value.value p) (sym moves.place) value.enqueues;
-      goes = subst (λ o. MatchOption o (never ≤ new.leaving) (λ d. Dequeues ops value.value d × (new.leaving < never) × ((op_at ops d).invoked ≤ new.leaving) × LastsTo (op_at ops d).ended new.leaving)) (sym moves.dequeue)
-          (match_map old.dequeue _ (never ≤ new.leaving) _ (λ d. Dequeues ops value.value d × (new.leaving < never) × ((op_at ops d).invoked ≤ new.leaving) × LastsTo (op_at ops d).ended new.leaving)
+      goes = subst (λ o. MatchOption o (never ≤ new.leaving) (λ d. Dequeues ops value.value d × (new.leaving < never) × ((fifo_op_at ops d).invoked ≤ new.leaving) × LastsTo (fifo_op_at ops d).ended new.leaving)) (sym moves.dequeue)
+          (match_map old.dequeue _ (never ≤ new.leaving) _ (λ d. Dequeues ops value.value d × (new.leaving < never) × ((fifo_op_at ops d).invoked ≤ new.leaving) × LastsTo (fifo_op_at ops d).ended new.leaving)
           (λ h. let a = h.1 in let b = moves.leaving in omega (arith, a, b))
           (λ d h. (
             h.0,
             (let a = h.2 in let b = moves.left in omega (arith, a, b)),
             (let a = h.3 in let b = moves.leaving in omega (arith, a, b)),
-            lasts_if (op_at ops d).ended old.left new.leaving h.1 moves.left,
+            lasts_if (fifo_op_at ops d).ended old.left new.leaving h.1 moves.left,
           )) value.goes);
     });
-    begins = subst (λ p. (op_at ops p).invoked ≤ new.from) (sym moves.place) (let a = value.begins in let b = moves.from in omega (arith, a, b));
-    lasts = subst (λ p. LastsTo (op_at ops p).ended new.from) (sym moves.place) (under (op_at ops old.place).ended old.entered new.from value.lasts moves.entered);
+    begins = subst (λ p. (fifo_op_at ops p).invoked ≤ new.from) (sym moves.place) (let a = value.begins in let b = moves.from in omega (arith, a, b));
+    lasts = subst (λ p. LastsTo (fifo_op_at ops p).ended new.from) (sym moves.place) (under (fifo_op_at ops old.place).ended old.entered new.from value.lasts moves.entered);
     turn = moves.passes;
     soon = moves.soon;
   }
 
-  empty_placed : (old new : Span) → IsEmptySpan ops old → IsMoved old new → IsPlaced ops new
+  empty_placed : (old new : Span) → IsEmptySpan ops old → IsMovedSpan old new → IsPlaced ops new
   empty_placed old new empty moves =
       let from_is : new.from ≡ old.from = (let a = moves.from in let b = moves.entered in let d = empty.entered in omega (arith, a, b, d)) in
       let leaving_is : new.leaving ≡ old.from = (let a = moves.leaving in let b = moves.left in let d = empty.left in let e = empty.leaving in omega (arith, a, b, d, e)) in
       record {
         kind = inr (record {
           empty = ap (λ p. call_at ops p) moves.place ∙ empty.empty;
-          done = subst (λ p. IsDone ops p) (sym moves.place) empty.done;
+          done = subst (λ p. IsKnownDone ops p) (sym moves.place) empty.done;
           none = moves.dequeue ∙ empty.none;
           at_once = leaving_is ∙ sym from_is;
         });
-        begins = subst (λ p. (op_at ops p).invoked ≤ new.from) (sym moves.place) (let a = empty.begins in omega (arith, a, from_is));
-        lasts = subst (λ p. LastsTo (op_at ops p).ended new.from) (sym moves.place) (subst (λ n. LastsTo (op_at ops old.place).ended n) (sym from_is) empty.lasts);
+        begins = subst (λ p. (fifo_op_at ops p).invoked ≤ new.from) (sym moves.place) (let a = empty.begins in omega (arith, a, from_is));
+        lasts = subst (λ p. LastsTo (fifo_op_at ops p).ended new.from) (sym moves.place) (subst (λ n. LastsTo (fifo_op_at ops old.place).ended n) (sym from_is) empty.lasts);
         turn = moves.passes;
         soon = moves.soon;
       }
 
   module _ (spans : List Span) (are : AreSpans ops spans) where
-    pub turn_of : (turn : List Span) → IsLined spans turn → IsTurn ops turn
+    pub turn_of : (turn : List Span) → IsLined spans turn → CanGoThrough ops turn
     turn_of turn lined = record {
       each = λ i low. let r = lined.each i low in elim (are.each r.0 r.1) as (λ _. IsPlaced ops (span_at turn i)) [
         | inl value ↦ value_placed (span_at spans r.0) (span_at turn i) value r.2
@@ -119,9 +119,9 @@ module _ (ops : List FifoOp) where
       there span value = (
         span.place,
         value.enqueues,
-        elim value.was as (λ _. IsDone ops span.place ⊎ ((d : ℕ) × Dequeues ops value.value d)) [
+        elim value.was as (λ _. IsKnownDone ops span.place ⊎ ((d : ℕ) × Dequeues ops value.value d)) [
           | inl done ↦ inl done
-          | inr r ↦ elim (goes_or_stays span value) as (λ _. IsDone ops span.place ⊎ ((d : ℕ) × Dequeues ops value.value d)) [
+          | inr r ↦ elim (goes_or_stays span value) as (λ _. IsKnownDone ops span.place ⊎ ((d : ℕ) × Dequeues ops value.value d)) [
             | inl none ↦ absurd (none_is_some r.0 (sym none.0 ∙ r.1))
             | inr goes ↦ inr (goes.0, goes.2)
           ]
@@ -135,7 +135,7 @@ module _ (ops : List FifoOp) where
           let lt = crossed.enters in
           let soon = (are.fair second crossed.other).soon in
           let x = a.comes (omega (arith, lt, soon)) in
-          inl (x.0, other.place, x.1, b.enqueues, ends_at (op_at ops x.0).ended one.entered (op_at ops other.place).invoked x.2 (subst (λ n. one.entered < n) b.begins lt))
+          inl (x.0, other.place, x.1, b.enqueues, ends_at (fifo_op_at ops x.0).ended one.entered (fifo_op_at ops other.place).invoked x.2 (subst (λ n. one.entered < n) b.begins lt))
 
       back : (a : IsValueSpan ops one) (b : IsValueSpan ops other) → GoesBefore ops b.value a.value
       back a b = elim (goes_or_stays other b) as (λ _. GoesBefore ops b.value a.value) [
@@ -153,9 +153,9 @@ module _ (ops : List FifoOp) where
               goes.2,
               λ next takes.
                   let same : leaves.0 ≡ next = taken_once a.value leaves.0 next leaves.2 takes in
-                  ends_at (op_at ops goes.0).ended other.left (op_at ops next).invoked goes.3 (subst (λ n. other.left < (op_at ops n).invoked) same (subst (λ n. other.left < n) is crossed.leaves)),
+                  ends_at (fifo_op_at ops goes.0).ended other.left (fifo_op_at ops next).invoked goes.3 (subst (λ n. other.left < (fifo_op_at ops n).invoked) same (subst (λ n. other.left < n) is crossed.leaves)),
             )
-            | inr is ↦ inl (goes.0, one.place, inr goes.2, a.enqueues, ends_at (op_at ops goes.0).ended other.left (op_at ops one.place).invoked goes.3 (subst (λ n. other.left < n) (is ∙ a.begins) crossed.leaves))
+            | inr is ↦ inl (goes.0, one.place, inr goes.2, a.enqueues, ends_at (fifo_op_at ops goes.0).ended other.left (fifo_op_at ops one.place).invoked goes.3 (subst (λ n. other.left < n) (is ∙ a.begins) crossed.leaves))
           ]
         ]
       ]

@@ -5,51 +5,51 @@ use Rattle.jh_fifo.specs.declared.verdict.FifoReason.{FifoReason}
 use Rattle.jh_fifo.specs.declared.verdict.FifoReason.TheVariants as reason
 use Rattle.jh_fifo.specs.declared.verdict.FifoVerdict.{FifoVerdict}
 use Rattle.jh_fifo.specs.declared.verdict.FifoVerdict.TheVariants.{Valid, Invalid, Repeated, Unsure}
-use Rattle.jh_fifo.specs.Order.{op_at, Precedes, IsOrder}
+use Rattle.jh_fifo.specs.Order.{fifo_op_at, PrecedesOp, IsFifoOrder}
 use Rattle.jh_fifo.specs.Reasons.{Enqueues, Dequeues, EnqueuedOnce, DequeuesAreDone, TakenOnce, EndsTooSoon, ComesFromNowhere, AreOfOne, ComesTooSoon, AreCrossedAt, IsNeverEmpty}
 use Rattle.jh_fifo.specs.Moments.{EmptiesAreDone}
 
 -- It is no enqueue, and it is not known whether it happened.
 pub record IsUnsure (ops : List FifoOp) (place : ℕ) : Type 0 where
-  pub unknown : (op_at ops place).ended ≡ None
+  pub unknown : (fifo_op_at ops place).ended ≡ None
   pub other : (value : ℕ) → Enqueues ops value place → ⊥
 
 -- Operations that are judged: each value is enqueued once at most, and of the dequeues it is known
 -- that they happened.
-pub record AreFit (ops : List FifoOp) : Type 0 where
+pub record AreJudgedOps (ops : List FifoOp) : Type 0 where
   pub once : EnqueuedOnce ops
   pub dequeues : DequeuesAreDone ops
   pub empties : EmptiesAreDone ops
 
 -- the reason applies
-abbrev pub IsReason : List FifoOp → FifoReason → Type 0
-IsReason ops (reason.EndsTooSoon place) = EndsTooSoon ops place
-IsReason ops (reason.Nowhere place) = ComesFromNowhere ops place
-IsReason ops (reason.Twice first second) = AreOfOne ops first second
-IsReason ops (reason.TooSoon dequeue enqueue) = ComesTooSoon ops dequeue enqueue
-IsReason ops (reason.Crossed first second) = AreCrossedAt ops first second
-IsReason ops (reason.NeverEmpty place) = IsNeverEmpty ops place
+abbrev pub IsFifoReason : List FifoOp → FifoReason → Type 0
+IsFifoReason ops (reason.EndsTooSoon place) = EndsTooSoon ops place
+IsFifoReason ops (reason.Nowhere place) = ComesFromNowhere ops place
+IsFifoReason ops (reason.Twice first second) = AreOfOne ops first second
+IsFifoReason ops (reason.TooSoon dequeue enqueue) = ComesTooSoon ops dequeue enqueue
+IsFifoReason ops (reason.Crossed first second) = AreCrossedAt ops first second
+IsFifoReason ops (reason.NeverEmpty place) = IsNeverEmpty ops place
 
 -- no list is an order
 abbrev pub HasNoOrder : List FifoOp → Type 0
-HasNoOrder ops = (order : List ℕ) → IsOrder ops order → ⊥
+HasNoOrder ops = (order : List ℕ) → IsFifoOrder ops order → ⊥
 
 -- the verdict is right
-abbrev pub IsVerdict : List FifoOp → FifoVerdict → Type 0
-IsVerdict ops (Valid order) = AreFit ops × IsOrder ops order.items
-IsVerdict ops (Invalid why) = AreFit ops × IsReason ops why × HasNoOrder ops
-IsVerdict ops (Repeated first second) = (first ≢ second)
+abbrev pub IsFifoVerdict : List FifoOp → FifoVerdict → Type 0
+IsFifoVerdict ops (Valid order) = AreJudgedOps ops × IsFifoOrder ops order.items
+IsFifoVerdict ops (Invalid why) = AreJudgedOps ops × IsFifoReason ops why × HasNoOrder ops
+IsFifoVerdict ops (Repeated first second) = (first ≢ second)
     × ((value : ℕ) × Enqueues ops value first × Enqueues ops value second)
-IsVerdict ops (Unsure place) = (place < length ops) × IsUnsure ops place
+IsFifoVerdict ops (Unsure place) = (place < length ops) × IsUnsure ops place
 
 -- Where it dequeues a value, something enqueues that, and it did not end before.
 abbrev pub IsTimelyAt : List FifoOp → ℕ → Type 0
 IsTimelyAt ops place = (value : ℕ) → Dequeues ops value place
-    → (enqueue : ℕ) × Enqueues ops value enqueue × (Precedes ops place enqueue → ⊥)
+    → (enqueue : ℕ) × Enqueues ops value enqueue × (PrecedesOp ops place enqueue → ⊥)
 
 -- Operations none of which is wrong by itself or with one other of its value.
-pub record AreSound (ops : List FifoOp) : Type 0 where
-  pub fit : AreFit ops
+pub record AreSoundOps (ops : List FifoOp) : Type 0 where
+  pub fit : AreJudgedOps ops
   pub forward : (place : ℕ) → EndsTooSoon ops place → ⊥
   pub taken_once : TakenOnce ops
   pub timely : (place : ℕ) → IsTimelyAt ops place

@@ -4,10 +4,10 @@ use Rattle.std.specs.Prelude.{◌≡◌, ◌≢◌, ◌⊎◌, ℕ, ◌<◌, ◌
 use Rattle.jh_fifo.specs.declared.operations.FifoCall.{FifoCall}
 use Rattle.jh_fifo.specs.declared.operations.FifoCall.TheVariants.{Enqueue, Dequeue, Empty}
 use Rattle.jh_fifo.specs.declared.operations.FifoOp.{FifoOp}
-use Rattle.jh_fifo.specs.Order.{op_at, IsDone, EndsBefore, Precedes}
+use Rattle.jh_fifo.specs.Order.{fifo_op_at, IsKnownDone, IsOverBefore, PrecedesOp}
 
 abbrev pub call_at : List FifoOp → ℕ → FifoCall
-call_at ops place = (op_at ops place).call
+call_at ops place = (fifo_op_at ops place).call
 
 -- the operation enqueues this value
 abbrev pub Enqueues : List FifoOp → ℕ → ℕ → Type 0
@@ -28,7 +28,7 @@ EnqueuedOnce ops = (value first second : ℕ) → Enqueues ops value first
 
 -- Each dequeue is known to have happened.
 abbrev pub DequeuesAreDone : List FifoOp → Type 0
-DequeuesAreDone ops = (value place : ℕ) → Dequeues ops value place → IsDone ops place
+DequeuesAreDone ops = (value place : ℕ) → Dequeues ops value place → IsKnownDone ops place
 
 -- Each value is dequeued by one operation at most.
 abbrev pub TakenOnce : List FifoOp → Type 0
@@ -38,26 +38,26 @@ TakenOnce ops = (value first second : ℕ) → Dequeues ops value first
 -- the value is known to have been in the queue
 abbrev pub WasThere : List FifoOp → ℕ → Type 0
 WasThere ops value = (enqueue : ℕ) × Enqueues ops value enqueue
-    × (IsDone ops enqueue ⊎ ((dequeue : ℕ) × Dequeues ops value dequeue))
+    × (IsKnownDone ops enqueue ⊎ ((dequeue : ℕ) × Dequeues ops value dequeue))
 
 -- Something of the first value ended before the second one's enqueue was invoked; or the first
 -- one's dequeue ended before the second one's was invoked, or the second one has none.
 abbrev pub GoesBefore : List FifoOp → ℕ → ℕ → Type 0
 GoesBefore ops first second =
     ((place enqueue : ℕ) × IsOf ops first place × Enqueues ops second enqueue
-    × Precedes ops place enqueue)
+    × PrecedesOp ops place enqueue)
     ⊎ ((dequeue : ℕ) × Dequeues ops first dequeue
-    × ((next : ℕ) → Dequeues ops second next → Precedes ops dequeue next))
+    × ((next : ℕ) → Dequeues ops second next → PrecedesOp ops dequeue next))
 
 -- At this place of the history the value is in the queue: something of it ended before, and each
 -- dequeue of it was invoked after.
-abbrev pub IsInside : List FifoOp → ℕ → ℕ → Type 0
-IsInside ops at value = ((place : ℕ) × IsOf ops value place × EndsBefore (op_at ops place).ended at)
-    × ((dequeue : ℕ) → Dequeues ops value dequeue → at < (op_at ops dequeue).invoked)
+abbrev pub IsInQueue : List FifoOp → ℕ → ℕ → Type 0
+IsInQueue ops at value = ((place : ℕ) × IsOf ops value place × IsOverBefore (fifo_op_at ops place).ended at)
+    × ((dequeue : ℕ) → Dequeues ops value dequeue → at < (fifo_op_at ops dequeue).invoked)
 
 -- The reasons. An operation ended before it was invoked;
 abbrev pub EndsTooSoon : List FifoOp → ℕ → Type 0
-EndsTooSoon ops place = Precedes ops place place
+EndsTooSoon ops place = PrecedesOp ops place place
 
 -- a value was dequeued that nothing enqueues;
 abbrev pub ComesFromNowhere : List FifoOp → ℕ → Type 0
@@ -71,7 +71,7 @@ AreOfOne ops first second = (first ≢ second)
 
 -- a dequeue ended before the enqueue of its value was invoked;
 abbrev pub ComesTooSoon : List FifoOp → ℕ → ℕ → Type 0
-ComesTooSoon ops dequeue enqueue = Precedes ops dequeue enqueue
+ComesTooSoon ops dequeue enqueue = PrecedesOp ops dequeue enqueue
     × ((value : ℕ) × Dequeues ops value dequeue × Enqueues ops value enqueue)
 
 -- each of two values goes before the other;
@@ -87,5 +87,5 @@ AreCrossedAt ops first second = (one other : ℕ) × Enqueues ops one first × E
 -- the queue was found empty, and at each place from invocation to end there is a value in it.
 abbrev pub IsNeverEmpty : List FifoOp → ℕ → Type 0
 IsNeverEmpty ops place = (call_at ops place ≡ Empty) × ((end : ℕ)
-    × ((op_at ops place).ended ≡ Some end)
-    × ((at : ℕ) → (op_at ops place).invoked ≤ at → at ≤ end → (value : ℕ) × IsInside ops at value))
+    × ((fifo_op_at ops place).ended ≡ Some end)
+    × ((at : ℕ) → (fifo_op_at ops place).invoked ≤ at → at ≤ end → (value : ℕ) × IsInQueue ops at value))

@@ -3,7 +3,7 @@ use Rattle.std.specs.Prelude.{◌≡◌, ◌⊎◌, ℕ, ◌<◌, ◌≤◌, Som
 use Rattle.jh_fifo.specs.declared.operations.FifoCall.TheVariants.{Empty}
 use Rattle.jh_fifo.specs.declared.operations.FifoOp.{FifoOp}
 use Rattle.jh_fifo.specs.declared.spans.Span.{Span}
-use Rattle.jh_fifo.specs.Order.{op_at, IsDone}
+use Rattle.jh_fifo.specs.Order.{fifo_op_at, IsKnownDone}
 use Rattle.jh_fifo.specs.Times.{never, LastsTo}
 use Rattle.jh_fifo.specs.Reasons.{call_at, Enqueues, Dequeues, IsOf}
 
@@ -19,25 +19,25 @@ span_at spans number = slice_index_or spans number no_span
 pub record IsValueSpan (ops : List FifoOp) (span : Span) : Type 0 where
   pub value : ℕ
   pub enqueues : Enqueues ops value span.place
-  pub was : IsDone ops span.place ⊎ ((dequeue : ℕ) × (span.dequeue ≡ Some dequeue))
-  pub begins : span.from ≡ (op_at ops span.place).invoked
-  pub lasts : LastsTo (op_at ops span.place).ended span.entered
+  pub was : IsKnownDone ops span.place ⊎ ((dequeue : ℕ) × (span.dequeue ≡ Some dequeue))
+  pub begins : span.from ≡ (fifo_op_at ops span.place).invoked
+  pub lasts : LastsTo (fifo_op_at ops span.place).ended span.entered
   pub comes : span.entered < never → (place : ℕ) × IsOf ops value place
-      × ((op_at ops place).ended ≡ Some span.entered)
+      × ((fifo_op_at ops place).ended ≡ Some span.entered)
   pub goes : MatchOption span.dequeue
       (((dequeue : ℕ) → Dequeues ops value dequeue → ⊥)
       × (span.leaving ≡ never) × (span.left ≡ never))
-      (λ dequeue. Dequeues ops value dequeue × ((op_at ops dequeue).ended ≡ Some span.left)
-      × (span.left < never) × ((op_at ops dequeue).invoked ≤ span.leaving)
-      × ((span.leaving ≡ (op_at ops dequeue).invoked) ⊎ (span.leaving ≡ span.from)))
+      (λ dequeue. Dequeues ops value dequeue × ((fifo_op_at ops dequeue).ended ≡ Some span.left)
+      × (span.left < never) × ((fifo_op_at ops dequeue).invoked ≤ span.leaving)
+      × ((span.leaving ≡ (fifo_op_at ops dequeue).invoked) ⊎ (span.leaving ≡ span.from)))
 
 -- The span of a dequeue that found the queue empty: one place of the history, while it ran.
 pub record IsEmptySpan (ops : List FifoOp) (span : Span) : Type 0 where
   pub empty : call_at ops span.place ≡ Empty
-  pub done : IsDone ops span.place
+  pub done : IsKnownDone ops span.place
   pub none : span.dequeue ≡ None
-  pub begins : (op_at ops span.place).invoked ≤ span.from
-  pub lasts : LastsTo (op_at ops span.place).ended span.from
+  pub begins : (fifo_op_at ops span.place).invoked ≤ span.from
+  pub lasts : LastsTo (fifo_op_at ops span.place).ended span.from
   pub entered : span.entered ≡ span.from
   pub leaving : span.leaving ≡ span.from
   pub left : span.left ≡ span.from
@@ -53,8 +53,8 @@ abbrev pub AreFair : List Span → Type 0
 AreFair spans = (i : ℕ) → i < length spans → IsFair (span_at spans i)
 
 -- no two spans are of one operation
-abbrev pub AreApart : List Span → Type 0
-AreApart spans = (i j : ℕ) → i < length spans → j < length spans
+abbrev pub AreSpansApart : List Span → Type 0
+AreSpansApart spans = (i j : ℕ) → i < length spans → j < length spans
     → (span_at spans i).place ≡ (span_at spans j).place → i ≡ j
 
 -- the span of what the operation at this place enqueues
@@ -64,21 +64,21 @@ pub record IsSpanAt (ops : List FifoOp) (place : ℕ) (span : Span) : Type 0 whe
   pub fair : IsFair span
 
 -- what the operation enqueues is not known to have been in the queue
-abbrev pub IsUntold : List FifoOp → ℕ → Type 0
-IsUntold ops place = (value : ℕ) → Enqueues ops value place
-    → IsDone ops place ⊎ ((dequeue : ℕ) × Dequeues ops value dequeue) → ⊥
+abbrev pub IsUntoldEnqueue : List FifoOp → ℕ → Type 0
+IsUntoldEnqueue ops place = (value : ℕ) → Enqueues ops value place
+    → IsKnownDone ops place ⊎ ((dequeue : ℕ) × Dequeues ops value dequeue) → ⊥
 
 -- the operation is that of a span, or its dequeue
-abbrev pub IsIn : List Span → ℕ → Type 0
-IsIn spans place = (i : ℕ) × (i < length spans)
+abbrev pub IsOfSpans : List Span → ℕ → Type 0
+IsOfSpans spans place = (i : ℕ) × (i < length spans)
     × (((span_at spans i).place ≡ place) ⊎ ((span_at spans i).dequeue ≡ Some place))
 
 -- The spans of all values that were in the queue.
 pub record AreValues (ops : List FifoOp) (spans : List Span) : Type 0 where
   pub each : (i : ℕ) → i < length spans → IsValueSpan ops (span_at spans i)
   pub fair : AreFair spans
-  pub apart : AreApart spans
-  pub whole : (place : ℕ) → IsDone ops place → (call_at ops place ≡ Empty) ⊎ IsIn spans place
+  pub apart : AreSpansApart spans
+  pub whole : (place : ℕ) → IsKnownDone ops place → (call_at ops place ≡ Empty) ⊎ IsOfSpans spans place
 
 -- The spans of all values that were in the queue, and of all dequeues that found it empty: while
 -- no value has to be in it.
@@ -86,9 +86,9 @@ pub record AreSpans (ops : List FifoOp) (spans : List Span) : Type 0 where
   pub each : (i : ℕ) → i < length spans
       → IsValueSpan ops (span_at spans i) ⊎ IsEmptySpan ops (span_at spans i)
   pub fair : AreFair spans
-  pub apart : AreApart spans
+  pub apart : AreSpansApart spans
   pub free : (i j : ℕ) → i < length spans → j < length spans
       → call_at ops (span_at spans i).place ≡ Empty
       → (span_at spans j).entered < (span_at spans i).from
       → (span_at spans j).leaving ≤ (span_at spans i).from
-  pub whole : (place : ℕ) → IsDone ops place → IsIn spans place
+  pub whole : (place : ℕ) → IsKnownDone ops place → IsOfSpans spans place

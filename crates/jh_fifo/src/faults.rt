@@ -1,8 +1,8 @@
 //! Operations that no order can have, whatever the others are.
 
 ghost use Rattle.std.specs.Prelude.{◌≡◌, ◌<◌, ◌↔◌, ℕ, Some, IsTrue, MatchOption, length};
-ghost use Rattle.jh_fifo.specs.Judged.{IsReason, IsTimelyAt, IsUnsure};
-ghost use Rattle.jh_fifo.specs.Order.{Precedes};
+ghost use Rattle.jh_fifo.specs.Judged.{IsFifoReason, IsTimelyAt, IsUnsure};
+ghost use Rattle.jh_fifo.specs.Order.{PrecedesOp};
 ghost use Rattle.jh_fifo.specs.Reasons.{Dequeues, EndsTooSoon};
 ghost use Rattle.jh_fifo.specs.Tables.{IsTable};
 ghost use Rattle.jh_fifo.specs.declared.tables.Side.TheVariants.{In};
@@ -40,7 +40,7 @@ pub(crate) fn find_unsure(ops: &[FifoOp]) -> Option<usize>
 fn precedes(ops: &[FifoOp], first: usize, second: usize) -> bool
     requires first { first < length ops.now }
     requires second { second < length ops.now }
-    ensures { IsTrue result ↔ Precedes ops.now first second }
+    ensures { IsTrue result ↔ PrecedesOp ops.now first second }
 {
     match ops[first].ended {
         Some(end) => end < ops[second].invoked,
@@ -65,7 +65,7 @@ pub(crate) fn find_backwards(ops: &[FifoOp]) -> Option<usize>
 fn early_at(ops: &[FifoOp], place: usize, enqueues: &BTreeMap<usize, usize>) -> Option<FifoReason>
     requires place { place < length ops.now }
     requires table { IsTable ops.now In (length ops.now) enqueues.now }
-    ensures { MatchOption result (IsTimelyAt ops.now place) (IsReason ops.now) }
+    ensures { MatchOption result (IsTimelyAt ops.now place) (IsFifoReason ops.now) }
 {
     match ops[place].call {
         FifoCall::Enqueue(_) | FifoCall::Empty => None,
@@ -86,7 +86,7 @@ fn early_at(ops: &[FifoOp], place: usize, enqueues: &BTreeMap<usize, usize>) -> 
 pub(crate) fn find_early(ops: &[FifoOp], enqueues: &BTreeMap<usize, usize>) -> Option<FifoReason>
     requires { IsTable ops.now In (length ops.now) enqueues.now }
     ensures { MatchOption result ((place : ℕ) → place < length ops.now → IsTimelyAt ops.now place)
-        (IsReason ops.now) }
+        (IsFifoReason ops.now) }
 {
     for place in 0..ops.len() {
         if let Some(reason) = early_at(ops, place, enqueues) {

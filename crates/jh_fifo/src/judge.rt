@@ -1,7 +1,7 @@
 //! Whether the operations of a queue have an order.
 
 ghost use Rattle.std.specs.Prelude.{◌≡◌, ◌<◌, ℕ, IfOk, length};
-ghost use Rattle.jh_fifo.specs.Judged.{AreFit, AreSound, IsVerdict};
+ghost use Rattle.jh_fifo.specs.Judged.{AreJudgedOps, AreSoundOps, IsFifoVerdict};
 ghost use Rattle.jh_fifo.specs.Spans.{AreSpans};
 ghost use Rattle.jh_fifo.specs.Tables.{IsTable};
 ghost use Rattle.jh_fifo.specs.declared.tables.Side.TheVariants.{In, Out};
@@ -20,9 +20,9 @@ use std::collections::BTreeMap;
 
 /// The verdict by all spans.
 fn judge_spans(alloc: Global, ops: &[FifoOp], spans: &[Span]) -> Result<FifoVerdict, AllocError>
-    requires sound { AreSound ops.now }
+    requires sound { AreSoundOps ops.now }
     requires spans { AreSpans ops.now spans.now }
-    ensures { IfOk result (IsVerdict ops.now) }
+    ensures { IfOk result (IsFifoVerdict ops.now) }
 {
     match in_turn(alloc, spans)? {
         Turn::Crossed(first, second) => {
@@ -40,9 +40,9 @@ fn judge_sound(
     ops: &[FifoOp],
     dequeues: &BTreeMap<usize, usize>,
 ) -> Result<FifoVerdict, AllocError>
-    requires sound { AreSound ops.now }
+    requires sound { AreSoundOps ops.now }
     requires table { IsTable ops.now Out (length ops.now) dequeues.now }
-    ensures { IfOk result (IsVerdict ops.now) }
+    ensures { IfOk result (IsFifoVerdict ops.now) }
 {
     let values = values_of(alloc, ops, dequeues)?;
     match with_empties(alloc, ops, &values)? {
@@ -57,9 +57,9 @@ fn judge_fit(
     ops: &[FifoOp],
     enqueues: &BTreeMap<usize, usize>,
 ) -> Result<FifoVerdict, AllocError>
-    requires fit { AreFit ops.now }
+    requires fit { AreJudgedOps ops.now }
     requires table { IsTable ops.now In (length ops.now) enqueues.now }
-    ensures { IfOk result (IsVerdict ops.now) }
+    ensures { IfOk result (IsFifoVerdict ops.now) }
 {
     if let Some(place) = find_backwards(ops) {
         return Ok(FifoVerdict::Invalid(FifoReason::EndsTooSoon(place)));
@@ -85,7 +85,7 @@ fn judge_fit(
 ///
 /// Takes time in the order of n log n for n operations, and memory linear in them.
 pub fn judge_fifo(alloc: Global, ops: &[FifoOp]) -> Result<FifoVerdict, AllocError>
-    ensures { IfOk result (IsVerdict ops.now) }
+    ensures { IfOk result (IsFifoVerdict ops.now) }
 {
     if let Some(place) = find_unsure(ops) {
         return Ok(FifoVerdict::Unsure(place));

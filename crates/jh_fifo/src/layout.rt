@@ -3,8 +3,8 @@
 ghost use Rattle.std.specs.Prelude.{◌≡◌, ◌≢◌, ◌<◌, ◌≤◌, ◌↔◌, ◌^◌, ℕ, List, IsTrue, IfOk, length};
 ghost use Rattle.jh_fifo.specs.declared.operations.FifoCall.TheVariants.{Empty};
 ghost use Rattle.jh_fifo.specs.declared.operations.FifoOp.{FifoOp};
-ghost use Rattle.jh_fifo.specs.Layout.{IsLaid, IsTurn};
-ghost use Rattle.jh_fifo.specs.Order.{IsOrder};
+ghost use Rattle.jh_fifo.specs.Layout.{IsLaid, CanGoThrough};
+ghost use Rattle.jh_fifo.specs.Order.{IsFifoOrder};
 ghost use Rattle.jh_fifo.specs.Reasons.{EnqueuedOnce, call_at};
 ghost use Rattle.jh_fifo.specs.Times.{never};
 ghost use Rattle.jh_fifo.specs.Spans.{span_at};
@@ -44,7 +44,7 @@ fn let_go(
     requires bound { come ≤ length spans.now }
     requires turn { gone ≤ come }
     ensures laid { IfOk result (λ still. (ops : List FifoOp) → EnqueuedOnce ops
-        → IsTurn ops spans.now → until < never
+        → CanGoThrough ops spans.now → until < never
         → ((later : ℕ) → come ≤ later → later < length spans.now
         → until ≤ (span_at spans.now later).from)
         → IsLaid ops spans.now gone come order.old.items
@@ -71,8 +71,8 @@ pub(crate) fn order_of(
     spans: &[Span],
 ) -> Result<Vec<usize>, AllocError>
     requires once { EnqueuedOnce ops.now }
-    requires turn { IsTurn ops.now spans.now }
-    ensures { IfOk result (λ order. IsOrder ops.now order.items) }
+    requires turn { CanGoThrough ops.now spans.now }
+    ensures { IfOk result (λ order. IsFifoOrder ops.now order.items) }
 {
     let mut order = Vec::new(alloc);
     let mut gone = 0;

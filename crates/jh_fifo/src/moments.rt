@@ -3,9 +3,9 @@
 
 ghost use Rattle.std.specs.Prelude.{◌≡◌, ◌<◌, ◌≤◌, ◌↔◌, ℕ, None, Some, IfOk, IsTrue, length, map, max};
 ghost use Rattle.jh_fifo.specs.Moments.{EmptiesAreDone, IsCovered, IsEmptied, IsFree, IsSwept};
-ghost use Rattle.jh_fifo.specs.Order.{EndsBefore, op_at};
+ghost use Rattle.jh_fifo.specs.Order.{IsOverBefore, fifo_op_at};
 ghost use Rattle.jh_fifo.specs.Reasons.{TakenOnce};
-ghost use Rattle.jh_fifo.specs.Sorted.{AreSorted};
+ghost use Rattle.jh_fifo.specs.Sorted.{AreSortedKeys};
 ghost use Rattle.jh_fifo.specs.Spans.{AreValues};
 ghost use Rattle.jh_fifo.specs.Times.{never};
 
@@ -34,7 +34,7 @@ struct Sweep {
 
 /// The first place of the history, from one on, at which no value has to be in the queue.
 fn first_free(values: &[Span], entered: &[(u128, usize)], sweep: Sweep) -> Sweep
-    requires sorted { AreSorted (map (λ span. span.entered) values.now) entered.now }
+    requires sorted { AreSortedKeys (map (λ span. span.entered) values.now) entered.now }
     requires swept { IsSwept values.now entered.now sweep.passed sweep.at }
     ensures later { sweep.at ≤ result.at }
     ensures covered { (at : ℕ) → sweep.at ≤ at → at < result.at → IsCovered values.now at }
@@ -59,7 +59,7 @@ fn first_free(values: &[Span], entered: &[(u128, usize)], sweep: Sweep) -> Sweep
 fn no_earlier(sweep: Sweep, ops: &[FifoOp], place: usize) -> Sweep
     requires { place < length ops.now }
     ensures passed { result.passed ≡ sweep.passed }
-    ensures at { result.at ≡ max sweep.at (op_at ops.now place).invoked }
+    ensures at { result.at ≡ max sweep.at (fifo_op_at ops.now place).invoked }
 {
     Sweep {
         at: sweep.at.max(invoked_at(ops, place)),
@@ -70,8 +70,8 @@ fn no_earlier(sweep: Sweep, ops: &[FifoOp], place: usize) -> Sweep
 /// Whether an operation ended before a place of the history.
 fn is_over(ops: &[FifoOp], place: usize, at: u128) -> bool
     requires { place < length ops.now }
-    ensures over { IsTrue result ↔ EndsBefore (op_at ops.now place).ended at }
-    ensures told { (end : ℕ) → (op_at ops.now place).ended ≡ Some end → end < never }
+    ensures over { IsTrue result ↔ IsOverBefore (fifo_op_at ops.now place).ended at }
+    ensures told { (end : ℕ) → (fifo_op_at ops.now place).ended ≡ Some end → end < never }
 {
     ops[place].ended.is_some() && end_at(ops, place) < at
 }
@@ -92,7 +92,7 @@ fn empty_span(place: usize, at: u128) -> Span
 
 /// The operations by when they were invoked.
 fn by_invoked(alloc: Global, ops: &[FifoOp]) -> Result<Vec<(u128, usize)>, AllocError>
-    ensures { IfOk result (λ entries. AreSorted (map (λ op. op.invoked) ops.now) entries.items) }
+    ensures { IfOk result (λ entries. AreSortedKeys (map (λ op. op.invoked) ops.now) entries.items) }
 {
     let keys = ops
         .iter()
@@ -113,8 +113,8 @@ fn fill(
     requires once { TakenOnce ops.now }
     requires done { EmptiesAreDone ops.now }
     requires values { AreValues ops.now values.now }
-    requires entered { AreSorted (map (λ span. span.entered) values.now) entered.now }
-    requires invoked { AreSorted (map (λ op. op.invoked) ops.now) invoked.now }
+    requires entered { AreSortedKeys (map (λ span. span.entered) values.now) entered.now }
+    requires invoked { AreSortedKeys (map (λ op. op.invoked) ops.now) invoked.now }
     requires spans { spans.items ≡ values.now }
     ensures { IfOk result (IsEmptied ops.now) }
 {

@@ -1,13 +1,13 @@
 //! Keys, sorted.
 
 ghost use Rattle.std.specs.Prelude.{◌≡◌, ◌<◌, ℕ, IfOk, length, slice_index_or};
-ghost use Rattle.jh_fifo.specs.Sorted.{AreSorted};
+ghost use Rattle.jh_fifo.specs.Sorted.{AreSortedKeys};
 
 use std::alloc::{AllocError, Global};
 
 /// The keys with their indexes, the least first.
 pub(crate) fn sorted(alloc: Global, keys: &[u128]) -> Result<Vec<(u128, usize)>, AllocError>
-    ensures { IfOk result (λ entries. AreSorted keys.now entries.items) }
+    ensures { IfOk result (λ entries. AreSortedKeys keys.now entries.items) }
 {
     let mut entries = Vec::new(alloc);
     for index in 0..keys.len() {

@@ -1,8 +1,8 @@
 //! When a value was put into the queue and taken out of it, at the earliest and at the latest.
 
 ghost use Rattle.std.specs.Prelude.{◌≡◌, ◌<◌, ◌≤◌, ℕ, Some, length};
-ghost use Rattle.jh_fifo.specs.Order.{op_at};
-ghost use Rattle.jh_fifo.specs.Times.{end_of, never};
+ghost use Rattle.jh_fifo.specs.Order.{fifo_op_at};
+ghost use Rattle.jh_fifo.specs.Times.{end_or_never, never};
 
 use crate::operations::FifoOp;
 
@@ -30,7 +30,7 @@ pub(crate) struct Span {
 /// Where an operation was invoked.
 pub(crate) fn invoked_at(ops: &[FifoOp], place: usize) -> u128
     requires { place < length ops.now }
-    ensures is { result ≡ (op_at ops.now place).invoked }
+    ensures is { result ≡ (fifo_op_at ops.now place).invoked }
     ensures soon { result < never }
 {
     ops[place].invoked as u128
@@ -39,9 +39,9 @@ pub(crate) fn invoked_at(ops: &[FifoOp], place: usize) -> u128
 /// Where an operation ended, or past every place.
 pub(crate) fn end_at(ops: &[FifoOp], place: usize) -> u128
     requires { place < length ops.now }
-    ensures is { result ≡ end_of (op_at ops.now place).ended }
+    ensures is { result ≡ end_or_never (fifo_op_at ops.now place).ended }
     ensures high { result ≤ never }
-    ensures told { (end : ℕ) → (op_at ops.now place).ended ≡ Some end → end < never }
+    ensures told { (end : ℕ) → (fifo_op_at ops.now place).ended ≡ Some end → end < never }
 {
     match ops[place].ended {
         Some(end) => end as u128,

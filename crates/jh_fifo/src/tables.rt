@@ -3,7 +3,7 @@
 ghost use Rattle.std.specs.Prelude.{◌≡◌, ℕ, IfOk, MatchOption};
 ghost use Rattle.std.specs.BTreeMap.{get};
 ghost use Rattle.std.specs.Ordering.{nat_cmp};
-ghost use Rattle.jh_fifo.specs.Tables.{IsTableOf, Takes};
+ghost use Rattle.jh_fifo.specs.Tables.{IsTableOf, MovesValue};
 
 use crate::operations::{FifoCall, FifoOp, call_of};
 use std::alloc::{AllocError, Global};
@@ -25,8 +25,8 @@ pub(crate) enum Table {
 
 /// The value that a call puts in, or takes out.
 fn value_of(side: Side, call: FifoCall) -> Option<usize>
-    ensures { MatchOption result ((value : ℕ) → Takes side value call → ⊥)
-        (λ value. Takes side value call) }
+    ensures { MatchOption result ((value : ℕ) → MovesValue side value call → ⊥)
+        (λ value. MovesValue side value call) }
 {
     match side {
         Side::In => match call {

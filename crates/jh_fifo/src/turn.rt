@@ -6,9 +6,9 @@
 
 ghost use Rattle.std.specs.Prelude.{◌≡◌, ◌<◌, ◌≤◌, ◌∷◌, ◌++◌, [], ℕ, true, false, max, replicate, map};
 ghost use Rattle.std.specs.Prelude.{IfOk, OnOk, length, slice_set};
-ghost use Rattle.jh_fifo.specs.Lines.{IsStep, IsTurnOf, is_taken, moved};
-ghost use Rattle.jh_fifo.specs.Sorted.{AreSorted};
-ghost use Rattle.jh_fifo.specs.Spans.{AreApart, AreFair, span_at};
+ghost use Rattle.jh_fifo.specs.Lines.{IsStep, IsTurnOf, is_put, moved_span};
+ghost use Rattle.jh_fifo.specs.Sorted.{AreSortedKeys};
+ghost use Rattle.jh_fifo.specs.Spans.{AreSpansApart, AreFair, span_at};
 
 use crate::layout::span_of;
 use crate::sorted::{index_at, sorted};
@@ -47,7 +47,7 @@ fn take(line: &mut Line, spans: &[Span], number: usize) -> Result<(), AllocError
     requires taken { number < length line.old.taken.items }
     ensures taken { OnOk result (line.new.taken.items ≡ slice_set line.old.taken.items number true) }
     ensures turn { OnOk result (line.new.turn.items ≡ line.old.turn.items
-        ++ moved (span_at spans.now number) line.new.from line.new.leaving ∷ []) }
+        ++ moved_span (span_at spans.now number) line.new.from line.new.leaving ∷ []) }
     ensures from { OnOk result (line.new.from ≡ max line.old.from (span_at spans.now number).from) }
     ensures leaving { OnOk result (line.new.leaving
         ≡ max line.old.leaving (span_at spans.now number).leaving) }
@@ -69,7 +69,7 @@ fn take(line: &mut Line, spans: &[Span], number: usize) -> Result<(), AllocError
 /// Whether a span was put in its turn.
 fn was_taken(taken: &[bool], number: usize) -> bool
     requires { number < length taken.now }
-    ensures { result ≡ is_taken taken.now number }
+    ensures { result ≡ is_put taken.now number }
 {
     taken[number]
 }
@@ -98,7 +98,7 @@ fn step_of(spans: &[Span], taken: &[bool], first: usize, second: usize) -> Step
 
 /// The spans by when they entered at the latest.
 pub(crate) fn by_entered(alloc: Global, spans: &[Span]) -> Result<Vec<(u128, usize)>, AllocError>
-    ensures { IfOk result (λ entries. AreSorted (map (λ span. span.entered) spans.now) entries.items) }
+    ensures { IfOk result (λ entries. AreSortedKeys (map (λ span. span.entered) spans.now) entries.items) }
 {
     let keys = spans
         .iter()
@@ -109,7 +109,7 @@ pub(crate) fn by_entered(alloc: Global, spans: &[Span]) -> Result<Vec<(u128, usi
 
 /// The spans by when they left at the latest.
 fn by_left(alloc: Global, spans: &[Span]) -> Result<Vec<(u128, usize)>, AllocError>
-    ensures { IfOk result (λ entries. AreSorted (map (λ span. span.left) spans.now) entries.items) }
+    ensures { IfOk result (λ entries. AreSortedKeys (map (λ span. span.left) spans.now) entries.items) }
 {
     let keys = spans
         .iter()
@@ -137,7 +137,7 @@ fn no_line(alloc: Global, count: usize) -> Result<Line, AllocError>
 /// All spans in their turn, or two that go each before the other.
 pub(crate) fn in_turn(alloc: Global, spans: &[Span]) -> Result<Turn, AllocError>
     requires fair { AreFair spans.now }
-    requires apart { AreApart spans.now }
+    requires apart { AreSpansApart spans.now }
     ensures { IfOk result (IsTurnOf spans.now) }
 {
     let entered = by_entered(alloc, spans)?;

@@ -1,10 +1,10 @@
 //! The spans of the values that were in the queue.
 
 ghost use Rattle.std.specs.Prelude.{◌≡◌, ◌<◌, ℕ, None, Some, IfOk, MatchOption, length};
-ghost use Rattle.jh_fifo.specs.Judged.{AreSound};
-ghost use Rattle.jh_fifo.specs.Order.{IsDone};
+ghost use Rattle.jh_fifo.specs.Judged.{AreSoundOps};
+ghost use Rattle.jh_fifo.specs.Order.{IsKnownDone};
 ghost use Rattle.jh_fifo.specs.Reasons.{Dequeues, Enqueues};
-ghost use Rattle.jh_fifo.specs.Spans.{AreValues, IsSpanAt, IsUntold};
+ghost use Rattle.jh_fifo.specs.Spans.{AreValues, IsSpanAt, IsUntoldEnqueue};
 ghost use Rattle.jh_fifo.specs.Tables.{IsTable};
 ghost use Rattle.jh_fifo.specs.declared.tables.Side.TheVariants.{Out};
 
@@ -16,7 +16,7 @@ use std::collections::BTreeMap;
 
 /// The span of a value that was dequeued.
 fn taken_span(ops: &[FifoOp], place: usize, dequeue: usize) -> Span
-    requires sound { AreSound ops.now }
+    requires sound { AreSoundOps ops.now }
     requires place { place < length ops.now }
     requires dequeue { dequeue < length ops.now }
     requires value { (value : ℕ) × Enqueues ops.now value place × Dequeues ops.now value dequeue }
@@ -36,9 +36,9 @@ fn taken_span(ops: &[FifoOp], place: usize, dequeue: usize) -> Span
 
 /// The span of a value that was not dequeued.
 fn kept_span(ops: &[FifoOp], place: usize) -> Span
-    requires sound { AreSound ops.now }
+    requires sound { AreSoundOps ops.now }
     requires place { place < length ops.now }
-    requires done { IsDone ops.now place }
+    requires done { IsKnownDone ops.now place }
     requires value { (value : ℕ) × Enqueues ops.now value place
         × ((dequeue : ℕ) → Dequeues ops.now value dequeue → ⊥) }
     ensures { IsSpanAt ops.now place result }
@@ -55,10 +55,10 @@ fn kept_span(ops: &[FifoOp], place: usize) -> Span
 
 /// The span of what an operation enqueues, if that is known to have been in the queue.
 fn span_for(ops: &[FifoOp], place: usize, dequeues: &BTreeMap<usize, usize>) -> Option<Span>
-    requires sound { AreSound ops.now }
+    requires sound { AreSoundOps ops.now }
     requires place { place < length ops.now }
     requires table { IsTable ops.now Out (length ops.now) dequeues.now }
-    ensures { MatchOption result (IsUntold ops.now place) (IsSpanAt ops.now place) }
+    ensures { MatchOption result (IsUntoldEnqueue ops.now place) (IsSpanAt ops.now place) }
 {
     let FifoCall::Enqueue(value) = ops[place].call else {
         return None;
@@ -78,7 +78,7 @@ pub(crate) fn values_of(
     ops: &[FifoOp],
     dequeues: &BTreeMap<usize, usize>,
 ) -> Result<Vec<Span>, AllocError>
-    requires sound { AreSound ops.now }
+    requires sound { AreSoundOps ops.now }
     requires table { IsTable ops.now Out (length ops.now) dequeues.now }
     ensures { IfOk result (λ spans. AreValues ops.now spans.items) }
 {

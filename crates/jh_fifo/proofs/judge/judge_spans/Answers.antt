@@ -1,7 +1,7 @@
 use Rattle.std.proofs.Common.{List, sym, subst}
 use Rattle.jh_fifo.specs.declared.spans.Span.{Span}
 use Rattle.jh_fifo.specs.declared.verdict.FifoReason.TheVariants.{Crossed}
-use Rattle.jh_fifo.specs.Layout.{IsTurn}
+use Rattle.jh_fifo.specs.Layout.{CanGoThrough}
 use Rattle.jh_fifo.specs.Lines.{IsLined, IsTurnOf, AreCrossedSpans}
 use Rattle.jh_fifo.specs.Reasons.{AreCrossedAt}
 use Rattle.jh_fifo.specs.Spans.{span_at}
@@ -14,7 +14,7 @@ order_of-requires-clause-turn c =
     let ops = c.args.ops.now in
     let spans = c.args.spans.now in
     let lined : IsLined spans c.in-All.turn.items = subst (λ t. IsTurnOf spans t) c.in-All.is (c.in_ok-first.ensures {u = tt}) in
-    subst (λ (xs : List Span). IsTurn ops xs) (sym c.deref.ensures.value) (turn_of ops spans c.requires.spans c.in-All.turn.items lined)
+    subst (λ (xs : List Span). CanGoThrough ops xs) (sym c.deref.ensures.value) (turn_of ops spans c.requires.spans c.in-All.turn.items lined)
 
 pub returns-in-Crossed : goal.returns-in-Crossed
 returns-in-Crossed c =

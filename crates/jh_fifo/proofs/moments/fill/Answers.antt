@@ -4,7 +4,7 @@ use Rattle.jh_fifo.specs.declared.moments.Sweep.{Sweep}
 use Rattle.jh_fifo.specs.declared.operations.FifoCall.TheVariants.{Empty}
 use Rattle.jh_fifo.specs.Moments.{IsFilling}
 use Rattle.jh_fifo.specs.Reasons.{call_at}
-use Rattle.jh_fifo.specs.Sorted.{entry_at}
+use Rattle.jh_fifo.specs.Sorted.{key_entry_at}
 use Rattle.jh_fifo.proofs.LayoutLemmas.{if_yes, if_no}
 use Rattle.jh_fifo.proofs.MomentLemmas.{filling_none, filling_skip, filling_more, filling_all, inside_ops, is_never}
 use Rattle.jh_fifo.proofs.moments.fill.Goals.{then-finds_empty+else-is_over+in_ok-push, else-finds_empty}
@@ -52,7 +52,7 @@ loop-number-preserved c =
           c.index_at-place.result c.loop-number-test.true c.index_at-place.ensures (if_yes _ _ c.finds_empty.ensures w.if-finds_empty.true) w.no_earlier.result.at f.result.at f.result.passed w.no_earlier.ensures.at
           f.ensures.later f.ensures.covered f.ensures.free f.ensures.swept c.requires.done w.is_over.ensures.told (if_no _ _ w.is_over.ensures.over w.if-is_over.false) w.empty_span.result w.empty_span.ensures))
       | else-finds_empty w ↦
-          let not : call_at ops (entry_at invoked l.number).1 ≡ Empty → ⊥ = λ h. if_no _ _ c.finds_empty.ensures w.if-finds_empty.false (subst (λ (k : ℕ). call_at ops k ≡ Empty) (sym c.index_at-place.ensures) h) in
+          let not : call_at ops (key_entry_at invoked l.number).1 ≡ Empty → ⊥ = λ h. if_no _ _ c.finds_empty.ensures w.if-finds_empty.false (subst (λ (k : ℕ). call_at ops k ≡ Empty) (sym c.index_at-place.ensures) h) in
           subst (λ (s : Sweep). IsFilling ops values entered invoked n c.if-finds_empty.spans.items s.passed s.at) (sym w.sweep-is)
           (subst (λ (xs : List Span). IsFilling ops values entered invoked n xs l.sweep.passed l.sweep.at) (sym (ap (λ v. v.items) w.spans-is))
           (filling_skip ops c.requires.once values c.requires.values entered invoked c.requires.invoked l.number l.spans.items l.sweep.passed l.sweep.at l.invariant not))

@@ -2,7 +2,7 @@ use Rattle.std.proofs.Common.{◌≡◌, ◌<◌, ◌+◌, ◌≤◌, ℕ, true,
 use Rattle.std.specs.Prelude.{◌⊎◌}
 use Rattle.jh_fifo.specs.Lines.{IsStep, IsTaking}
 use Rattle.jh_fifo.specs.declared.turn.Step.TheVariants.{TakeFirst, TakeSecond}
-use Rattle.jh_fifo.specs.Sorted.{entry_at}
+use Rattle.jh_fifo.specs.Sorted.{key_entry_at}
 use Rattle.jh_fifo.proofs.LineLemmas.{taking_none, taking_all, take_first, take_second, inside_left}
 use Rattle.jh_fifo.proofs.turn.in_turn.Goals.{then-loop-early-test+else-late-len, else-loop-early-test}
 use Rattle.jh_fifo.proofs.turn.in_turn.Goals as goal
@@ -22,14 +22,14 @@ loop-early-init c =
 
 pub take-requires-in-TakeSecond-clause-number : goal.take-requires-in-TakeSecond-clause-number
 take-requires-in-TakeSecond-clause-number c =
-    let is : c.index_at-second.result ≡ (entry_at c.in_ok-left.left.items c.loop-early.late).1 = c.index_at-second.ensures ∙ ap (λ (xs : List (ℕ × ℕ)). (entry_at xs c.loop-early.late).1) c.deref-in-loop-early.ensures.value in
+    let is : c.index_at-second.result ≡ (key_entry_at c.in_ok-left.left.items c.loop-early.late).1 = c.index_at-second.ensures ∙ ap (λ (xs : List (ℕ × ℕ)). (key_entry_at xs c.loop-early.late).1) c.deref-in-loop-early.ensures.value in
     subst (λ k. k < length c.args.spans.now) (sym is) (inside_left c.args.spans.now c.requires.fair c.requires.apart c.in_ok-entered.entered.items c.in_ok-left.left.items (c.in_ok-entered.ensures {u = tt}) (c.in_ok-left.ensures {u = tt}) c.loop-early.late (omega (arith, c.in_ok-left.left.ok.0, c.len-in-loop-early.ensures, c.if-late-len.true)))
 
 pub take-requires-in-TakeSecond-clause-taken : goal.take-requires-in-TakeSecond-clause-taken
 take-requires-in-TakeSecond-clause-taken c =
-    let is : c.index_at-second.result ≡ (entry_at c.in_ok-left.left.items c.loop-early.late).1 = c.index_at-second.ensures ∙ ap (λ (xs : List (ℕ × ℕ)). (entry_at xs c.loop-early.late).1) c.deref-in-loop-early.ensures.value in
+    let is : c.index_at-second.result ≡ (key_entry_at c.in_ok-left.left.items c.loop-early.late).1 = c.index_at-second.ensures ∙ ap (λ (xs : List (ℕ × ℕ)). (key_entry_at xs c.loop-early.late).1) c.deref-in-loop-early.ensures.value in
     subst (λ k. k < length c.loop-early.line.taken.items) (sym is)
-    (subst (λ n. (entry_at c.in_ok-left.left.items c.loop-early.late).1 < n) (sym c.loop-early.invariant.line.same)
+    (subst (λ n. (key_entry_at c.in_ok-left.left.items c.loop-early.late).1 < n) (sym c.loop-early.invariant.line.same)
     (inside_left c.args.spans.now c.requires.fair c.requires.apart c.in_ok-entered.entered.items c.in_ok-left.left.items (c.in_ok-entered.ensures {u = tt}) (c.in_ok-left.ensures {u = tt}) c.loop-early.late (omega (arith, c.in_ok-left.left.ok.0, c.len-in-loop-early.ensures, c.if-late-len.true))))
 
 pub loop-early-preserved : goal.loop-early-preserved
@@ -40,8 +40,8 @@ loop-early-preserved c =
     let l = c.loop-early in
     let low : l.early < length entered = omega (arith, c.in_ok-entered.entered.ok.0, c.len.ensures, c.loop-early-test.true) in
     let low_left : l.late < length left = omega (arith, c.in_ok-left.left.ok.0, c.len-in-loop-early.ensures, c.if-late-len.true) in
-    let first_is : c.index_at-first.result ≡ (entry_at entered l.early).1 = c.index_at-first.ensures ∙ ap (λ (xs : List (ℕ × ℕ)). (entry_at xs l.early).1) c.deref.ensures.value in
-    let second_is : c.index_at-second.result ≡ (entry_at left l.late).1 = c.index_at-second.ensures ∙ ap (λ (xs : List (ℕ × ℕ)). (entry_at xs l.late).1) c.deref-in-loop-early.ensures.value in
+    let first_is : c.index_at-first.result ≡ (key_entry_at entered l.early).1 = c.index_at-first.ensures ∙ ap (λ (xs : List (ℕ × ℕ)). (key_entry_at xs l.early).1) c.deref.ensures.value in
+    let second_is : c.index_at-second.result ≡ (key_entry_at left l.late).1 = c.index_at-second.ensures ∙ ap (λ (xs : List (ℕ × ℕ)). (key_entry_at xs l.late).1) c.deref-in-loop-early.ensures.value in
     let step : IsStep spans l.line.taken.items c.index_at-first.result c.index_at-second.result TakeSecond = subst (λ taken. IsStep spans taken c.index_at-first.result c.index_at-second.result TakeSecond) c.deref-in-loop-early-2.ensures.value c.in-TakeSecond.ensures in
     let e = c.in_ok-take-in-TakeSecond.ensures {u = tt} in
     let new = c.take-in-TakeSecond.new.line in
@@ -58,8 +58,8 @@ loop-early-preserved-in-TakeFirst c =
     let l = c.loop-early in
     let low : l.early < length entered = omega (arith, c.in_ok-entered.entered.ok.0, c.len.ensures, c.loop-early-test.true) in
     let low_left : l.late < length left = omega (arith, c.in_ok-left.left.ok.0, c.len-in-loop-early.ensures, c.if-late-len.true) in
-    let first_is : c.index_at-first.result ≡ (entry_at entered l.early).1 = c.index_at-first.ensures ∙ ap (λ (xs : List (ℕ × ℕ)). (entry_at xs l.early).1) c.deref.ensures.value in
-    let second_is : c.index_at-second.result ≡ (entry_at left l.late).1 = c.index_at-second.ensures ∙ ap (λ (xs : List (ℕ × ℕ)). (entry_at xs l.late).1) c.deref-in-loop-early.ensures.value in
+    let first_is : c.index_at-first.result ≡ (key_entry_at entered l.early).1 = c.index_at-first.ensures ∙ ap (λ (xs : List (ℕ × ℕ)). (key_entry_at xs l.early).1) c.deref.ensures.value in
+    let second_is : c.index_at-second.result ≡ (key_entry_at left l.late).1 = c.index_at-second.ensures ∙ ap (λ (xs : List (ℕ × ℕ)). (key_entry_at xs l.late).1) c.deref-in-loop-early.ensures.value in
     let step : IsStep spans l.line.taken.items c.index_at-first.result c.index_at-second.result TakeFirst = subst (λ taken. IsStep spans taken c.index_at-first.result c.index_at-second.result TakeFirst) c.deref-in-loop-early-2.ensures.value c.in-TakeFirst.ensures in
     let e = c.in_ok-take-in-TakeFirst.ensures {u = tt} in
     let new = c.take.new.line in
