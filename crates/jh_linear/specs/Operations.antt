@@ -145,8 +145,8 @@ IsLeastBad object history pairs (Some place) =
     Contains (map (bad_place object history) pairs) (Some place)
     × All (λ pair. IfSome (bad_place object history pair) (λ other. place ≤ other)) pairs
 
--- Why the pairs of a history are refused: for a bad value at the least place of one, or for want of
--- memory, only where no value is bad.
+-- Why the pairs of a history are refused: for a bad value, at the least place of one, or because
+-- memory ran out, which is told only where no value is bad.
 abbrev pub RefusesPairs : Object → List Operation → List Pair → RegOpsError → Type 0
 RefusesPairs object history pairs (BadValue place) = IsLeastBad object history pairs (Some place)
 RefusesPairs object history pairs OutOfMemory = IsLeastBad object history pairs None

@@ -2,9 +2,8 @@
 -- This project's own. The head of src/judge.rt describes the search.
 use Rattle.std.specs.Prelude.{◌⊎◌, ◌≡◌, ◌==◌, ℕ, ◌+◌, ◌*◌, ◌<◌, ◌≤◌, ℤ, Bool, true, false, not}
 use Rattle.std.specs.Prelude.{Option, Some, None, List, [], ◌∷◌, ◌++◌, length, take, drop, ◌-◌}
-use Rattle.std.specs.Prelude.{slice_index_or, slice_get, nat_lt}
+use Rattle.std.specs.Prelude.{slice_index_or, slice_get, nat_lt, map}
 use Rattle.std.specs.List.{All, IsDistinct, filter, Contains}
-use Rattle.std.specs.Prelude.{map, unwrap_or, ◌^◌}
 use Rattle.jh_linear.specs.declared.register.Outcome.{Outcome}
 use Rattle.jh_linear.specs.declared.register.Outcome.TheVariants.{Done, Failed, Unsure}
 use Rattle.jh_linear.specs.declared.register.RegCall.{RegCall}

@@ -1,7 +1,7 @@
 //! The operations of a register, as the checker takes them, and the register itself.
 //!
 //! `specs/Order.antt` says how the register behaves (`Allows`). `specs/SearchInside.antt` says
-//! which operations the search leaves out (`IsUnsureChange` has those that it tries), and which it
+//! which operations of unknown outcome the search tries (`IsUnsureChange`), and which reads it
 //! places at once (`IsSettled`).
 
 ghost use Rattle.std.specs.Prelude.{◌≡◌, ℤ, Option, Some, IfSome, IsTrue, ◌↔◌, true};
