@@ -1,5 +1,5 @@
--- What a fault does to its links, as it is given with any amount, and which amounts are in their
--- ranges (this project's own).
+-- What a fault is to do to its links, with an amount that may be any integer, and which amounts are
+-- in their ranges (this project's own).
 use Rattle.std.specs.Prelude.{⊤, ℕ, ℤ, pos, negsuc, ◌&&◌, nat_le, if◌then◌else◌}
 use Rattle.std.specs.Prelude.{Option, Some, None, option_map}
 use Rattle.jh_tables.specs.declared.faults.LinkFault.{LinkFault}

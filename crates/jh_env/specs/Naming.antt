@@ -1,7 +1,8 @@
--- How a fault is given what it is about (this project's own): a link as its two nodes, as their
+-- The ways to name what a fault is about (this project's own): a link as its two nodes, as their
 -- places or as the value `[SOURCE DESTINATION]` of their names; a node as itself or by its name; a
--- clock to move as its node, or its name, and milliseconds. A fault is judged by the places alone,
--- so it is judged alike however they are given, and why one is refused stands here alone.
+-- clock that is moved as its node, or its name, with milliseconds. A fault is judged by the places
+-- alone, so it is judged alike however they are given. Why one is refused stands here and nowhere
+-- else.
 use Rattle.std.specs.Prelude.{◌≡◌, ◌≢◌, ◌⊎◌, ℕ, ◌&&◌, Bool, true, not, ℤ, pos, negsuc}
 use Rattle.std.specs.Prelude.{List, [], ◌∷◌, ◌++◌, length, nat_lt, nat_le, if◌then◌else◌}
 use Rattle.std.specs.Prelude.{is_none, Option, Some, None, option_and_then, option_map, ok_or}
@@ -86,8 +87,8 @@ abbrev pub are_bumps : List (ℕ × ℤ) → Bool
 are_bumps bumps = list_all (λ b. is_bump_amount b.1) bumps && are_apart_after [] bumps
 
 -- The fault that does this to the links that are found, each once, or why there is none, whatever
--- memory there is: an unknown node anywhere, else a node linked with itself, else its amount, for
--- which no kind stands.
+-- memory there is: an unknown node anywhere, else a node linked with itself, else an amount out of
+-- its range, of which `None` tells in place of what the fault does.
 abbrev pub judged_links : {A : Type 0} → (A → Option (ℕ × ℕ)) → Option LinkFault → List A
     → Result FaultValue FaultError
 judged_links ends kind links =

@@ -1,6 +1,6 @@
-//! What a fault does to its links, given with any amount, and whether that is in its range, which
-//! is asked here alone. `specs/Amounts.antt` says what stands for a given amount; the ranges are
-//! those of faults as jh_tables defines them.
+//! What a fault is to do to its links, with an amount that may be any integer. Whether the amount is
+//! in its range is asked here and nowhere else. `specs/Amounts.antt` says which fault of links is
+//! given; the ranges are those of faults as jh_tables defines them.
 
 ghost use Rattle.std.specs.Prelude.{◌≡◌, ◌↔◌, IfSome, IsTrue, MatchOption};
 ghost use Rattle.jh_env.specs.Amounts.{IsLinkAmount, link_fault_of};

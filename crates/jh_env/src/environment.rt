@@ -10,9 +10,9 @@ ghost use Rattle.jh_env.specs.Overlay.{StandsFor, StandsWith, KeepsStart, cells_
 ghost use Rattle.jh_env.specs.Overlay.{node_of, tables_of, work_of};
 ghost use Rattle.jh_env.specs.Faults.{FitsCount, fault_size};
 
-use crate::faults::Fault;
+use crate::faults::{Fault, MAX_BUMPED_MS, MAX_SLOWED_MS};
 use crate::names::Nodes;
-use crate::starting::Start;
+use crate::starting::{MAX_START_DELAY_MS, MAX_START_OFFSET_MS, Start};
 use jh_tables::{Link, Node, NodeCell, Tables};
 use std::alloc::{AllocError, Global};
 use std::marker::Model;
@@ -22,14 +22,14 @@ pub const MAX_LAID: usize = jh_tables::MAX_LAID;
 
 /// The most milliseconds by which a message can be late: `MAX_START_DELAY_MS` at the start, or as
 /// many by a fix, and a further `MAX_SLOWED_MS` for each of `MAX_LAID` faults.
-pub const MAX_DELAY_MS: u64 = 60_000 * 257;
+pub const MAX_DELAY_MS: u64 = MAX_START_DELAY_MS + MAX_LAID as u64 * MAX_SLOWED_MS;
 
 /// The most milliseconds by which a clock can be off, either way: `MAX_START_OFFSET_MS` at the
 /// start and a further `MAX_BUMPED_MS` for each of `MAX_LAID` faults.
-pub const MAX_OFFSET_MS: u64 = 1_000_000_000_000 + 256 * 1_000_000_000;
+pub const MAX_OFFSET_MS: u64 = MAX_START_OFFSET_MS as u64 + MAX_LAID as u64 * MAX_BUMPED_MS as u64;
 
-/// Cells of links and nodes, and what faults make of them. A contract sees the names, the starting
-/// cells, the cells now, what is kept of the faults, and how many are put.
+/// An environment: the cells of its links and nodes, and the faults that change them. A contract sees
+/// the names, the starting cells, the cells now, what is kept of the faults, and how many are laid.
 #[derive(Debug, Drop)]
 pub struct Env {
     names: Nodes,
@@ -64,8 +64,8 @@ impl Env {
         Ok(Env { names, tables })
     }
 
-    /// An environment with the same names, start and cells, in which the same faults stand, and as
-    /// often written. Takes time and memory for every cell.
+    /// An environment with the same names, start, cells and faults, and with the same count of what
+    /// was written. Takes time and memory for every cell.
     pub fn copy(&self, alloc: Global) -> Result<Env, AllocError>
         ensures { IfOk result (λ copy. copy ≡ self.now) }
     {
@@ -84,8 +84,8 @@ impl Env {
         &self.names
     }
 
-    /// The link from one node to another, where both are nodes of the environment and differ. It
-    /// goes through the fixes that stand, at most `MAX_LAID`.
+    /// The link from one node to another, where both are nodes of the environment and differ. Takes
+    /// time linear in the fixes that are laid, at most `MAX_LAID`.
     pub fn link(&self, from: Node, to: Node) -> Option<Link>
         ensures link { result ≡ link_of self.now from to }
         ensures within { IfSome result IsLinkInRange }
@@ -101,7 +101,7 @@ impl Env {
         self.tables.node(node)
     }
 
-    /// How many faults are laid, which is put and not taken off again: at most `MAX_LAID`.
+    /// How many faults are laid, that is, put and not taken off again: at most `MAX_LAID`.
     pub fn laid(&self) -> usize
         ensures { result ≡ self.now.laid }
     {

@@ -1,6 +1,6 @@
 //! Faults that name nodes of an environment, each link and node once: `specs/Faults.antt` says
-//! which of those given are kept, and `specs/Naming.antt` why a fault is refused. What a fault is
-//! and does stands in jh_tables, where a new kind is added first.
+//! which of the given links and nodes a fault keeps, and `specs/Naming.antt` why it is refused. What
+//! a fault is and does stands in jh_tables, where a new kind is added first.
 
 ghost use Rattle.std.specs.Prelude.{◌≡◌, ◌↔◌, length, false, pos, IsTrue, MatchResult, IfOk, Ok};
 ghost use Rattle.std.specs.List.{list_any};
@@ -289,7 +289,8 @@ impl Fault {
         Fault::of_bumps(alloc, nodes, bumps)
     }
 
-    /// What it does, and to what: each link or node once, and amounts in their ranges.
+    /// What the fault does, and to which links or nodes: each stands once, and amounts are in their
+    /// ranges.
     pub fn parts(&self) -> &PlainFault
         ensures parts { fault_of result.now ≡ self.now }
         ensures right { IsFault self.now }

@@ -1,7 +1,7 @@
 //! Why a fault is refused, however its links, nodes or bumps are given: an unknown node, a link of
 //! a node with itself, an amount out of its range, a node that is bumped twice. `specs/Naming.antt`
-//! has the rule. Which amounts of a fault of links are in their ranges says `amounts.rt`; memory may
-//! be refused later, while a fault is kept (`keeping.rt`).
+//! has the rule. `amounts.rt` says which amounts of a fault of links are in their ranges. Memory may
+//! be refused later, when what a fault keeps is put together (`keeping.rt`).
 
 ghost use Rattle.std.specs.Prelude.{◌≡◌, ◌==◌, [], MatchResult, Ok, Err, is_none};
 ghost use Rattle.std.specs.List.{filter_map, list_all, list_any};

@@ -12,13 +12,10 @@ ghost use Rattle.jh_env.specs.Names.{is_name_byte, node_places};
 
 use arrayvec::ArrayVec;
 use indexmap::IndexSet;
-use jh_tables::Node;
+use jh_tables::{MAX_NODES, Node};
 use std::alloc::{AllocError, Global};
 use std::marker::Model;
 use thiserror::Error;
-
-/// The most nodes.
-const MAX_NODES: usize = 64;
 
 /// The most bytes of a name.
 const MAX_NAME_BYTES: usize = 64;
@@ -180,7 +177,7 @@ impl Nodes {
     }
 
     /// All nodes, in the order of their names. Takes no memory.
-    pub fn all(&self) -> ArrayVec<Node, 64>
+    pub fn all(&self) -> ArrayVec<Node, MAX_NODES>
         ensures all { result.items ≡ node_places (length self.now) }
         ensures known { All (λ node. node < length self.now) result.items }
     {

@@ -1,6 +1,6 @@
-//! How a fault is given what it is about: nodes, their places, or values of EDN with their names.
-//! `specs/Naming.antt` says what each stands for. Another way to name a link, a node or a clock is
-//! one more `impl` here; how a fault is judged (`judging.rt`) does not change with it.
+//! The ways to name the links, nodes and clocks of a fault: by nodes, by their places, or by values
+//! of EDN with their names. `specs/Naming.antt` says what each stands for. Another way is one more
+//! `impl` here; how a fault is judged (`judging.rt`) does not change with it.
 
 ghost use Rattle.std.specs.Prelude.{◌≡◌, ◌<◌, IfSome, length, option_map};
 ghost use Rattle.jh_edn.specs.View.{view, view_pair};

@@ -5,6 +5,7 @@ ghost use Rattle.std.specs.Prelude.{◌≡◌, Some, IfOk, MatchResult};
 ghost use Rattle.jh_env.specs.Cells.{link_at, node_at};
 ghost use Rattle.jh_env.specs.Starting.{SetsLink, SetsNode, RefusesLink, RefusesNode, IsCalm};
 
+use crate::faults::MAX_LOSS;
 use crate::names::Nodes;
 use jh_tables::{Link, Node, NodeCell};
 use std::alloc::{AllocError, Global};
@@ -15,7 +16,7 @@ use thiserror::Error;
 pub const MAX_START_DELAY_MS: u64 = 60_000;
 
 /// The greatest level of loss of a link at the start.
-pub const MAX_START_LOSS: u8 = 20;
+pub const MAX_START_LOSS: u8 = MAX_LOSS;
 
 /// The most milliseconds by which a clock is off at the start, either way.
 pub const MAX_START_OFFSET_MS: i64 = 1_000_000_000_000;

@@ -110,11 +110,11 @@ impl From<StartError> for EnvTextError {
 /// The environment that a value is the text of, at its start: no cell of it has been written.
 ///
 /// Errors, in this order: `NotMap`; `UnknownKey` for a key that is none of the six; `MissingNodes`;
-/// `BadEntry` where what stands under a key does not have the key's shape; `NoNodes`, `TooManyNodes`, `BadName`,
-/// `DuplicateName` as `Nodes::of` has them; then for the first entry in error, in the order of the
-/// keys, `UnknownNode`, `SelfLink`, `BadAmount` or `RepeatedEntry`. `OutOfMemory` where memory was
-/// refused before another error was found. Where a map that no text spells has a key twice, the
-/// first of them counts.
+/// `BadEntry` where what stands under a key does not have the key's shape; `NoNodes`,
+/// `TooManyNodes`, `BadName`, `DuplicateName` as `Nodes::of` has them; then for the first entry in
+/// error, in the order of the keys, `UnknownNode`, `SelfLink`, `BadAmount` or `RepeatedEntry`.
+/// `OutOfMemory` where memory was refused before another error was found. A map that is read from a
+/// text has no key twice; in one that a program made so, the first of them counts.
 ///
 /// Takes time linear in the text: repeats are looked for among the accepted entries, of which 64
 /// nodes have at most 12,224.

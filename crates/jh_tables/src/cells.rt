@@ -11,8 +11,8 @@ pub enum Life {
     Killed,
 }
 
-/// The state of the link from one node to another: its cell in a table, as `NodeCell` is a node's.
-/// The link itself is the pair of the two nodes.
+/// What the link from one node to another is like: its cell, as `NodeCell` is that of a node. Which
+/// link it is, the pair of the two nodes says.
 #[derive(Clone, Copy, Debug, PartialEq, Eq)]
 pub struct Link {
     /// Whether nothing passes.
@@ -23,7 +23,7 @@ pub struct Link {
     pub loss: u8,
 }
 
-/// The state of a node.
+/// What a node is like: its cell.
 #[derive(Clone, Copy, Debug, PartialEq, Eq)]
 pub struct NodeCell {
     /// What its process does.

@@ -138,7 +138,7 @@ fn change_clocks(counted: &mut Counted, change: Change, bumps: &[(Node, i64)])
     }
 }
 
-/// Changes all tallies; entries of fixes are another matter.
+/// Changes the tallies of all that a fault names. `change_entries` changes the entries of fixes.
 pub(crate) fn change_tallies(counted: &mut Counted, change: Change, fault: &PlainFault)
     requires fits { FitsCount (length counted.old.nodes) (fault_of fault.now) }
     requires right { IsFault (fault_of fault.now) }

@@ -12,17 +12,19 @@ ghost use Rattle.jh_tables.specs.Tallies.{running_tally, with_free_entries};
 ghost use Rattle.jh_tables.specs.ChangingInside.{one_if, written_tallies, IsThere};
 
 use crate::cells::{Link, NodeCell};
+use crate::tables::MAX_LAID;
 use std::alloc::{AllocError, Global};
 use std::marker::Model;
 
 /// How many levels of loss there are.
 pub const LEVELS: usize = 20;
 
-/// The most nodes, and the bits of a word.
+/// The most nodes that tables have: as many as a `u64` has bits, so that one has a bit for each
+/// node.
 pub const MAX_NODES: usize = 64;
 
-/// How many fixes there is room for.
-pub const MAX_FIXES: usize = 256;
+/// How many fixes there is room for: one for each fault that can be laid.
+pub const MAX_FIXES: usize = MAX_LAID;
 
 /// What is kept of a link.
 #[derive(Clone, Copy, Debug, PartialEq, Eq)]
@@ -50,14 +52,15 @@ pub struct NodeTally {
     pub bumped_ms: i64,
 }
 
-/// A fix of delays that is put.
+/// A fixed delay, with the links that have it.
 #[derive(Clone, Copy, Debug, PartialEq, Eq)]
 pub struct FixEntry {
     /// The stamp that it was put with.
     pub stamp: u32,
     /// The delay, in milliseconds.
     pub ms: u64,
-    /// A bit for each link: in the word of its source the bit of its destination.
+    /// For each node a number, whose bits stand for the links from it: the bit at the place of the
+    /// destination is 1 where the fix is of that link.
     pub links: [u64; MAX_NODES],
 }
 

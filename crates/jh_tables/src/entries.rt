@@ -151,8 +151,8 @@ fn place_of_stamp(entries: &[Option<FixEntry>], likely: usize, stamp: u32) -> Op
     }
 }
 
-/// Puts a fix in an entry that is free. The one behind those in use is, unless one before them was
-/// taken.
+/// Writes a fix into a free entry. The search begins behind as many entries as are in use, which is
+/// a free one unless a fix before it was taken off.
 fn put_fix(counted: &mut Counted, fix: FixEntry)
     requires { count_by is_some counted.old.fixes < length counted.old.fixes }
     ensures { IsEntryPut fix counted.old counted.new }

@@ -13,6 +13,7 @@ mod reading;
 mod tables;
 
 pub use cells::{Life, Link, NodeCell};
+pub use counted::MAX_NODES;
 pub use faults::{LinkFault, NodeFault, PlainFault};
 pub use laws::limits;
 pub use nodes::Node;

@@ -22,7 +22,7 @@ use crate::reading::{link_now, node_now};
 use std::alloc::{AllocError, Global};
 use std::marker::Model;
 
-/// The most faults that can be put and not taken.
+/// The most faults that can be laid at once: put and not taken off again.
 pub const MAX_LAID: usize = 256;
 
 /// Cells of links and nodes, and what is put on them.
@@ -73,7 +73,7 @@ impl Tables {
         })
     }
 
-    /// How many nodes there are, at most 64.
+    /// How many nodes there are, at most `MAX_NODES`.
     pub fn count(&self) -> usize
         ensures count { result ≡ length self.now.start.nodes }
         ensures few { result ≤ max_nodes }
@@ -140,7 +140,7 @@ impl Tables {
         self.laid -= 1;
     }
 
-    /// How many faults are put and not taken, at most 256.
+    /// How many faults are laid, that is, put and not taken off again: at most `MAX_LAID`.
     pub fn laid(&self) -> usize
         ensures { result ≡ self.now.laid }
     {
@@ -156,7 +156,7 @@ impl Tables {
     }
 }
 
-/// Changes all that a fault touches.
+/// Changes the tallies of what a fault names, and the entries of fixes.
 fn change_all(counted: &mut Counted, change: Change, fault: &PlainFault, stamp: u32)
     requires fits { FitsCount (length counted.old.nodes) (fault_of fault.now) }
     requires few { length counted.old.nodes ≤ max_nodes }
