@@ -68,6 +68,23 @@ pub fn sorted_values(
     in_normal_order(values)
 }
 
+/// Puts the values last, each in normal form.
+///
+/// Errors: where memory runs out.
+pub fn push_normal(
+    alloc: Global,
+    items: &[Value],
+    values: &mut Vec<Value>,
+) -> Result<(), AllocError>
+    ensures { OnOk result (views values.new.items
+        ≡ views values.old.items ++ map normal (views items.now)) }
+{
+    for item in items {
+        values.push(item.normal(alloc)?)?;
+    }
+    Ok(())
+}
+
 /// The values in normal form and in normal order.
 ///
 /// Errors: where memory runs out.
@@ -79,8 +96,6 @@ pub fn sorted_normal(alloc: Global, items: &[Value]) -> Result<Vec<Value>, Alloc
     ensures ascends { IfOk result (λ values. Ascends (views values.items)) }
 {
     let mut values = Vec::new(alloc);
-    for item in items {
-        values.push(item.normal(alloc)?)?;
-    }
+    push_normal(alloc, items, &mut values)?;
     in_normal_order(values)
 }

@@ -17,7 +17,7 @@ mod tally_lines;
 mod totals;
 mod verdict;
 
-pub use asked::{in_normal_order, sorted_normal, sorted_values};
+pub use asked::{in_normal_order, push_normal, sorted_normal, sorted_values};
 pub use counter::{CounterResult, ReadBounds, Reads, check_counter, read_ends};
 pub use distinct::{each_once, is_among, is_same, selected};
 pub use error::CheckError;

@@ -57,7 +57,7 @@ fn marks_of(alloc: Global, count: usize, reads: &[Pair]) -> Result<Vec<Option<us
     Ok(marks)
 }
 
-/// The latest of what stands before each.
+/// For each index the latest of the places that stand before it.
 fn latest_before(alloc: Global, marks: &[Option<usize>]) -> Result<Vec<Option<usize>>, AllocError>
     ensures long { IfOk result (λ table. vec_len table ≡ length marks.now) }
     ensures table { IfOk result (λ table. (near : ℕ) → near < length marks.now
@@ -72,8 +72,8 @@ fn latest_before(alloc: Global, marks: &[Option<usize>]) -> Result<Vec<Option<us
     Ok(table)
 }
 
-/// Where the last of the reads was invoked that completes nearer to the end of so many records, for
-/// each distance.
+/// For each distance from the end of so many records: where the last read was invoked, of those that
+/// completed nearer to the end.
 pub(crate) fn newest(
     alloc: Global,
     count: usize,

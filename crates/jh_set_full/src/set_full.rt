@@ -2,7 +2,6 @@
 
 ghost use Rattle.std.specs.Prelude.{◌≡◌, ◌∷◌, [], ◌++◌, All, IfOk, MatchResult, OnOk, cond, filter, length};
 ghost use Rattle.std.specs.Prelude.{map, reverse};
-ghost use Rattle.jh_edn.specs.Normal.{normal};
 ghost use Rattle.jh_edn.specs.View.{view, views};
 ghost use Rattle.jh_ops.specs.Operation.{operations};
 ghost use Rattle.jh_ops.specs.Pairing.{IsPairWithin};
@@ -20,7 +19,8 @@ use crate::shown::{first_bad_read, shown};
 use crate::spots::{Spot, State, Tables, most_shown, spot_of, tables_of};
 use crate::stale::{Stale, Stales};
 use jh_check::{
-    CheckError, Counted, Tally, Verdict, each_once, in_normal_order, push_repeated, sorted_values,
+    CheckError, Counted, Tally, Verdict, each_once, in_normal_order, push_normal, push_repeated,
+    sorted_values,
 };
 use jh_edn::{Value, Values};
 use jh_ops::{Kind, Op, Pair, pair};
@@ -62,7 +62,7 @@ fn push_wanted(
     Ok(())
 }
 
-/// The elements of which this is found.
+/// Those of the elements that are so: stable, lost, never read or stale.
 fn elements_in(
     alloc: Global,
     state: State,
@@ -158,17 +158,6 @@ fn with_staleness(
     Ok(found)
 }
 
-/// Puts the values last, in normal form.
-fn push_normal(alloc: Global, items: &[Value], values: &mut Vec<Value>) -> Result<(), AllocError>
-    ensures { OnOk result (views values.new.items
-        ≡ views values.old.items ++ map normal (views items.now)) }
-{
-    for item in items {
-        values.push(item.normal(alloc)?)?;
-    }
-    Ok(())
-}
-
 /// The elements that reads show, each once.
 fn elements_shown(alloc: Global, history: &[Op], pairs: &[Pair]) -> Result<Vec<Value>, AllocError>
     ensures { IfOk result (λ values. views values.items
@@ -196,7 +185,7 @@ fn repeated(alloc: Global, tables: &Tables, elements: &[Value]) -> Result<Vec<Co
     Ok(found)
 }
 
-/// The verdict where so many elements are so.
+/// The verdict where so many elements are lost, duplicated, stale and stable.
 fn verdict_of(
     linearizable: bool,
     lost: usize,

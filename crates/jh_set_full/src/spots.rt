@@ -40,9 +40,9 @@ pub(crate) struct Spot {
     pub(crate) known: Option<usize>,
     /// Where the last read was invoked that has it.
     pub(crate) present: Option<usize>,
-    /// Where the last read of all was invoked that lacks it.
+    /// Where the last read was invoked that lacks it, of all reads of the history.
     pub(crate) missed: Option<usize>,
-    /// Where the last read was invoked that completed behind its add was invoked.
+    /// Where the last read was invoked, of those that completed behind the invocation of its add.
     pub(crate) newest: Option<usize>,
 }
 
@@ -56,21 +56,21 @@ pub(crate) enum State {
 }
 
 impl Spot {
-    /// Whether every read has it that was invoked behind some place.
+    /// Whether it is stable: behind some place every read that is invoked has it.
     fn is_stable(self) -> bool
         ensures { result ≡ inside.is_stable_spot self }
     {
         same_place(self.present, self.newest)
     }
 
-    /// Whether a read lacks it that was invoked when it was known to be there.
+    /// Whether some read lacks it, though it was known to be there when that read was invoked.
     fn is_missed(self) -> bool
         ensures { result ≡ inside.is_missed_spot self }
     {
         self.known.is_some() && is_before(self.known, self.missed)
     }
 
-    /// Whether no read has it that was invoked behind that one.
+    /// Whether it is lost: such a read lacks it, and no read that was invoked later has it.
     fn is_lost(self) -> bool
         ensures { result ≡ inside.is_lost_spot self }
     {
@@ -130,7 +130,7 @@ pub(crate) fn tables_of(
     })
 }
 
-/// Where an operation completed ok.
+/// The place where an operation completed, if it is `:ok`.
 fn ok_end(history: &[Op], pair: Pair) -> Option<usize>
     ensures { result ≡ rule.ok_end (operations history.now) pair }
 {
@@ -141,7 +141,7 @@ fn ok_end(history: &[Op], pair: Pair) -> Option<usize>
     }
 }
 
-/// Where the operation completed, if it did so behind a place.
+/// The place where an operation completed, if that is behind the given one.
 fn end_behind(place: usize, pair: Pair) -> Option<usize>
     ensures { result ≡ inside.end_behind place pair }
 {
@@ -152,7 +152,7 @@ fn end_behind(place: usize, pair: Pair) -> Option<usize>
     }
 }
 
-/// Where the operation was invoked, if it completed behind a place.
+/// The place where an operation was invoked, if it completed behind the given one.
 fn invoke_behind(place: usize, pair: Pair) -> Option<usize>
     ensures { result ≡ inside.invoke_behind place pair }
 {
@@ -163,7 +163,8 @@ fn invoke_behind(place: usize, pair: Pair) -> Option<usize>
     }
 }
 
-/// Where an element was known to be there that this operation added, by the reads that show it.
+/// The place from which on an element is known to be there: the first completion of its add, or of a
+/// read that shows it and completed behind the invocation of the add.
 fn known_since(history: &[Op], add: Pair, shown: &[Sighting]) -> Option<usize>
     ensures { result ≡ least (cons_option (rule.ok_end (operations history.now) add)
         (map end_place (filter (is_later add.invoke) (sighted_pairs shown.now)))) }
@@ -175,7 +176,8 @@ fn known_since(history: &[Op], add: Pair, shown: &[Sighting]) -> Option<usize>
     known
 }
 
-/// Where the last of these was invoked of those that completed behind a place.
+/// The place where the last of these operations was invoked, of those that completed behind the given
+/// place.
 fn present_since(place: usize, shown: &[Sighting]) -> Option<usize>
     ensures { result ≡ greatest_of (map invoke_place (filter (is_later place) (sighted_pairs shown.now))) }
 {
@@ -186,7 +188,7 @@ fn present_since(place: usize, shown: &[Sighting]) -> Option<usize>
     present
 }
 
-/// Where the one at a place was invoked.
+/// The place where the operation at an index of these was invoked, if there is one.
 fn next_invoked(shown: &[Sighting], place: usize) -> Option<usize>
     ensures { result ≡ option_map (λ s. s.pair.invoke) (slice_get shown.now place) }
 {
@@ -196,9 +198,10 @@ fn next_invoked(shown: &[Sighting], place: usize) -> Option<usize>
     }
 }
 
-/// Where the first of the reads was invoked that is not the next of those that show an element.
+/// The place where the first of all reads was invoked that does not show an element. Those that show
+/// it stand in the same order, so it is the first at which the two lists differ.
 ///
-/// Takes as many steps as those are, and one more.
+/// Takes as many steps as reads show the element, and one more.
 fn first_lacking(reads: &[Pair], shown: &[Sighting]) -> Option<usize>
     ensures { result ≡ inside.first_lacking reads.now (sighted_pairs shown.now) }
 {
@@ -210,7 +213,7 @@ fn first_lacking(reads: &[Pair], shown: &[Sighting]) -> Option<usize>
     None
 }
 
-/// Where the last read was invoked that completed behind a place.
+/// The place where the last read was invoked, of those that completed behind the given place.
 fn newest_behind(table: &[Option<usize>], place: usize) -> Option<usize>
     requires { place < length table.now }
     ensures { result ≡ get_or table.now (length table.now - 1 - place) None }

@@ -1,7 +1,6 @@
 //! What came out of a queue. `specs/TotalQueue.antt` has the rule.
 
-ghost use Rattle.std.specs.Prelude.{◌≡◌, ◌++◌, IfOk, OnOk, map, position};
-ghost use Rattle.jh_edn.specs.Normal.{normal};
+ghost use Rattle.std.specs.Prelude.{◌≡◌, IfOk, position};
 ghost use Rattle.jh_edn.specs.Order.{in_order, is_below};
 ghost use Rattle.jh_edn.specs.View.{view, views};
 ghost use Rattle.jh_ops.specs.Operation.{operation, operations};
@@ -9,7 +8,7 @@ ghost use Rattle.jh_check.specs.Distinct.{Ascends};
 ghost use Rattle.jh_total_queue.specs.TotalQueue as rule;
 ghost use Rattle.jh_total_queue.specs.TotalQueue.{dequeues};
 
-use jh_check::in_normal_order;
+use jh_check::{in_normal_order, push_normal};
 use jh_edn::Value;
 use jh_ops::{Kind, Op};
 use std::alloc::{AllocError, Global};
@@ -62,17 +61,6 @@ pub fn taken_by(op: &Op) -> &[Value]
         Some(elements) => elements,
         None => &[],
     }
-}
-
-/// Puts the values last, in normal form.
-fn push_normal(alloc: Global, items: &[Value], values: &mut Vec<Value>) -> Result<(), AllocError>
-    ensures { OnOk result (views values.new.items
-        ≡ views values.old.items ++ map normal (views items.now)) }
-{
-    for item in items {
-        values.push(item.normal(alloc)?)?;
-    }
-    Ok(())
 }
 
 /// What is known to have been taken out, in normal form and in normal order.
