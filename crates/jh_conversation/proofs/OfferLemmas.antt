@@ -8,7 +8,7 @@ use Rattle.jh_gen.specs.DriverState.{Answers, AskedAnswers, DriverState, EndKeep
 use Rattle.jh_gen.specs.DriverState.{all_threads, asked, driver_after_end, max_calls, question_by}
 use Rattle.jh_gen.specs.Generator.{Generator, clients, limit}
 use Rattle.jh_gen.specs.Offers.{offer}
-use Rattle.jh_gen.specs.Tally.{Tally}
+use Rattle.jh_gen.specs.Trace.{Trace}
 use Rattle.jh_gen.specs.declared.answers.Ended.{Ended}
 use Rattle.jh_gen.specs.declared.answers.GenAnswer.{GenAnswer}
 use Rattle.jh_gen.specs.declared.answers.GenAnswer.TheVariants.{Call, Done, Pending}
@@ -38,9 +38,9 @@ no_final t (Some g) = ([], tt)
 module _ (asked_answers : AskedAnswers) (end_keeps : EndKeepsGenerator) (t : TestValue) where
   -- Calls are offers of a generator; while its driver has more to give, it stands behind them.
   record Source (spent : Bool) (d : DriverState) (g : Generator) (calls : List (ℕ × Request)) : Type 0 where
-    tally : Tally
-    offers : AreOffers g t.clients tally calls
-    stands : spent ≡ false → IsDriverOf d g tally
+    trace : Trace
+    offers : AreOffers g t.clients trace calls
+    stands : spent ≡ false → IsDriverOf d g trace
 
   record FinalSource (spent : Bool) (d : DriverState) (calls : List (ℕ × Request)) : Type 0 where
     g : Generator
@@ -73,20 +73,20 @@ module _ (asked_answers : AskedAnswers) (end_keeps : EndKeepsGenerator) (t : Tes
   SourceAfter g calls n (Call p (call.Step place)) e = (e.clients ≡ t.clients) × Source true e g calls
 
   spent_source : (b : Bool) (d e : DriverState) (g : Generator) (calls : List (ℕ × Request)) → Source b d g calls → Source true e g calls
-  spent_source b d e g calls s = record { tally = s.tally; offers = s.offers; stands = λ no. absurd (false≢true (sym no)) }
+  spent_source b d e g calls s = record { trace = s.trace; offers = s.offers; stands = λ no. absurd (false≢true (sym no)) }
 
   answered : (d : DriverState) (g : Generator) (calls : List (ℕ × Request)) (n w : ℕ) → d.clients ≡ t.clients → (s : Source false d g calls)
-      → (answer : GenAnswer) (e : DriverState) → Answers g s.tally d (thread.Client n) w answer e → SourceAfter g calls n answer e
+      → (answer : GenAnswer) (e : DriverState) → Answers g s.trace d (thread.Client n) w answer e → SourceAfter g calls n answer e
   answered d g calls n w is s Done e a = (ap (λ (x : DriverState). x.clients) a.1 ∙ is, spent_source false d e g calls s)
   answered d g calls n w is s Pending e a = (
     ap (λ (x : DriverState). x.clients) a.2 ∙ is,
-    record { tally = s.tally; offers = s.offers; stands = λ no. subst (λ x. IsDriverOf x g s.tally) (sym a.2) (s.stands refl) },
+    record { trace = s.trace; offers = s.offers; stands = λ no. subst (λ x. IsDriverOf x g s.trace) (sym a.2) (s.stands refl) },
   )
   answered d g calls n w is s (Call p (call.Client request)) e a =
       let path = a.2 in
-      let offers = subst (λ k. offer g s.tally (all_threads k) (question_by d (thread.Client n) w) ≡ Some (path, call.Client request)) is a.3 in (
+      let offers = subst (λ k. offer g s.trace (all_threads k) (question_by d (thread.Client n) w) ≡ Some (path, call.Client request)) is a.3 in (
         a.4.clients ∙ is,
-        record { tally = path ∷ s.tally; offers = (question_by d (thread.Client n) w, refl, offers, s.offers); stands = λ no. a.4.stands },
+        record { trace = path ∷ s.trace; offers = (question_by d (thread.Client n) w, refl, offers, s.offers); stands = λ no. a.4.stands },
       )
   answered d g calls n w is s (Call p (call.Step place)) e a = (a.4.clients ∙ is, spent_source false d e g calls s)
 
@@ -96,7 +96,7 @@ module _ (asked_answers : AskedAnswers) (end_keeps : EndKeepsGenerator) (t : Tes
       cond_both (nat_le max_calls d.given) (Done, d) (asked d (thread.Client n) w) (λ a. SourceAfter g calls n a.0 a.1)
       (λ _. (is, spent_source false d d g calls s))
       (λ _. answered d g calls n w is s (asked d (thread.Client n) w).0 (asked d (thread.Client n) w).1
-      (asked_answers d (thread.Client n) w g s.tally (s.stands refl) (omega (arith, within, is))))
+      (asked_answers d (thread.Client n) w g s.trace (s.stands refl) (omega (arith, within, is))))
 
   abbrev PartAfter : Phase → Option DriverState → List (ℕ × Request) → ℕ → GenAnswer → DriverState → Type 0
   PartAfter phase final_calls calls n Pending e = (e.clients ≡ t.clients) × Part phase false e final_calls calls
@@ -147,7 +147,7 @@ module _ (asked_answers : AskedAnswers) (end_keeps : EndKeepsGenerator) (t : Tes
   answer_offers m n within unspent (Call p (call.Step place)) h = h
 
   source_ended : (spent : Bool) (d : DriverState) (x : Thread) (end : Ended) (g : Generator) (calls : List (ℕ × Request)) → Source spent d g calls → Source spent (driver_after_end d x end) g calls
-  source_ended spent d x end g calls s = record { tally = s.tally; offers = s.offers; stands = λ more. end_keeps d x end g s.tally (s.stands more) }
+  source_ended spent d x end g calls s = record { trace = s.trace; offers = s.offers; stands = λ more. end_keeps d x end g s.trace (s.stands more) }
 
   part_ended : (phase : Phase) (spent : Bool) (d : DriverState) (x : Thread) (end : Ended) (final_calls : Option DriverState) (calls : List (ℕ × Request)) → Part phase spent d final_calls calls
       → Part phase spent (driver_after_end d x end) final_calls calls
@@ -158,7 +158,7 @@ module _ (asked_answers : AskedAnswers) (end_keeps : EndKeepsGenerator) (t : Tes
   part_ended Over spent d x end final_calls calls h = h
 
   all_of_main : (spent : Bool) (d : DriverState) (final_calls : Option DriverState) (calls : List (ℕ × Request)) → MainPart spent d final_calls calls → AreAllOffers t calls
-  all_of_main spent d final_calls calls h = record { final = []; main = calls; split = refl; of_main = (h.0.tally, h.0.offers); of_final = no_final t t.final_calls }
+  all_of_main spent d final_calls calls h = record { final = []; main = calls; split = refl; of_main = (h.0.trace, h.0.offers); of_final = no_final t t.final_calls }
 
   all_offers : (phase : Phase) (spent : Bool) (d : DriverState) (final_calls : Option DriverState) (calls : List (ℕ × Request)) → Part phase spent d final_calls calls → AreAllOffers t calls
   all_offers Main spent d final_calls calls h = all_of_main spent d final_calls calls h
@@ -169,14 +169,14 @@ module _ (asked_answers : AskedAnswers) (end_keeps : EndKeepsGenerator) (t : Tes
     main = h.main;
     split = h.split;
     of_main = h.of_main;
-    of_final = subst (λ o. AreFinalCalls t o h.final) (sym h.is) (h.source.tally, h.source.offers);
+    of_final = subst (λ o. AreFinalCalls t o h.final) (sym h.is) (h.source.trace, h.source.offers);
   }
   all_offers Over spent d final_calls calls h = h
 
   main_offers : (phase : Phase) (spent : Bool) (d : DriverState) (final_calls : Option DriverState) (calls : List (ℕ × Request)) → IsBeforeFinal phase → Part phase spent d final_calls calls → AreCallsOf t t.generator calls
-  main_offers Main spent d final_calls calls before h = (h.0.tally, h.0.offers)
-  main_offers Heal spent d final_calls calls before h = (h.0.tally, h.0.offers)
-  main_offers Rest spent d final_calls calls before h = (h.0.tally, h.0.offers)
+  main_offers Main spent d final_calls calls before h = (h.0.trace, h.0.offers)
+  main_offers Heal spent d final_calls calls before h = (h.0.trace, h.0.offers)
+  main_offers Rest spent d final_calls calls before h = (h.0.trace, h.0.offers)
   main_offers Final spent d final_calls calls before h = absurd before
   main_offers Over spent d final_calls calls before h = absurd before
 
@@ -185,7 +185,7 @@ module _ (asked_answers : AskedAnswers) (end_keeps : EndKeepsGenerator) (t : Tes
   final_calls_stand None driver calls is h main = absurd h
   final_calls_stand (Some g) driver calls is h main = (
     h.1.clients_is,
-    record { g = g; is = is; final = []; main = calls; split = refl; of_main = main; source = record { tally = []; offers = tt; stands = λ no. h.0 } },
+    record { g = g; is = is; final = []; main = calls; split = refl; of_main = main; source = record { trace = []; offers = tt; stands = λ no. h.0 } },
   )
 
   offered_in_turn : IsKeptInTurn t Offered
@@ -206,7 +206,7 @@ module _ (asked_answers : AskedAnswers) (end_keeps : EndKeepsGenerator) (t : Tes
     ends_rest = λ m is h. (h.0, all_offers m.phase m.has_spent m.driver m.final_calls (given_calls t m.history) h.1);
     finals = λ m driver is f h.
         let main = subst (λ p. Part p m.has_spent m.driver m.final_calls (given_calls t m.history)) is h.1 in
-        final_calls_stand t.final_calls driver (given_calls t m.history) refl (subst (IsFinalDriver t t.final_calls) f main.1) (main.0.tally, main.0.offers);
+        final_calls_stand t.final_calls driver (given_calls t m.history) refl (subst (IsFinalDriver t t.final_calls) f main.1) (main.0.trace, main.0.offers);
     ends_final = λ m is e h. (h.0, all_offers m.phase m.has_spent m.driver m.final_calls (given_calls t m.history) h.1);
   }
 
@@ -223,7 +223,7 @@ module _ (asked_answers : AskedAnswers) (end_keeps : EndKeepsGenerator) (t : Tes
   offered : (d : Drivers t) (lines : List (List ℕ)) → Offered (run t d lines)
   offered d lines =
       kept_run t d Offered offered_in_turn offered_by_line lines
-      (d.is_first.1.clients_is, (record { tally = []; offers = tt; stands = λ no. d.is_first.0 }, d.is_final))
+      (d.is_first.1.clients_is, (record { trace = []; offers = tt; stands = λ no. d.is_first.0 }, d.is_final))
 
 pub calls_offered : AskedAnswers → EndKeepsGenerator → CallsAreOffers
 calls_offered asked_answers end_keeps t d lines =

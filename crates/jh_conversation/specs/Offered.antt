@@ -5,7 +5,7 @@ use Rattle.jh_gen.specs.DriverState.{all_threads}
 use Rattle.jh_gen.specs.Generator.{Generator, clients, limit}
 use Rattle.jh_gen.specs.Offers.{offer}
 use Rattle.jh_gen.specs.Scope.{Question}
-use Rattle.jh_gen.specs.Tally.{Tally}
+use Rattle.jh_gen.specs.Trace.{Trace}
 use Rattle.jh_ops.specs.declared.call.Call.TheVariants as call
 use Rattle.jh_ops.specs.declared.call.Request.{Request}
 use Rattle.jh_conversation.specs.Laws.{Drivers, IsBeforeFinal, run}
@@ -21,18 +21,18 @@ given_calls t (Invoked time process node asked ∷ past) =
 given_calls t (_ ∷ past) = given_calls t past
 
 -- Each call is what the generator offers to its thread behind the calls before it, the newest first. The
--- tally has by which path each of them was given.
-abbrev pub AreOffers : Generator → ℕ → Tally → List (ℕ × Request) → Type 0
+-- trace has by which path each of them was given.
+abbrev pub AreOffers : Generator → ℕ → Trace → List (ℕ × Request) → Type 0
 AreOffers g threads [] [] = Unit {0}
-AreOffers g threads (path ∷ tally) (given ∷ past) =
+AreOffers g threads (path ∷ trace) (given ∷ past) =
     (q : Question) × (q.asker ≡ given.0 + 1)
-    × (offer g tally (all_threads threads) q ≡ Some (path, call.Client given.1))
-    × AreOffers g threads tally past
+    × (offer g trace (all_threads threads) q ≡ Some (path, call.Client given.1))
+    × AreOffers g threads trace past
 AreOffers g threads _ _ = ⊥
 
 -- Calls are offers of a test's generator, of which client threads alone are given at most so many.
 abbrev pub AreCallsOf : TestValue → Generator → List (ℕ × Request) → Type 0
-AreCallsOf t g calls = (tally : Tally) × AreOffers (clients (limit t.ops g)) t.clients tally calls
+AreCallsOf t g calls = (trace : Trace) × AreOffers (clients (limit t.ops g)) t.clients trace calls
 
 abbrev pub AreFinalCalls : TestValue → Option Generator → List (ℕ × Request) → Type 0
 AreFinalCalls t None calls = calls ≡ []

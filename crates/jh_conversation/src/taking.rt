@@ -300,7 +300,7 @@ impl Machine {
 
     /// Counts a line that was read; what was said is what is said to it. It waits for nothing.
     ///
-    /// Error: 2^64 - 1 lines were read, which comes out as want of memory.
+    /// Error: 2^64 - 1 lines were read, which is told as out of memory.
     fn listen(&mut self) -> Result<(), AllocError>
         ensures { OnOk result (self.new ≡ rule.listen self.old) }
     {

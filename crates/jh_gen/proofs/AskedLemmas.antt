@@ -1,8 +1,8 @@
--- What a driver answers by its state alone is what its generator offers after its tally.
+-- What a driver answers by its state alone is what its generator offers after its trace.
 use Rattle.std.proofs.Common.{◌≡◌, ℕ, ◌+◌, true, false, refl, sym, ap, Some, None, set}
 use Rattle.std.specs.Prelude.{if◌then◌else◌}
 use Rattle.jh_gen.specs.Generator.{Generator}
-use Rattle.jh_gen.specs.Tally.{Tally}
+use Rattle.jh_gen.specs.Trace.{Trace}
 use Rattle.jh_gen.specs.State.{GeneratorState, Taking, is_done, taking, taken_call, rest_of}
 use Rattle.jh_gen.specs.DriverState.{DriverState, IsDriverOf, Answers, IsKnown, thread_number, question_by, next_process, answer_by, asked, driver_after_end}
 use Rattle.jh_gen.specs.declared.answers.Thread.{Thread}
@@ -10,7 +10,7 @@ use Rattle.jh_gen.specs.declared.answers.Ended.{Ended}
 use Rattle.jh_gen.specs.declared.answers.GenAnswer.TheVariants as answer
 use Rattle.jh_gen.proofs.DriverLemmas.{answers_done, answers_pending, Gave, answers_call}
 
-module _ (d : DriverState) (x : Thread) (random_number : ℕ) (g : Generator) (t : Tally) (stands : IsDriverOf d g t) (known : IsKnown d x) where
+module _ (d : DriverState) (x : Thread) (random_number : ℕ) (g : Generator) (t : Trace) (stands : IsDriverOf d g t) (known : IsKnown d x) where
   by_taking : (took : Taking GeneratorState) → taking d.state (question_by d x random_number) ≡ took → is_done d.state ≡ false
       → Answers g t d x random_number (answer_by d x took).0 (answer_by d x took).1
   by_taking None is unspent = answers_pending d d x random_number known unspent (ap taken_call is) refl g t stands
@@ -38,5 +38,5 @@ module _ (d : DriverState) (x : Thread) (random_number : ℕ) (g : Generator) (t
         | false ↦ λ unspent. by_taking (taking d.state (question_by d x random_number)) refl unspent
       ]) refl
 
-pub end_kept : (d : DriverState) (x : Thread) (end : Ended) (g : Generator) (t : Tally) → IsDriverOf d g t → IsDriverOf (driver_after_end d x end) g t
+pub end_kept : (d : DriverState) (x : Thread) (end : Ended) (g : Generator) (t : Trace) → IsDriverOf d g t → IsDriverOf (driver_after_end d x end) g t
 end_kept d x end g t stands = record { left = stands.left; count = stands.count }

@@ -1,10 +1,10 @@
--- What a driver does where it stands for a generator after a tally.
+-- What a driver does where it stands for a generator after a trace.
 use Rattle.std.proofs.Common.{◌≡◌, refl, sym, ap, ap₂, ◌∙◌, ℕ, zero, suc, ◌+◌, ◌-◌, ◌<◌, ◌≤◌, inl, inr, Bool, true, false, not, ◌&&◌, ◌||◌, List, [], ◌∷◌, length, arith, get_or, set, ◌++◌, append_assoc}
 use Rattle.std.specs.Prelude.{◌==◌, nat_le, None, Some}
 use Rattle.std.proofs.lemmas.Bool.{eq-eqb, ne_eqb, or_left, or_right, and_from, and_parts, leb-true, le-leb, cases_eq}
 use Rattle.jh_ops.specs.declared.call.Call.{Call}
 use Rattle.jh_gen.specs.Generator.{Generator, nothing, once, rising, forever, seq, limit, mix, phases, reserve, each_thread, clients, nemesis_only, Generators, no_generators, generator, ShareList, no_shares, share}
-use Rattle.jh_gen.specs.Tally.{Path, Tally}
+use Rattle.jh_gen.specs.Trace.{Path, Trace}
 use Rattle.jh_gen.specs.Scope.{Scope, Question, is_in_scope}
 use Rattle.jh_gen.specs.Offers.{Offer, is_exhausted, offer}
 use Rattle.jh_gen.specs.Fits.{fits, all_fit, shares_fit, shares_sum}
@@ -14,7 +14,7 @@ use Rattle.jh_gen.specs.declared.answers.Thread.{Thread}
 use Rattle.jh_ops.specs.declared.operation.Process.{Process}
 use Rattle.jh_gen.specs.declared.answers.GenAnswer.TheVariants as answer
 use Rattle.jh_gen.specs.declared.answers.GenAnswer.TheVariants.{Pending, Done}
-use Rattle.jh_gen.proofs.TallyLemmas.{is_distinct}
+use Rattle.jh_gen.proofs.TraceLemmas.{is_distinct}
 use Rattle.jh_gen.proofs.ExhaustedLemmas.{done_of}
 use Rattle.jh_gen.proofs.TakingLemmas.{with_left, taken_is}
 
@@ -36,12 +36,12 @@ distinct_threads first (suc n) =
     and_from (not (is_in_scope (threads_from (first + 1) n) first)) _ (ap not (below_threads (first + 1) n first (omega arith))) (distinct_threads (first + 1) n)
 
 -- what is taken from what is left
-pub taken_here : (number : ℕ) (s : GeneratorState) (g : Generator) (t : Tally) (q : Question) → s ≡ state_left g t (all_threads number) → q.asker ≤ number → taking s q ≡ with_left (λ p. state_left g (p ∷ t) (all_threads number)) (offer g t (all_threads number) q)
+pub taken_here : (number : ℕ) (s : GeneratorState) (g : Generator) (t : Trace) (q : Question) → s ≡ state_left g t (all_threads number) → q.asker ≤ number → taking s q ≡ with_left (λ p. state_left g (p ∷ t) (all_threads number)) (offer g t (all_threads number) q)
 taken_here number s g t q e le =
     ap (λ r. taking r q) e ∙ taken_is g t (all_threads number) q (distinct_threads 0 (suc number)) (in_threads 0 (suc number) q.asker (omega arith) (omega arith))
 
 -- done, or not
-pub spent_here : (number : ℕ) (s : GeneratorState) (g : Generator) (t : Tally) (b : Bool) → s ≡ state_left g t (all_threads number) → is_done s ≡ b → is_exhausted g t (all_threads number) ≡ b
+pub spent_here : (number : ℕ) (s : GeneratorState) (g : Generator) (t : Trace) (b : Bool) → s ≡ state_left g t (all_threads number) → is_done s ≡ b → is_exhausted g t (all_threads number) ≡ b
 spent_here number s g t b e h = sym (done_of g t (all_threads number)) ∙ ap is_done (sym e) ∙ h
 
 offer_none : {X : Type 0} (left : Path → X) (o : Offer) → taken_call (with_left left o) ≡ None → o ≡ None
@@ -49,7 +49,7 @@ offer_none left None h = refl
 offer_none left (Some r) h = absurd cc
 
 -- no call
-pub pending_here : (number : ℕ) (s : GeneratorState) (g : Generator) (t : Tally) (q : Question) → s ≡ state_left g t (all_threads number) → q.asker ≤ number → taken_call (taking s q) ≡ None → offer g t (all_threads number) q ≡ None
+pub pending_here : (number : ℕ) (s : GeneratorState) (g : Generator) (t : Trace) (q : Question) → s ≡ state_left g t (all_threads number) → q.asker ≤ number → taken_call (taking s q) ≡ None → offer g t (all_threads number) q ≡ None
 pending_here number s g t q e le h = offer_none _ _ (sym (ap taken_call (taken_here number s g t q e le)) ∙ h)
 
 pub record Given (o : Offer) (c : Call) (r : GeneratorState) (left : Path → GeneratorState) : Type 0 where
@@ -62,7 +62,7 @@ offer_some left None c s h = absurd cc
 offer_some left (Some r) c s h = record { path = r.0; offered = let e : r.1 ≡ c = cc in ap (λ k. Some (r.0, k)) e; rest = refl }
 
 -- a call
-pub given_here : (number : ℕ) (s r : GeneratorState) (g : Generator) (t : Tally) (q : Question) (c : Call) → s ≡ state_left g t (all_threads number) → q.asker ≤ number → taken_call (taking s q) ≡ Some c → r ≡ rest_of s (taking s q) → Given (offer g t (all_threads number) q) c r (λ p. state_left g (p ∷ t) (all_threads number))
+pub given_here : (number : ℕ) (s r : GeneratorState) (g : Generator) (t : Trace) (q : Question) (c : Call) → s ≡ state_left g t (all_threads number) → q.asker ≤ number → taken_call (taking s q) ≡ Some c → r ≡ rest_of s (taking s q) → Given (offer g t (all_threads number) q) c r (λ p. state_left g (p ∷ t) (all_threads number))
 given_here number s r g t q c e le h rest =
     let same = taken_here number s g t q e le in
     let found = offer_some (λ p. state_left g (p ∷ t) (all_threads number)) (offer g t (all_threads number) q) c s (sym (ap taken_call same) ∙ h) in
@@ -78,10 +78,10 @@ one_more n = omega arith
 
 -- The answers.
 
-pub answers_done : (d : DriverState) (x : Thread) (random_number : ℕ) → is_done d.state ≡ true → (g : Generator) (t : Tally) → IsDriverOf d g t → Answers g t d x random_number Done d
+pub answers_done : (d : DriverState) (x : Thread) (random_number : ℕ) → is_done d.state ≡ true → (g : Generator) (t : Trace) → IsDriverOf d g t → Answers g t d x random_number Done d
 answers_done d x random_number done g t s = (spent_here d.clients d.state g t true s.left done, refl)
 
-pub answers_pending : (d e : DriverState) (x : Thread) (random_number : ℕ) → thread_number x ≤ d.clients → is_done d.state ≡ false → taken_call (taking d.state (question_by d x random_number)) ≡ None → e ≡ d → (g : Generator) (t : Tally) → IsDriverOf d g t → Answers g t d x random_number Pending e
+pub answers_pending : (d e : DriverState) (x : Thread) (random_number : ℕ) → thread_number x ≤ d.clients → is_done d.state ≡ false → taken_call (taking d.state (question_by d x random_number)) ≡ None → e ≡ d → (g : Generator) (t : Trace) → IsDriverOf d g t → Answers g t d x random_number Pending e
 answers_pending d e x random_number known unspent none same g t s =
     (spent_here d.clients d.state g t false s.left unspent, pending_here d.clients d.state g t (question_by d x random_number) s.left known none, same)
 
@@ -97,7 +97,7 @@ pub record Gave (d e : DriverState) (x : Thread) (random_number : ℕ) (p : Proc
   pub processes : e.processes ≡ d.processes
   pub process : p ≡ next_process d x
 
-pub answers_call : (d e : DriverState) (x : Thread) (random_number : ℕ) (p : Process) (c : Call) → Gave d e x random_number p c → (g : Generator) (t : Tally) → IsDriverOf d g t → Answers g t d x random_number (answer.Call p c) e
+pub answers_call : (d e : DriverState) (x : Thread) (random_number : ℕ) (p : Process) (c : Call) → Gave d e x random_number p c → (g : Generator) (t : Trace) → IsDriverOf d g t → Answers g t d x random_number (answer.Call p c) e
 answers_call d e x random_number p c h g t s =
     let found = given_here d.clients d.state e.state g t (question_by d x random_number) c s.left h.known h.call h.rest in
     let stands : IsDriverOf e g (found.path ∷ t) = record {

@@ -4,12 +4,12 @@ use Rattle.std.specs.Prelude.{◌==◌, ◌%◌, filter, None}
 use Rattle.std.specs.List.{list_all}
 use Rattle.std.proofs.lemmas.Bool.{cond-true, cond-false, and_parts, cases_Bool}
 use Rattle.jh_gen.specs.Generator.{Generator, nothing, once, rising, forever, seq, limit, mix, phases, reserve, each_thread, clients, nemesis_only, Generators, no_generators, generator, ShareList, no_shares, share}
-use Rattle.jh_gen.specs.Tally.{Tally, tally_under}
+use Rattle.jh_gen.specs.Trace.{Trace, trace_under}
 use Rattle.jh_gen.specs.Scope.{Scope, is_client_thread, is_nemesis_thread, is_share_thread, is_beyond, is_in_scope, Question}
 use Rattle.jh_gen.specs.Offers.{shares_len, is_exhausted, are_all_exhausted, are_shares_exhausted, head_of, first_some, picked_value}
 use Rattle.jh_gen.specs.Fits.{shares_sum}
 use Rattle.jh_gen.specs.State.{GeneratorState, gone, one, counting, endless, in_turn, limited, mixed, split, GeneratorStates, no_states, state, Lots, no_lots, lot, is_done, are_all_done, are_lots_done, taking_within, taking, open_takings, lot_taking, state_left, states_left, lots_of, joined_lots, lots_each}
-use Rattle.jh_gen.proofs.TallyLemmas.{sub_zero}
+use Rattle.jh_gen.proofs.TraceLemmas.{sub_zero}
 
 done_unless : (b : Bool) (s : GeneratorState) → is_done s ≡ false → is_done (cond b gone s) ≡ b
 done_unless true s h = refl
@@ -32,30 +32,30 @@ done_and no_lots threads s = and_true (is_done s)
 done_and (lot xs r ls) threads s = ap (λ b. is_done r && b) (done_and ls threads s) ∙ sym (and_assoc (is_done r) (are_lots_done ls) (is_done s))
 
 mutual
-  pub done_of : (g : Generator) (t : Tally) (S : Scope) → is_done (state_left g t S) ≡ is_exhausted g t S
+  pub done_of : (g : Generator) (t : Trace) (S : Scope) → is_done (state_left g t S) ≡ is_exhausted g t S
   done_of nothing t S = refl
   done_of (once c) t S = done_unless (is_exhausted (once c) t S) (one c) refl
   done_of (rising r n) t S = done_unless (is_exhausted (rising r n) t S) _ refl
   done_of (forever c) t S = done_unless (is_exhausted (forever c) t S) (endless c) refl
   done_of (seq gs) t S = done_all gs 0 t S
-  done_of (limit n g) t S = ap₂ (λ a b. a || b) (sub_zero n (length t)) (done_of g (tally_under 0 t) S)
+  done_of (limit n g) t S = ap₂ (λ a b. a || b) (sub_zero n (length t)) (done_of g (trace_under 0 t) S)
   done_of (mix gs) t S = done_all gs 0 t S
   done_of (phases gs) t S = done_all gs 0 t S
   done_of (reserve ms g) t S =
       done_and (lots_of ms 0 0 t S) _ _
-      ∙ ap₂ (λ a b. a && b) (done_shares ms 0 0 t S) (done_of g (tally_under (shares_len ms) t) (filter (is_beyond (shares_sum ms)) S))
-  done_of (each_thread g) t S = done_each _ _ S (λ x. done_of g (tally_under x t) (x ∷ []))
-  done_of (clients g) t S = and_true _ ∙ done_of g (tally_under 0 t) (filter is_client_thread S)
-  done_of (nemesis_only g) t S = and_true _ ∙ done_of g (tally_under 0 t) (filter is_nemesis_thread S)
+      ∙ ap₂ (λ a b. a && b) (done_shares ms 0 0 t S) (done_of g (trace_under (shares_len ms) t) (filter (is_beyond (shares_sum ms)) S))
+  done_of (each_thread g) t S = done_each _ _ S (λ x. done_of g (trace_under x t) (x ∷ []))
+  done_of (clients g) t S = and_true _ ∙ done_of g (trace_under 0 t) (filter is_client_thread S)
+  done_of (nemesis_only g) t S = and_true _ ∙ done_of g (trace_under 0 t) (filter is_nemesis_thread S)
 
-  pub done_all : (gs : Generators) (i : ℕ) (t : Tally) (S : Scope) → are_all_done (states_left gs i t S) ≡ are_all_exhausted gs i t S
+  pub done_all : (gs : Generators) (i : ℕ) (t : Trace) (S : Scope) → are_all_done (states_left gs i t S) ≡ are_all_exhausted gs i t S
   done_all no_generators i t S = refl
-  done_all (generator g gs) i t S = ap₂ (λ a b. a && b) (done_of g (tally_under i t) S) (done_all gs (suc i) t S)
+  done_all (generator g gs) i t S = ap₂ (λ a b. a && b) (done_of g (trace_under i t) S) (done_all gs (suc i) t S)
 
-  pub done_shares : (ms : ShareList) (i first : ℕ) (t : Tally) (S : Scope) → are_lots_done (lots_of ms i first t S) ≡ are_shares_exhausted ms i first t S
+  pub done_shares : (ms : ShareList) (i first : ℕ) (t : Trace) (S : Scope) → are_lots_done (lots_of ms i first t S) ≡ are_shares_exhausted ms i first t S
   done_shares no_shares i first t S = refl
   done_shares (share n g ms) i first t S =
-      ap₂ (λ a b. a && b) (done_of g (tally_under i t) (filter (is_share_thread first n) S)) (done_shares ms (suc i) (first + n) t S)
+      ap₂ (λ a b. a && b) (done_of g (trace_under i t) (filter (is_share_thread first n) S)) (done_shares ms (suc i) (first + n) t S)
 
 drop_nil : {X : Type 0} (k : ℕ) → drop {A = X} k [] ≡ []
 drop_nil zero = refl

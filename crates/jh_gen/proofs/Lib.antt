@@ -1,4 +1,4 @@
-pub mod TallyLemmas
+pub mod TraceLemmas
 pub mod ExhaustedLemmas
 pub mod TakingLemmas
 pub mod RowLemmas

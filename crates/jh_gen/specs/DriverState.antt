@@ -1,4 +1,4 @@
--- What contracts see of a driver, and what its calls answer. A driver is its generator, the tally
+-- What contracts see of a driver, and what its calls answer. A driver is its generator, the trace
 -- of the calls that it gave, the busy threads and the processes (jepsen.generator: a process does
 -- one operation at a time; when one ends as `:info`, the process has crashed, and its thread goes
 -- on as a new one, whose number is greater by the number of client threads).
@@ -7,7 +7,7 @@ use Rattle.std.specs.Prelude.{if◌then◌else◌, List, [], ◌∷◌, length, 
 use Rattle.std.specs.Prelude.{slice_index_or, None, Some, replicate}
 use Rattle.std.specs.Coded.{Coded, code_by, coded×, coded_ℕ, coded_bool, coded_list}
 use Rattle.jh_gen.specs.Generator.{Generator}
-use Rattle.jh_gen.specs.Tally.{Path, Tally}
+use Rattle.jh_gen.specs.Trace.{Path, Trace}
 use Rattle.jh_gen.specs.Scope.{Scope, Question}
 use Rattle.jh_gen.specs.Offers.{is_exhausted, offer}
 use Rattle.jh_gen.specs.Fits.{fits}
@@ -68,9 +68,9 @@ threads_from first (suc n) = first ∷ threads_from (first + 1) n
 abbrev pub all_threads : ℕ → Scope
 all_threads clients = threads_from 0 (suc clients)
 
--- The driver is that of this generator after this tally: what is left in it is what the tally
--- leaves, and it gave as many calls as the tally has.
-pub record IsDriverOf (d : DriverState) (g : Generator) (t : Tally) : Type 0 where
+-- The driver is that of this generator after this trace: what is left in it is what the trace
+-- leaves, and it gave as many calls as the trace has.
+pub record IsDriverOf (d : DriverState) (g : Generator) (t : Trace) : Type 0 where
   pub left : d.state ≡ state_left g t (all_threads d.clients)
   pub count : d.given ≡ length t
 
@@ -133,16 +133,16 @@ question_by d x random_number =
 
 -- The driver d becomes e by giving thread x a call: its generator has given one more call, by this
 -- path, the thread is busy, and nothing else changes.
-pub record GivesCall (d e : DriverState) (x : Thread) (g : Generator) (t : Tally)
+pub record GivesCall (d e : DriverState) (x : Thread) (g : Generator) (t : Trace)
     (path : Path) : Type 0 where
   pub stands : IsDriverOf e g (path ∷ t)
   pub clients : e.clients ≡ d.clients
   pub busy : e.busy ≡ set d.busy (thread_number x) true
   pub processes : e.processes ≡ d.processes
 
--- What a thread is answered, after this tally: `Done` exactly where the generator is spent, else
+-- What a thread is answered, after this trace: `Done` exactly where the generator is spent, else
 -- what it offers, or `Pending` where it offers nothing.
-abbrev pub Answers : Generator → Tally → DriverState → Thread → ℕ → GenAnswer → DriverState → Type 0
+abbrev pub Answers : Generator → Trace → DriverState → Thread → ℕ → GenAnswer → DriverState → Type 0
 Answers g t d x random_number Done e = (is_exhausted g t (all_threads d.clients) ≡ true) × (e ≡ d)
 Answers g t d x random_number Pending e =
     (is_exhausted g t (all_threads d.clients) ≡ false)
@@ -163,7 +163,7 @@ answer_by d x (Some (c, left)) = (
 )
 
 -- What a thread that may ask is answered, and the driver after it, as a function of the driver, the
--- thread and the random number. `Answers` says the same of a generator and a tally.
+-- thread and the random number. `Answers` says the same of a generator and a trace.
 abbrev pub asked : DriverState → Thread → ℕ → GenAnswer × DriverState
 asked d x random_number =
     if is_done d.state then (Done, d)
@@ -196,7 +196,7 @@ processes_after d (thread.Client n) ended.Info =
     set d.processes (n + 1) (slice_index d.processes (n + 1) + d.clients)
 processes_after d _ _ = d.processes
 
--- the driver after an operation's end: its generator and its tally stay
+-- the driver after an operation's end: its generator and its trace stay
 abbrev pub driver_after_end : DriverState → Thread → Ended → DriverState
 driver_after_end d x end =
     record d { busy = set d.busy (thread_number x) false; processes = processes_after d x end }
@@ -215,15 +215,15 @@ pub record IsKept (d : DriverState) : Type 0 where
 
 -- Laws.
 
--- whatever generator and tally a driver stands for, what it answers a thread of its own is theirs
+-- whatever generator and trace a driver stands for, what it answers a thread of its own is theirs
 abbrev pub AskedAnswers : Type 0
 AskedAnswers =
-    (d : DriverState) (x : Thread) (random_number : ℕ) (g : Generator) (t : Tally)
+    (d : DriverState) (x : Thread) (random_number : ℕ) (g : Generator) (t : Trace)
     → IsDriverOf d g t → IsKnown d x
     → Answers g t d x random_number (asked d x random_number).0 (asked d x random_number).1
 
--- whatever generator and tally a driver stands for, it does so after the end of an operation
+-- whatever generator and trace a driver stands for, it does so after the end of an operation
 abbrev pub EndKeepsGenerator : Type 0
 EndKeepsGenerator =
-    (d : DriverState) (x : Thread) (end : Ended) (g : Generator) (t : Tally)
+    (d : DriverState) (x : Thread) (end : Ended) (g : Generator) (t : Trace)
     → IsDriverOf d g t → IsDriverOf (driver_after_end d x end) g t

@@ -6,7 +6,7 @@ pub mod FallsInside
 pub mod GeneratorText
 pub mod ShapeInside
 pub mod BadPart
-pub mod Tally
+pub mod Trace
 pub mod Scope
 pub mod Offers
 pub mod Fits

@@ -1,5 +1,5 @@
 -- What is left of a generator, as plain data, and how a call is taken from it. The code keeps this
--- and no tally: counts, next numbers and which members have begun. `state_left` says what a tally
+-- and no trace: counts, next numbers and which members have begun. `state_left` says what a trace
 -- leaves of a generator.
 -- This project's own.
 use Rattle.std.specs.Prelude.{ℕ, suc, ◌+◌, ◌-◌, ◌==◌, ℤ, pos, ◌+ℤ◌, Bool, true, false, not, ◌&&◌}
@@ -10,7 +10,7 @@ use Rattle.std.specs.Prelude.{option_map, int_lt}
 use Rattle.jh_gen.specs.Generator.{Generator, nothing, once, rising, forever, seq, limit, mix}
 use Rattle.jh_gen.specs.Generator.{phases, reserve, each_thread, clients, nemesis_only, Generators}
 use Rattle.jh_gen.specs.Generator.{no_generators, generator, ShareList, no_shares, share}
-use Rattle.jh_gen.specs.Tally.{Tally, tally_under}
+use Rattle.jh_gen.specs.Trace.{Trace, trace_under}
 use Rattle.jh_gen.specs.Scope.{Scope, is_client_thread, is_nemesis_thread, is_share_thread}
 use Rattle.jh_gen.specs.Scope.{is_beyond, is_in_scope, Question, has_busy_thread}
 use Rattle.jh_gen.specs.Offers.{max_number, shares_len, is_exhausted, head_of, picked_value}
@@ -116,9 +116,9 @@ abbrev pub lots_each : (ℕ → GeneratorState) → List ℕ → Lots
 lots_each f [] = no_lots
 lots_each f (x ∷ xs) = lot (x ∷ []) (f x) (lots_each f xs)
 
--- what is left of a generator after a tally
+-- what is left of a generator after a trace
 abbrev mutual
-  pub state_left : Generator → Tally → Scope → GeneratorState
+  pub state_left : Generator → Trace → Scope → GeneratorState
   state_left nothing t scope = gone
   state_left (once c) t scope = if is_exhausted (once c) t scope then gone else one c
   state_left (rising r n) t scope =
@@ -126,34 +126,34 @@ abbrev mutual
   state_left (forever c) t scope =
       if is_exhausted (forever c) t scope then gone else endless c
   state_left (seq gs) t scope = in_turn [] (states_left gs 0 t scope)
-  state_left (limit n g) t scope = limited (n - length t) (state_left g (tally_under 0 t) scope)
+  state_left (limit n g) t scope = limited (n - length t) (state_left g (trace_under 0 t) scope)
   state_left (mix gs) t scope = mixed (states_left gs 0 t scope)
   state_left (phases gs) t scope = in_turn scope (states_left gs 0 t scope)
   state_left (reserve ms g) t scope =
       split (joined_lots (lots_of ms 0 0 t scope)
       (lot (filter (is_beyond (shares_sum ms)) scope)
-      (state_left g (tally_under (shares_len ms) t) (filter (is_beyond (shares_sum ms)) scope))
+      (state_left g (trace_under (shares_len ms) t) (filter (is_beyond (shares_sum ms)) scope))
       no_lots))
   state_left (each_thread g) t scope =
-      split (lots_each (λ x. state_left g (tally_under x t) (x ∷ [])) scope)
+      split (lots_each (λ x. state_left g (trace_under x t) (x ∷ [])) scope)
   state_left (clients g) t scope =
       split (lot (filter is_client_thread scope)
-      (state_left g (tally_under 0 t) (filter is_client_thread scope)) no_lots)
+      (state_left g (trace_under 0 t) (filter is_client_thread scope)) no_lots)
   state_left (nemesis_only g) t scope =
       split (lot (filter is_nemesis_thread scope)
-      (state_left g (tally_under 0 t) (filter is_nemesis_thread scope)) no_lots)
+      (state_left g (trace_under 0 t) (filter is_nemesis_thread scope)) no_lots)
 
-  pub states_left : Generators → ℕ → Tally → Scope → GeneratorStates
+  pub states_left : Generators → ℕ → Trace → Scope → GeneratorStates
   states_left no_generators i t scope = no_states
   states_left (generator g gs) i t scope =
-      state (not (is_empty (tally_under i t))) (state_left g (tally_under i t) scope)
+      state (not (is_empty (trace_under i t))) (state_left g (trace_under i t) scope)
       (states_left gs (suc i) t scope)
 
-  pub lots_of : ShareList → ℕ → ℕ → Tally → Scope → Lots
+  pub lots_of : ShareList → ℕ → ℕ → Trace → Scope → Lots
   lots_of no_shares i first t scope = no_lots
   lots_of (share n g ms) i first t scope =
       lot (filter (is_share_thread first n) scope)
-      (state_left g (tally_under i t) (filter (is_share_thread first n) scope))
+      (state_left g (trace_under i t) (filter (is_share_thread first n) scope))
       (lots_of ms (suc i) (first + n) t scope)
 
 -- The lists that contracts see, as states.

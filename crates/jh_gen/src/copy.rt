@@ -7,8 +7,8 @@ use crate::generator::{Gen, Gens, Inner, Shares};
 use std::alloc::{AllocError, Global};
 
 impl Gen {
-    /// The same generator once more, with all that it holds. Costs as much as the generator is
-    /// large.
+    /// The same generator once more, with all that it holds. Takes time and memory in proportion to
+    /// its size.
     ///
     /// Error: memory was refused.
     #[cycle(copy)]

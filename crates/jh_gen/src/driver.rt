@@ -5,7 +5,7 @@ ghost use Rattle.std.specs.Prelude.{IfOk, MatchResult, OnErr, OnOk};
 ghost use Rattle.std.specs.Option.{SomeIff};
 ghost use Rattle.jh_gen.specs.Generator.{Generator};
 ghost use Rattle.jh_gen.specs.View.{generator_of};
-ghost use Rattle.jh_gen.specs.Tally.{Tally};
+ghost use Rattle.jh_gen.specs.Trace.{Trace};
 ghost use Rattle.jh_gen.specs.DriverState as rule;
 ghost use Rattle.jh_gen.specs.DriverState.{Answers, CanDrive, IsFresh, IsKnown, MayAsk, MayEnd};
 ghost use Rattle.jh_gen.specs.DriverState.{GivesSmallProcess, RefusesAsking};
@@ -159,8 +159,8 @@ impl Driver {
             (λ answer. (answer, self.new) ≡ rule.asked self.old thread random_number) }
         ensures small { IfOk result GivesSmallProcess }
 
-        // Whatever generator and tally the driver stands for, the answer is theirs.
-        ensures answered { (g : Generator) (t : Tally) → IsDriverOf self.old g t
+        // Whatever generator and trace the driver stands for, the answer is theirs.
+        ensures answered { (g : Generator) (t : Trace) → IsDriverOf self.old g t
             → IfOk result (λ answer. Answers g t self.old thread random_number answer self.new) }
     {
         let number = number_of(thread);

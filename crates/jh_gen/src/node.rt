@@ -364,8 +364,8 @@ impl Row {
         None
     }
 
-    /// Members that aren't done are tried in turn, from one that the random number chooses on and
-    /// around.
+    /// Members that aren't done are tried in turn: from the one that the random number chooses to the
+    /// last, and then from the first on.
     #[cycle(take)]
     fn take_any(&mut self, asked: Query) -> Option<Call>
         ensures call { result ≡ taken_call (any_turn self.old (question asked.entry)) }

@@ -296,7 +296,7 @@ fn are_reserved(parts: &[Value]) -> bool
     }
 }
 
-/// The generator that a value means, or the first reason to end on the way.
+/// The generator that a value means, or why none is made: the first error that is met on the way.
 #[cycle(read)]
 fn gen_in(alloc: Global, value: &Value) -> Result<Gen, GenTextError>
     ensures { MatchResult result
@@ -322,7 +322,7 @@ fn gen_in(alloc: Global, value: &Value) -> Result<Gen, GenTextError>
     }
 }
 
-/// The generator that a value means, to be held by another, or the first reason to end on the way.
+/// The generator that a value means, to be held by another one, or the first error on the way.
 #[cycle(read)]
 fn inner_in(alloc: Global, value: &Value) -> Result<Inner, GenTextError>
     ensures { MatchResult result
@@ -332,7 +332,7 @@ fn inner_in(alloc: Global, value: &Value) -> Result<Inner, GenTextError>
     Ok(Inner::of(alloc, gen_in(alloc, value)?)?)
 }
 
-/// The generators that the parts mean, or the first reason to end on the way.
+/// The generators that the parts mean, or the first error on the way.
 #[cycle(read)]
 fn members_in(alloc: Global, parts: &[Value]) -> Result<Gens, GenTextError>
     ensures { MatchResult result
@@ -346,7 +346,7 @@ fn members_in(alloc: Global, parts: &[Value]) -> Result<Gens, GenTextError>
     Ok(Gens::of(members))
 }
 
-/// The reserve that the parts mean, or the first reason to end on the way.
+/// The reserve that the parts mean, or the first error on the way.
 #[cycle(read)]
 fn reserve_in(alloc: Global, parts: &[Value]) -> Result<Gen, GenTextError>
     ensures { MatchResult result

@@ -8,7 +8,7 @@ use Rattle.jh_ops.specs.declared.call.Workload.{Workload}
 use Rattle.jh_gen.specs.DriverState.{all_threads}
 use Rattle.jh_gen.specs.Fits.{fits}
 use Rattle.jh_gen.specs.Suits.{has_only, is_call_for}
-use Rattle.jh_gen.specs.Tally.{Path}
+use Rattle.jh_gen.specs.Trace.{Path}
 use Rattle.jh_simnode.specs.declared.events.Event.{Event}
 use Rattle.jh_simnode.specs.Counts.{process_after}
 use Rattle.jh_simnode.specs.Plans.{PlanValue, IsFit}
@@ -29,7 +29,7 @@ request_fits : (p : PlanValue) → IsFit p → (r : Turns) (journal : List Event
 request_fits p fit r journal path request h =
     let w = p.database.workload in
     let only : has_only (is_call_for w) (run_generator p) ≡ true = second (fits p.clients p.generator) (has_only (is_call_for w) p.generator) fit.generator in
-    subst (Passes (is_call_for w)) (call_is p r journal path request h) (offers_suit w (run_generator p) only r.tally (all_threads p.clients) (turn_question p r journal))
+    subst (Passes (is_call_for w)) (call_is p r journal path request h) (offers_suit w (run_generator p) only r.trace (all_threads p.clients) (turn_question p r journal))
 
 -- ---- all calls of a journal
 

@@ -11,7 +11,7 @@ use Rattle.jh_gen.specs.Rises.{risen}
 use Rattle.jh_gen.specs.declared.rise.Rise.{Rise}
 use Rattle.jh_gen.specs.declared.rise.Rise.TheVariants.{Adds, Writes}
 use Rattle.jh_gen.specs.Fits.{shares_sum}
-use Rattle.jh_gen.specs.Tally.{Tally, tally_under}
+use Rattle.jh_gen.specs.Trace.{Trace, trace_under}
 use Rattle.jh_gen.specs.Scope.{Scope, Question, is_client_thread, is_share_thread, is_beyond, is_in_scope, has_busy_thread}
 use Rattle.jh_gen.specs.Offers.{Offer, offer, open_offers, share_offer, member_offer, head_of, first_some, picked_value, offer_unless_exhausted, is_exhausted, shares_len}
 use Rattle.jh_gen.specs.Suits.{has_only, all_have_only, shares_have_only, is_call_for}
@@ -74,41 +74,41 @@ module _ (passes : Call → Bool) (more : (r : Rise) (n : ℤ) (k : ℕ) → pas
       first_passes (drop n os ++ take n os) (joined_pass (drop n os) (take n os) (left_pass n os a) (taken_pass n os a))
 
   mutual
-    pub offer_passes : (g : Generator) → has_only passes g ≡ true → (t : Tally) (scope : Scope) (q : Question) → Passes passes (offer g t scope q)
+    pub offer_passes : (g : Generator) → has_only passes g ≡ true → (t : Trace) (scope : Scope) (q : Question) → Passes passes (offer g t scope q)
     offer_passes nothing h t scope q = tt
     offer_passes (once c) h t scope q = unless_passes _ scope q (Some ([], c)) h
     offer_passes (rising r n) h t scope q = unless_passes _ scope q (Some ([], risen r (n +ℤ pos (length t)))) (more r n (length t) h)
     offer_passes (forever c) h t scope q = unless_passes _ scope q (Some ([], c)) h
     offer_passes (seq gs) h t scope q = unless_passes _ scope q _ (head_passes _ (open_pass [] gs h 0 t scope q))
-    offer_passes (limit n g) h t scope q = unless_passes _ scope q _ (member_passes 0 _ (offer_passes g h (tally_under 0 t) scope q))
+    offer_passes (limit n g) h t scope q = unless_passes _ scope q _ (member_passes 0 _ (offer_passes g h (trace_under 0 t) scope q))
     offer_passes (mix gs) h t scope q = unless_passes _ scope q _ (picked_passes q.random_number _ (open_pass [] gs h 0 t scope q))
     offer_passes (phases gs) h t scope q = unless_passes _ scope q _ (head_passes _ (open_pass scope gs h 0 t scope q))
     offer_passes (reserve ms g) h t scope q =
         let p = both (shares_have_only passes ms) (has_only passes g) h in
         unless_passes _ scope q _ (share_passes ms p.0 0 0 t scope q _
-        (member_passes (shares_len ms) _ (offer_passes g p.1 (tally_under (shares_len ms) t) (filter (is_beyond (shares_sum ms)) scope) q)))
-    offer_passes (each_thread g) h t scope q = unless_passes _ scope q _ (member_passes q.asker _ (offer_passes g h (tally_under q.asker t) (q.asker ∷ []) q))
-    offer_passes (clients g) h t scope q = unless_passes _ scope q _ (member_passes 0 _ (offer_passes g h (tally_under 0 t) (filter is_client_thread scope) q))
+        (member_passes (shares_len ms) _ (offer_passes g p.1 (trace_under (shares_len ms) t) (filter (is_beyond (shares_sum ms)) scope) q)))
+    offer_passes (each_thread g) h t scope q = unless_passes _ scope q _ (member_passes q.asker _ (offer_passes g h (trace_under q.asker t) (q.asker ∷ []) q))
+    offer_passes (clients g) h t scope q = unless_passes _ scope q _ (member_passes 0 _ (offer_passes g h (trace_under 0 t) (filter is_client_thread scope) q))
     offer_passes (nemesis_only g) h t scope q = absurd cc
 
-    open_pass : (awaited : Scope) (gs : Generators) → all_have_only passes gs ≡ true → (i : ℕ) (t : Tally) (scope : Scope) (q : Question) → AllPass (open_offers awaited gs i t scope q)
+    open_pass : (awaited : Scope) (gs : Generators) → all_have_only passes gs ≡ true → (i : ℕ) (t : Trace) (scope : Scope) (q : Question) → AllPass (open_offers awaited gs i t scope q)
     open_pass awaited no_generators h i t scope q = tt
     open_pass awaited (generator g gs) h i t scope q =
         let p = both (has_only passes g) (all_have_only passes gs) h in
         let rest = open_pass awaited gs p.1 (suc i) t scope q in
-        let first = if_passes (is_empty (tally_under i t) && has_busy_thread q.busy awaited) _ (member_passes i _ (offer_passes g p.0 (tally_under i t) scope q)) in
-        elim (is_exhausted g (tally_under i t) scope) as (λ b. AllPass (if b then open_offers awaited gs (suc i) t scope q else (if is_empty (tally_under i t) && has_busy_thread q.busy awaited then None else member_offer i (offer g (tally_under i t) scope q)) ∷ open_offers awaited gs (suc i) t scope q)) [
+        let first = if_passes (is_empty (trace_under i t) && has_busy_thread q.busy awaited) _ (member_passes i _ (offer_passes g p.0 (trace_under i t) scope q)) in
+        elim (is_exhausted g (trace_under i t) scope) as (λ b. AllPass (if b then open_offers awaited gs (suc i) t scope q else (if is_empty (trace_under i t) && has_busy_thread q.busy awaited then None else member_offer i (offer g (trace_under i t) scope q)) ∷ open_offers awaited gs (suc i) t scope q)) [
           | true ↦ rest
           | false ↦ (first, rest)
         ]
 
-    share_passes : (ms : ShareList) → shares_have_only passes ms ≡ true → (i first : ℕ) (t : Tally) (scope : Scope) (q : Question) (others : Offer) → Passes passes others → Passes passes (share_offer ms i first t scope q others)
+    share_passes : (ms : ShareList) → shares_have_only passes ms ≡ true → (i first : ℕ) (t : Trace) (scope : Scope) (q : Question) (others : Offer) → Passes passes others → Passes passes (share_offer ms i first t scope q others)
     share_passes no_shares h i first t scope q others k = k
     share_passes (share n g ms) h i first t scope q others k =
         let p = both (has_only passes g) (shares_have_only passes ms) h in
-        let own = member_passes i _ (offer_passes g p.0 (tally_under i t) (filter (is_share_thread first n) scope) q) in
+        let own = member_passes i _ (offer_passes g p.0 (trace_under i t) (filter (is_share_thread first n) scope) q) in
         let rest = share_passes ms p.1 (suc i) (first + n) t scope q others k in
-        elim (is_share_thread first n q.asker) as (λ b. Passes passes (if b then member_offer i (offer g (tally_under i t) (filter (is_share_thread first n) scope) q) else share_offer ms (suc i) (first + n) t scope q others)) [
+        elim (is_share_thread first n q.asker) as (λ b. Passes passes (if b then member_offer i (offer g (trace_under i t) (filter (is_share_thread first n) scope) q) else share_offer ms (suc i) (first + n) t scope q others)) [
           | true ↦ own
           | false ↦ rest
         ]

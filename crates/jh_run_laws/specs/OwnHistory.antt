@@ -16,7 +16,7 @@ use Rattle.jh_simnode.specs.Histories.{CanBeText}
 use Rattle.jh_simnode.specs.Plans.{PlanValue, IsFit}
 use Rattle.jh_simnode.specs.Runs.{IsSerialRun}
 use Rattle.jh_gen.specs.Generator.{Generator}
-use Rattle.jh_gen.specs.Tally.{Tally}
+use Rattle.jh_gen.specs.Trace.{Trace}
 use Rattle.jh_gen.specs.Scope.{Scope, Question}
 use Rattle.jh_gen.specs.Offers.{Offer, offer}
 use Rattle.jh_gen.specs.Suits.{has_only, is_call_for}
@@ -39,7 +39,7 @@ Passes passes (Some (path, call)) = passes call ≡ true
 -- what a generator offers, whose calls are all of a workload, is one of these
 abbrev pub OffersSuit : Type 0
 OffersSuit = (w : Workload) (g : Generator) → has_only (is_call_for w) g ≡ true
-    → (t : Tally) (scope : Scope) (q : Question) → Passes (is_call_for w) (offer g t scope q)
+    → (t : Trace) (scope : Scope) (q : Question) → Passes (is_call_for w) (offer g t scope q)
 
 -- a call after these events is by the process whose turn its thread has, and its request is of the
 -- workload

@@ -7,7 +7,7 @@ use Rattle.rand_pcg.specs.Pcg.{pcg64}
 use Rattle.jh_ops.specs.declared.call.Request.{Request}
 use Rattle.jh_ops.specs.declared.call.Call.TheVariants as call
 use Rattle.jh_ops.specs.declared.operation.Process.{Process}
-use Rattle.jh_gen.specs.Tally.{Path}
+use Rattle.jh_gen.specs.Trace.{Path}
 use Rattle.jh_gen.specs.Scope.{Question}
 use Rattle.jh_gen.specs.Offers.{Offer, offer, is_exhausted}
 use Rattle.jh_gen.specs.DriverState.{Answers, DriverState, MayAsk, RefusesAsking, all_threads, question_by}
@@ -60,29 +60,29 @@ module _ (p : PlanValue) (r : Turns) (journal : List Event) (run : Run) (t rando
       ap₂ (λ s w. let q : Question = record { asker = s; random_number = w; busy = run.driver.busy } in q) asker same_random_number
       ∙ ap (λ b. let q : Question = record { asker = thread_of p r + 1; random_number = (pcg64 (random_numbers_after run_stream p.seed (numbers_taken r journal))).0; busy = b } in q) d.idle
 
-  spent_is : (b : Bool) → is_exhausted (run_generator p) r.tally (all_threads run.driver.clients) ≡ b → is_exhausted (run_generator p) r.tally (all_threads p.clients) ≡ b
-  spent_is b h = subst (λ n. is_exhausted (run_generator p) r.tally (all_threads n) ≡ b) (i.keeps.driver i.going).clients h
+  spent_is : (b : Bool) → is_exhausted (run_generator p) r.trace (all_threads run.driver.clients) ≡ b → is_exhausted (run_generator p) r.trace (all_threads p.clients) ≡ b
+  spent_is b h = subst (λ n. is_exhausted (run_generator p) r.trace (all_threads n) ≡ b) (i.keeps.driver i.going).clients h
 
-  offer_is : (o : Offer) → offer (run_generator p) r.tally (all_threads run.driver.clients) (question_by run.driver (thread.Client t) random_number) ≡ o
-      → offer (run_generator p) r.tally (all_threads p.clients) (turn_question p r journal) ≡ o
+  offer_is : (o : Offer) → offer (run_generator p) r.trace (all_threads run.driver.clients) (question_by run.driver (thread.Client t) random_number) ≡ o
+      → offer (run_generator p) r.trace (all_threads p.clients) (turn_question p r journal) ≡ o
   offer_is o h =
-      subst (λ n. offer (run_generator p) r.tally (all_threads n) (turn_question p r journal) ≡ o) (i.keeps.driver i.going).clients
-      (subst (λ q. offer (run_generator p) r.tally (all_threads run.driver.clients) q ≡ o) asked_is h)
+      subst (λ n. offer (run_generator p) r.trace (all_threads n) (turn_question p r journal) ≡ o) (i.keeps.driver i.going).clients
+      (subst (λ q. offer (run_generator p) r.trace (all_threads run.driver.clients) q ≡ o) asked_is h)
 
-  goes_by : (o : Offer) → is_exhausted (run_generator p) r.tally (all_threads run.driver.clients) ≡ false
-      → offer (run_generator p) r.tally (all_threads run.driver.clients) (question_by run.driver (thread.Client t) random_number) ≡ o → ask_move p r journal ≡ move_offered o
+  goes_by : (o : Offer) → is_exhausted (run_generator p) r.trace (all_threads run.driver.clients) ≡ false
+      → offer (run_generator p) r.trace (all_threads run.driver.clients) (question_by run.driver (thread.Client t) random_number) ≡ o → ask_move p r journal ≡ move_offered o
   goes_by o unspent h =
-      ap (λ b. cond b Ends (move_offered (offer (run_generator p) r.tally (all_threads p.clients) (turn_question p r journal)))) (spent_is false unspent) ∙ ap move_offered (offer_is o h)
+      ap (λ b. cond b Ends (move_offered (offer (run_generator p) r.trace (all_threads p.clients) (turn_question p r journal)))) (spent_is false unspent) ∙ ap move_offered (offer_is o h)
 
-  pub asks_done : (d' : DriverState) → Answers (run_generator p) r.tally run.driver (thread.Client t) random_number answer.Done d'
+  pub asks_done : (d' : DriverState) → Answers (run_generator p) r.trace run.driver (thread.Client t) random_number answer.Done d'
       → Asks p r journal assignment.Ends (record run { driver = d'; random_numbers = random_numbers; asks = run.asks + 1; has_ended = true })
-  asks_done d' h = (ap (λ b. cond b Ends (move_offered (offer (run_generator p) r.tally (all_threads p.clients) (turn_question p r journal)))) (spent_is true h.0), ends_on p r journal run d' random_numbers i.keeps (random_numbers_are run.random_numbers random_numbers random_number next))
+  asks_done d' h = (ap (λ b. cond b Ends (move_offered (offer (run_generator p) r.trace (all_threads p.clients) (turn_question p r journal)))) (spent_is true h.0), ends_on p r journal run d' random_numbers i.keeps (random_numbers_are run.random_numbers random_numbers random_number next))
 
-  pub asks_step : (d' : DriverState) (x : Process) (entry : ℕ) → Answers (run_generator p) r.tally run.driver (thread.Client t) random_number (answer.Call x (call.Step entry)) d'
+  pub asks_step : (d' : DriverState) (x : Process) (entry : ℕ) → Answers (run_generator p) r.trace run.driver (thread.Client t) random_number (answer.Call x (call.Step entry)) d'
       → Asks p r journal assignment.Ends (record run { driver = d'; random_numbers = random_numbers; asks = run.asks + 1; has_ended = true })
   asks_step d' x entry h = (goes_by (Some (h.2, call.Step entry)) h.0 h.3, ends_on p r journal run d' random_numbers i.keeps (random_numbers_are run.random_numbers random_numbers random_number next))
 
-  pub asks_pending : (d' : DriverState) → Answers (run_generator p) r.tally run.driver (thread.Client t) random_number answer.Pending d'
+  pub asks_pending : (d' : DriverState) → Answers (run_generator p) r.trace run.driver (thread.Client t) random_number answer.Pending d'
       → Asks p r journal assignment.Waits (record run { driver = d'; random_numbers = random_numbers; asks = run.asks + 1; waits = run.waits + 1 })
   asks_pending d' h = (
     goes_by None h.0 h.1,
@@ -91,7 +91,7 @@ module _ (p : PlanValue) (r : Turns) (journal : List Event) (run : Run) (t rando
   )
 
   pub asks_call : (d' : DriverState) (x : Process) (request : Request) → t < p.clients
-      → Answers (run_generator p) r.tally run.driver (thread.Client t) random_number (answer.Call x (call.Client request)) d'
+      → Answers (run_generator p) r.trace run.driver (thread.Client t) random_number (answer.Call x (call.Client request)) d'
       → Asks p r journal (assignment.Calls (process_number x) request) (record run { driver = d'; random_numbers = random_numbers; asks = run.asks + 1 })
   asks_call d' x request below h =
       let d = i.keeps.driver i.going in

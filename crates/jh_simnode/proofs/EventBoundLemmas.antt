@@ -10,7 +10,7 @@ use Rattle.jh_ops.specs.declared.call.Workload.TheVariants.{Register, Counter, S
 use Rattle.jh_gen.specs.DriverState.{all_threads}
 use Rattle.jh_gen.specs.Offers.{Offer, member_offer, offer, is_exhausted, offer_unless_exhausted}
 use Rattle.jh_gen.specs.Scope.{Scope, Question, is_in_scope}
-use Rattle.jh_gen.specs.Tally.{Path, Tally, tally_under}
+use Rattle.jh_gen.specs.Trace.{Path, Trace, trace_under}
 use Rattle.jh_ops.specs.Requests.{max_calls_of}
 use Rattle.jh_simnode.specs.declared.events.Event.{Event}
 use Rattle.jh_simnode.specs.declared.schedule.Entry.{Entry}
@@ -29,11 +29,11 @@ use Rattle.jh_simnode.proofs.GivenCallLemmas.{call_is}
 -- ---- the calls that a run gives
 
 -- each path begins with the one member
-abbrev StartZero : Tally → Type 0
+abbrev StartZero : Trace → Type 0
 StartZero [] = Unit {0}
-StartZero (path ∷ tally) = ((rest : Path) × (path ≡ 0 ∷ rest)) × StartZero tally
+StartZero (path ∷ trace) = ((rest : Path) × (path ≡ 0 ∷ rest)) × StartZero trace
 
-under_zero : (t : Tally) → StartZero t → length (tally_under 0 t) ≡ length t
+under_zero : (t : Trace) → StartZero t → length (trace_under 0 t) ≡ length t
 under_zero [] h = refl
 under_zero (path ∷ t) h = rw h.0.1 (ap suc (under_zero t h.1))
 
@@ -56,14 +56,14 @@ first_false true b h = h
 first_false false b h = refl
 
 -- a call is given only where fewer were, and by the one member
-call_given : (p : PlanValue) (r : Turns) (journal : List Event) (path : Path) (request : Request) → StartZero r.tally → move_of p r journal ≡ Calls path request
-    → (length r.tally < p.ops) × ((rest : Path) × (path ≡ 0 ∷ rest))
+call_given : (p : PlanValue) (r : Turns) (journal : List Event) (path : Path) (request : Request) → StartZero r.trace → move_of p r journal ≡ Calls path request
+    → (length r.trace < p.ops) × ((rest : Path) × (path ≡ 0 ∷ rest))
 call_given p r journal path request zeros h =
     let scope = all_threads p.clients in
     let q = turn_question p r journal in
-    let found = unless_some (is_exhausted (run_generator p) r.tally scope) scope q _ (path, Client request) (call_is p r journal path request h) in
-    let room = leb-false p.ops (length (tally_under 0 r.tally)) (first_false (nat_le p.ops (length (tally_under 0 r.tally))) _ found.0) in
-    let same = under_zero r.tally zeros in
+    let found = unless_some (is_exhausted (run_generator p) r.trace scope) scope q _ (path, Client request) (call_is p r journal path request h) in
+    let room = leb-false p.ops (length (trace_under 0 r.trace)) (first_false (nat_le p.ops (length (trace_under 0 r.trace))) _ found.0) in
+    let same = under_zero r.trace zeros in
     (omega (arith, room, same), member_some _ path (Client request) found.1)
 
 -- ---- which move comes when
@@ -96,7 +96,7 @@ offered_turn (Some (path, Step entry)) = refl
 turn_turns : (p : PlanValue) (r : Turns) (journal : List Event) → is_turn (turn_move p r journal) ≡ true
 turn_turns p r journal =
     both_ways (λ (m : Move). is_turn m ≡ true) _ Rests (ask_move p r journal) refl
-    (both_ways (λ (m : Move). is_turn m ≡ true) _ Ends _ refl (offered_turn (offer (run_generator p) r.tally (all_threads p.clients) (turn_question p r journal))))
+    (both_ways (λ (m : Move). is_turn m ≡ true) _ Ends _ refl (offered_turn (offer (run_generator p) r.trace (all_threads p.clients) (turn_question p r journal))))
 
 turn_no_tick : (m : Move) → is_turn m ≡ true → is_tick m ≡ false
 turn_no_tick Ticks h = absurd cc
@@ -149,9 +149,9 @@ due_owes p journal (Some (Event.Step step answer)) h = absurd cc
 due_owes p journal (Some Event.Tick) h = absurd cc
 
 record IsCounted (p : PlanValue) (r : Turns) (journal : List Event) : Type 0 where
-  calls : answered_count journal ≡ length r.tally
-  zeros : StartZero r.tally
-  few : length r.tally ≤ p.ops
+  calls : answered_count journal ≡ length r.trace
+  zeros : StartZero r.trace
+  few : length r.trace ≤ p.ops
   steps : applied_count journal ≤ length p.schedule
   events : length journal + owes (last_event journal) ≤ 2 * answered_count journal + applied_count journal
 

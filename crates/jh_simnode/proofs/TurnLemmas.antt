@@ -9,7 +9,7 @@ use Rattle.std.proofs.lemmas.Option.{get_or_from_slice_get, slice_get-get_or}
 use Rattle.rand_pcg.specs.Lcg.{Lcg}
 use Rattle.rand_pcg.specs.Pcg.{pcg64}
 use Rattle.jh_ops.specs.declared.call.Request.{Request}
-use Rattle.jh_gen.specs.Tally.{Path}
+use Rattle.jh_gen.specs.Trace.{Path}
 use Rattle.jh_gen.specs.DriverState.{DriverState, driver_after_end, processes_after}
 use Rattle.jh_gen.specs.declared.answers.Thread.TheVariants as thread
 use Rattle.jh_simnode.specs.declared.replicas.Reply.{Reply}

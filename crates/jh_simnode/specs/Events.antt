@@ -135,7 +135,7 @@ pub record AddsEvent (old : WorldValue) (event : Event) (at : ℕ) (new : WorldV
   pub setup : new.setup ≡ old.setup
   pub journal : new.journal ≡ old.journal ++ event ∷ []
 
--- why an event is refused, whose nodes are there if the fact `known` holds
+-- why an event is refused; `known` says that the nodes which it names are there
 abbrev pub Refuses : Type 0 → List Event → WorldError → Type 0
 Refuses known journal UnknownNode = known → ⊥
 Refuses known journal TooManyEvents = known × (max_events ≤ length journal)

@@ -13,7 +13,7 @@ use Rattle.std.specs.Prelude.{◌≡◌, ℕ, ◌+◌, ◌-◌, ◌*◌, ◌^◌
 use Rattle.std.specs.Prelude.{List, [], ◌∷◌, length, set, replicate, slice_get, slice_index, IfSome}
 use Rattle.std.specs.Prelude.{if◌then◌else◌}
 use Rattle.jh_ops.specs.declared.call.Request.{Request}
-use Rattle.jh_gen.specs.Tally.{Path}
+use Rattle.jh_gen.specs.Trace.{Path}
 use Rattle.jh_ops.specs.declared.operation.Process.{Process}
 use Rattle.jh_ops.specs.declared.operation.Process.TheVariants as process
 use Rattle.jh_gen.specs.DriverState.{DriverState, IsDriverOf, max_clients}
@@ -61,12 +61,12 @@ AreNumbered p journal d =
 -- the driver has given the calls of the turns, and nobody is busy
 pub record Drives (p : PlanValue) (r : Turns) (journal : List Event)
     (d : DriverState) : Type 0 where
-  pub stands : IsDriverOf d (run_generator p) r.tally
+  pub stands : IsDriverOf d (run_generator p) r.trace
   pub clients : d.clients ≡ p.clients
   pub idle : d.busy ≡ replicate (p.clients + 1) false
   pub long : length d.processes ≡ p.clients + 1
   pub processes : AreNumbered p journal d
-  pub given : length r.tally ≡ answered_count journal
+  pub given : length r.trace ≡ answered_count journal
 
 -- the counts are those of the journal
 pub record Counts (p : PlanValue) (journal : List Event) (run : Run) : Type 0 where
@@ -107,12 +107,12 @@ pub record NothingDue (p : PlanValue) (run : Run) (w : WorldValue) : Type 0 wher
 -- a thread was given a call by this path, which isn't answered yet
 pub record AwaitsReply (p : PlanValue) (r : Turns) (journal : List Event) (path : Path)
     (run : Run) : Type 0 where
-  pub stands : IsDriverOf run.driver (run_generator p) (path ∷ r.tally)
+  pub stands : IsDriverOf run.driver (run_generator p) (path ∷ r.trace)
   pub clients : run.driver.clients ≡ p.clients
   pub busy : run.driver.busy ≡ set (replicate (p.clients + 1) false) (thread_of p r + 1) true
   pub long : length run.driver.processes ≡ p.clients + 1
   pub processes : AreNumbered p journal run.driver
-  pub given : length r.tally ≡ answered_count journal
+  pub given : length r.trace ≡ answered_count journal
   pub random_numbers : run.random_numbers
       ≡ random_numbers_after run_stream p.seed (numbers_taken r journal + 1)
   pub counts : Counts p journal run

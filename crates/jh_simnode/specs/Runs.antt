@@ -12,7 +12,7 @@ use Rattle.jh_ops.specs.declared.call.Call.TheVariants as call
 use Rattle.jh_ops.specs.declared.call.Request.{Request}
 use Rattle.jh_ops.specs.Operation.{Operation}
 use Rattle.jh_gen.specs.Generator.{Generator, limit, clients}
-use Rattle.jh_gen.specs.Tally.{Path, Tally}
+use Rattle.jh_gen.specs.Trace.{Path, Trace}
 use Rattle.jh_gen.specs.Scope.{Question}
 use Rattle.jh_gen.specs.Offers.{is_exhausted, offer, Offer}
 use Rattle.jh_gen.specs.DriverState.{all_threads}
@@ -54,16 +54,16 @@ run_stream = 0
 -- Where the turns of a run stand, beside its journal: the calls that the generator gave, how many
 -- asks were made, how many of the last ones got nothing, and whether the calls have ended.
 pub record Turns : Type 0 where
-  pub tally : Tally
+  pub trace : Trace
   pub asks : ℕ
   pub waits : ℕ
   pub has_ended : Bool
 
 -- before the first ask
 abbrev pub first_turns : Turns
-first_turns = record { tally = []; asks = 0; waits = 0; has_ended = false }
+first_turns = record { trace = []; asks = 0; waits = 0; has_ended = false }
 
--- Client threads are asked in turn, around.
+-- Client threads are asked in turn, the first again after the last.
 abbrev pub thread_of : PlanValue → Turns → ℕ
 thread_of p r = r.asks % p.clients
 
@@ -114,9 +114,9 @@ move_offered (Some (path, call.Step entry)) = Ends
 -- the move of the thread whose turn it is
 abbrev pub ask_move : PlanValue → Turns → List Event → Move
 ask_move p r journal =
-    if is_exhausted (run_generator p) r.tally (all_threads p.clients) then Ends
+    if is_exhausted (run_generator p) r.trace (all_threads p.clients) then Ends
     else move_offered
-    (offer (run_generator p) r.tally (all_threads p.clients) (turn_question p r journal))
+    (offer (run_generator p) r.trace (all_threads p.clients) (turn_question p r journal))
 
 -- the calls have ended, or each thread in a round got nothing
 abbrev pub turn_move : PlanValue → Turns → List Event → Move
@@ -140,13 +140,13 @@ abbrev pub turns_after_wait : Turns → Turns
 turns_after_wait r = record r { asks = r.asks + 1; waits = r.waits + 1 }
 
 abbrev pub turns_after_call : Turns → Path → Turns
-turns_after_call r path = record r { tally = path ∷ r.tally; asks = r.asks + 1; waits = 0 }
+turns_after_call r path = record r { trace = path ∷ r.trace; asks = r.asks + 1; waits = 0 }
 
 abbrev pub turns_after_end : Turns → Turns
 turns_after_end r = record r { asks = r.asks + 1; has_ended = true }
 
--- the event of a thread's call: of the node at the thread's number, around, with the next random
--- number as its draw
+-- the event of a thread's call: of the node at the thread's number modulo the number of nodes, with
+-- the next random number as its draw
 abbrev pub call_event : PlanValue → Turns → List Event → Request → Reply → Event
 call_event p r journal request reply =
     Event.Call (process_after p.clients (thread_of p r) journal)

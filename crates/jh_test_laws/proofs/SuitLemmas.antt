@@ -9,7 +9,7 @@ use Rattle.jh_gen.specs.Offers.{offer}
 use Rattle.jh_gen.specs.Scope.{Scope, Question}
 use Rattle.jh_gen.specs.Rises.{risen}
 use Rattle.jh_gen.specs.Suits.{has_only, is_call_for, is_transaction}
-use Rattle.jh_gen.specs.Tally.{Tally}
+use Rattle.jh_gen.specs.Trace.{Trace}
 use Rattle.jh_gen.specs.declared.rise.Rise.{Rise}
 use Rattle.jh_gen.specs.declared.rise.Rise.TheVariants.{Adds, Writes}
 use Rattle.jh_ops.specs.declared.call.Call.TheVariants.{Client}
@@ -34,7 +34,7 @@ no_more_transactions Adds n k h = absurd cc
 no_more_transactions Writes n k h = absurd cc
 
 -- a generator that suits the workload offers such calls
-passes : (workload : TestWorkload) (threads : ℕ) (g : Generator) → suits_workload workload threads g ≡ true → (ops : ℕ) (t : Tally) (scope : Scope) (q : Question)
+passes : (workload : TestWorkload) (threads : ℕ) (g : Generator) → suits_workload workload threads g ≡ true → (ops : ℕ) (t : Trace) (scope : Scope) (q : Question)
     → Passes (suits_call workload) (offer (clients (limit ops g)) t scope q)
 passes Register threads g h ops t scope q = offers_suit Workload.Register (clients (limit ops g)) (and_parts (fits threads g) (has_only (is_call_for Workload.Register) g) h).1 t scope q
 passes Counter threads g h ops t scope q = offers_suit Workload.Counter (clients (limit ops g)) (and_parts (fits threads g) (has_only (is_call_for Workload.Counter) g) h).1 t scope q
@@ -42,14 +42,14 @@ passes Set threads g h ops t scope q = offers_suit Workload.Set (clients (limit 
 passes Ids threads g h ops t scope q = offers_suit Workload.Ids (clients (limit ops g)) (and_parts (fits threads g) (has_only (is_call_for Workload.Ids) g) h).1 t scope q
 passes ListAppend threads g h ops t scope q = offer_passes is_transaction no_more_transactions (clients (limit ops g)) (and_parts (fits threads g) (has_only is_transaction g) h).1 t scope q
 
-offers_suit_workload : (workload : TestWorkload) (threads ops : ℕ) (g : Generator) → suits_workload workload threads g ≡ true → (all : ℕ) (tally : Tally) (calls : List (ℕ × Request))
-    → AreOffers (clients (limit ops g)) all tally calls → AllSuit workload calls
+offers_suit_workload : (workload : TestWorkload) (threads ops : ℕ) (g : Generator) → suits_workload workload threads g ≡ true → (all : ℕ) (trace : Trace) (calls : List (ℕ × Request))
+    → AreOffers (clients (limit ops g)) all trace calls → AllSuit workload calls
 offers_suit_workload workload threads ops g h all [] [] o = tt
 offers_suit_workload workload threads ops g h all [] (c ∷ calls) o = absurd o
-offers_suit_workload workload threads ops g h all (p ∷ tally) [] o = absurd o
-offers_suit_workload workload threads ops g h all (path ∷ tally) (given ∷ calls) (q, asker, is, rest) = (
-  subst (Passes (suits_call workload)) is (passes workload threads g h ops tally (all_threads all) q),
-  offers_suit_workload workload threads ops g h all tally calls rest,
+offers_suit_workload workload threads ops g h all (p ∷ trace) [] o = absurd o
+offers_suit_workload workload threads ops g h all (path ∷ trace) (given ∷ calls) (q, asker, is, rest) = (
+  subst (Passes (suits_call workload)) is (passes workload threads g h ops trace (all_threads all) q),
+  offers_suit_workload workload threads ops g h all trace calls rest,
 )
 
 joined : (workload : TestWorkload) (xs ys : List (ℕ × Request)) → AllSuit workload xs → AllSuit workload ys → AllSuit workload (xs ++ ys)

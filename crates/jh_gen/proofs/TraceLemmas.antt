@@ -1,16 +1,16 @@
--- What one more call does to the parts of a tally.
+-- What one more call does to the parts of a trace.
 use Rattle.std.proofs.Common.{◌≡◌, refl, sym, ap, ap₂, ◌∙◌, ℕ, ◌-◌, ◌<◌, ◌≤◌, inl, inr, Bool, true, false, not, ◌&&◌, ◌||◌, [], ◌∷◌, arith}
 use Rattle.jh_edn.specs.Edn.{is_empty}
 use Rattle.std.specs.Prelude.{◌==◌, nat_le, filter}
 use Rattle.std.proofs.lemmas.Bool.{eq-eqb, ne_eqb, eqb-true, cond-true, cond-false, and_parts, and_from, or_cases, or_right, or_left, cases_Bool, leb-true, leb-false}
-use Rattle.jh_gen.specs.Tally.{Path, Tally, tally_under}
+use Rattle.jh_gen.specs.Trace.{Path, Trace, trace_under}
 use Rattle.jh_gen.specs.Scope.{Scope, is_in_scope}
 
-pub under_same : (i : ℕ) (p : Path) (t : Tally) → tally_under i ((i ∷ p) ∷ t) ≡ p ∷ tally_under i t
-under_same i p t = cond-true (i == i) (p ∷ tally_under i t) (tally_under i t) (eq-eqb i i refl)
+pub under_same : (i : ℕ) (p : Path) (t : Trace) → trace_under i ((i ∷ p) ∷ t) ≡ p ∷ trace_under i t
+under_same i p t = cond-true (i == i) (p ∷ trace_under i t) (trace_under i t) (eq-eqb i i refl)
 
-pub under_other : (i j : ℕ) (p : Path) (t : Tally) → (j ≡ i → ⊥) → tally_under i ((j ∷ p) ∷ t) ≡ tally_under i t
-under_other i j p t ne = cond-false (j == i) (p ∷ tally_under i t) (tally_under i t) (ne_eqb j i ne)
+pub under_other : (i j : ℕ) (p : Path) (t : Trace) → (j ≡ i → ⊥) → trace_under i ((j ∷ p) ∷ t) ≡ trace_under i t
+under_other i j p t ne = cond-false (j == i) (p ∷ trace_under i t) (trace_under i t) (ne_eqb j i ne)
 
 pub some_in : (S : Scope) (x : ℕ) → is_in_scope S x ≡ true → is_empty S ≡ false
 some_in [] x h = absurd cc
