@@ -1,7 +1,7 @@
 //! Nodes and their names. `specs/Names.antt` says which lists of names an environment may have.
 
-ghost use Rattle.std.specs.Prelude.{◌≡◌, ◌<◌, ◌≤◌, ◌++◌, ◌∷◌, [], map, length, slice_get, position};
-ghost use Rattle.std.specs.Prelude.{option_map, IfOk, IfSome, MatchResult, MatchOption};
+ghost use Rattle.std.specs.Prelude.{◌≡◌, ◌<◌, ◌≤◌, ◌%◌, ◌++◌, ◌∷◌, [], map, length, slice_get};
+ghost use Rattle.std.specs.Prelude.{option_map, position, IfOk, IfSome, MatchResult, MatchOption};
 ghost use Rattle.std.specs.List.{All, list_all};
 ghost use Rattle.std.specs.Str.{bytes_eq};
 ghost use Rattle.std.specs.String.{string_bytes};
@@ -174,6 +174,16 @@ impl Nodes {
         } else {
             None
         }
+    }
+
+    /// The node that a thread of this number calls: threads have the nodes in order, the first node
+    /// again after the last.
+    pub fn of_thread(&self, thread: u32) -> Node
+        ensures node { result ≡ thread % length self.now }
+        ensures known { result < length self.now }
+    {
+        let place = thread as usize % self.len();
+        Node::at(place as u8)
     }
 
     /// All nodes, in the order of their names. Takes no memory.

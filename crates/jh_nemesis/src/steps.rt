@@ -1,16 +1,16 @@
 //! Steps and the answers to them. `specs/Steps.antt` says which answer a step has; a new kind of
 //! step begins there.
 
-ghost use Rattle.std.specs.Prelude.{◌≡◌, ◌↔◌, IfOk, IsTrue, pos};
-ghost use Rattle.jh_nemesis.specs.Steps.{code_of};
+ghost use Rattle.std.specs.Prelude.{◌≡◌, ◌↔◌, IfOk, IsTrue, length, pos};
+ghost use Rattle.jh_nemesis.specs.Steps.{FitsNodes, code_of};
 
-use jh_env::Fault;
+use jh_env::{Env, Fault, MAX_LAID};
 use std::alloc::{AllocError, Global};
 use std::marker::Model;
 use thiserror::Error;
 
-/// The most faults that are active at once: as many as can be laid, `jh_env::MAX_LAID`.
-pub const MAX_ACTIVE: usize = 256;
+/// The most faults that are active at once: as many as can be laid.
+pub const MAX_ACTIVE: usize = MAX_LAID;
 
 /// The most begins and withdrawals that lie in the past, where undo can reach them.
 pub const MAX_STEPS: usize = 4096;
@@ -41,6 +41,19 @@ impl Step {
             Step::WithdrawAll => Ok(Step::WithdrawAll),
             Step::Undo => Ok(Step::Undo),
             Step::Redo => Ok(Step::Redo),
+        }
+    }
+
+    /// Whether each node that its fault names is in the environment; so it is where it has no fault.
+    pub fn fits(&self, env: &Env) -> bool
+        ensures { IsTrue result ↔ FitsNodes (length env.now.names) self.now }
+    {
+        match self {
+            Step::Begin(_, fault) => fault.fits(env),
+            Step::Withdraw(_) => true,
+            Step::WithdrawAll => true,
+            Step::Undo => true,
+            Step::Redo => true,
         }
     }
 

@@ -1,11 +1,10 @@
 //! What happens in a world, and why a world refuses it. `specs/Events.antt` says which events are
 //! due.
 
-ghost use Rattle.std.specs.Prelude.{◌≡◌, ◌↔◌, length, IfOk, IsTrue};
-ghost use Rattle.jh_nemesis.specs.Steps.{FitsNodes};
+ghost use Rattle.std.specs.Prelude.{◌≡◌, IfOk};
 
 use crate::replicas::Reply;
-use jh_env::{Env, Node};
+use jh_env::Node;
 use jh_nemesis::{Step, StepAnswer};
 use jh_ops::Request;
 use std::alloc::{AllocError, Global};
@@ -81,18 +80,5 @@ impl From<AllocError> for WorldError {
 
     fn from(_error: AllocError) -> WorldError {
         WorldError::OutOfMemory
-    }
-}
-
-/// Whether each node that the fault of a step names is in the environment.
-pub(crate) fn fits(step: &Step, env: &Env) -> bool
-    ensures { IsTrue result ↔ FitsNodes (length env.now.names) step.now }
-{
-    match step {
-        Step::Begin(_, fault) => fault.fits(env),
-        Step::Withdraw(_) => true,
-        Step::WithdrawAll => true,
-        Step::Undo => true,
-        Step::Redo => true,
     }
 }

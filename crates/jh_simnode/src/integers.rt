@@ -1,6 +1,6 @@
-//! The numbers that a journal shows are integers of a text. In a definition a number has no bound;
-//! what is read of an `i64` has one. So these functions read each number and do nothing with it:
-//! what they are for is their contract.
+//! Each number that a journal shows can stand in a text, since it is an `i64` or fits one. A
+//! definition sees numbers without a bound, so this has to be shown of each. These functions read
+//! each number and do nothing with it: they are there for their contracts.
 
 ghost use Rattle.std.specs.Prelude.{All, FitsSigned};
 ghost use Rattle.std.specs.Int.{w64};

@@ -10,7 +10,6 @@ ghost use Rattle.jh_simnode.specs.Plans.{IsFit, IsKeptPlan, RefusesPlan, Refuses
 ghost use Rattle.jh_simnode.specs.declared.plan.PlanError.TheVariants.{OutOfMemory};
 
 use crate::database::{Database, Store};
-use crate::events::fits;
 use crate::schedule::{Entry, Schedule};
 use jh_env::Env;
 use jh_gen::{Gen, Inner, MAX_CLIENTS};
@@ -94,7 +93,7 @@ fn all_fit(schedule: &[Entry], environment: &Env) -> bool
         ↔ All (λ entry. FitsNodes (length environment.now.names) entry.step) schedule.now }
 {
     for entry in schedule {
-        if !fits(&entry.step, environment) {
+        if !entry.step.fits(environment) {
             return false;
         }
     }
@@ -246,7 +245,7 @@ impl Plan {
         self.database.volatile
     }
 
-    /// What the run asks the database to be.
+    /// What clients ask of the database.
     pub fn workload(&self) -> Workload
         ensures { result ≡ self.now.database.workload }
     {
@@ -260,7 +259,8 @@ impl Plan {
         self.database.initial
     }
 
-    /// The number of client threads, from 1 to 16, of a plan that can be run, as every plan.
+    /// The number of client threads, from 1 to 16. The last clause says that the plan can be run, as
+    /// every plan can.
     pub fn clients(&self) -> u32
         ensures clients { result ≡ self.now.clients }
         ensures few { rule.HasClients self.now }

@@ -2,6 +2,7 @@
 
 ghost use Rattle.std.specs.Prelude.{◌≡◌, ◌<◌, ◌≤◌, length};
 ghost use Rattle.std.specs.List.{All};
+ghost use Rattle.jh_tables.specs.Limits.{max_nodes};
 ghost use Rattle.jh_simnode.specs.Reach.{env_cells, is_node_running, is_node_killed, is_reached};
 ghost use Rattle.jh_simnode.specs.Reach.{is_timely, reached_nodes, responding_nodes, carries};
 ghost use Rattle.jh_simnode.specs.Reach.{delay_of};
@@ -9,9 +10,10 @@ ghost use Rattle.jh_simnode.specs.Stores.{is_uncut};
 
 use arrayvec::ArrayVec;
 use jh_env::{Env, Life, Link, Node};
+use jh_tables::MAX_NODES;
 
 /// Some of the nodes, in order.
-pub(crate) type SomeNodes = ArrayVec<Node, 64>;
+pub(crate) type SomeNodes = ArrayVec<Node, MAX_NODES>;
 
 /// How many milliseconds the links to a node and back may take together, so that its answer comes
 /// in time.
@@ -108,7 +110,7 @@ fn is_timely(env: &Env, node: Node, other: Node) -> bool
 /// Those of the nodes reached whose answers come in time.
 pub(crate) fn responding_nodes(env: &Env, node: Node, reached: &[Node]) -> SomeNodes
     requires known { All (λ p. p < length env.now.names) reached.now }
-    requires few { length reached.now ≤ 64 }
+    requires few { length reached.now ≤ max_nodes }
     ensures nodes { result.items ≡ responding_nodes (env_cells env.now) node reached.now }
     ensures known { All (λ p. p < length env.now.names) result.items }
 {

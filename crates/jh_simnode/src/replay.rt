@@ -7,7 +7,7 @@ ghost use Rattle.jh_simnode.specs.Laws.{state_at};
 ghost use Rattle.jh_simnode.specs.Replay.{FitsEvent, RefusesEvent, RefusesReplay};
 ghost use Rattle.jh_simnode.specs.Runs.{setup_of};
 
-use crate::events::{Event, WorldError, fits};
+use crate::events::{Event, WorldError};
 use crate::plan::Plan;
 use jh_nemesis::Nemesis;
 use std::alloc::Global;
@@ -21,7 +21,7 @@ fn apply_event(alloc: Global, nemesis: &mut Nemesis, event: &Event) -> Result<()
     let Event::Step { step, answer: _ } = event else {
         return Ok(());
     };
-    if !fits(step, nemesis.env()) {
+    if !step.fits(nemesis.env()) {
         return Err(WorldError::UnknownNode);
     }
     nemesis.apply(step.copy(alloc)?)?;

@@ -97,7 +97,7 @@ fn run_turns(alloc: Global, plan: &Plan, world: &mut World) -> Result<(), RunErr
 /// A serial run of a plan: the world after it, and its history. The same plan gives the same run
 /// each time.
 ///
-/// Takes time for each call and step, and for what the generator is large.
+/// Takes time for each call and step, and for the size of the generator.
 ///
 /// Errors: `Stuck` where in one round no thread got a call; `OutOfMemory`, or `World` with the
 /// same. A run never fills its world: it has at most two events for each call, and one for each

@@ -3,6 +3,7 @@
 
 ghost use Rattle.std.specs.Prelude.{◌≡◌, ℕ, pos, ◌+ℤ◌, ◌<◌, ◌≤◌, ◌&&◌, [], length, IfOk};
 ghost use Rattle.std.specs.List.{All};
+ghost use Rattle.jh_tables.specs.Limits.{max_nodes};
 ghost use Rattle.jh_simnode.specs.Limits.{max_events};
 ghost use Rattle.jh_simnode.specs.Reach.{env_cells, is_node_running};
 ghost use Rattle.jh_simnode.specs.Replicas.{is_lower, replica_at};
@@ -26,6 +27,7 @@ use crate::requests::{is_read_request, only_asks};
 use arrayvec::ArrayVec;
 use jh_env::{Env, Life, Node};
 use jh_ops::Request;
+use jh_tables::MAX_NODES;
 use std::alloc::{AllocError, Global};
 
 /// A replica that the node at a place takes over.
@@ -43,10 +45,10 @@ pub(crate) struct ReplyAndTaken {
 }
 
 /// Of each node, in order, the node whose replica it has in the end.
-type Sources = ArrayVec<Node, 64>;
+type Sources = ArrayVec<Node, MAX_NODES>;
 
 /// Of each node, in order, whether it is killed.
-pub(crate) type Flags = ArrayVec<bool, 64>;
+pub(crate) type Flags = ArrayVec<bool, MAX_NODES>;
 
 /// Which nodes are killed. Takes no memory.
 pub(crate) fn killed_nodes(env: &Env) -> Flags
@@ -123,7 +125,7 @@ fn send(env: &Env, replicas: &[Replica], from: Node, sources: &mut [Node], to: N
     }
 }
 
-/// One node sends all what it has.
+/// One node sends what it has to each of the others.
 fn send_to_all(env: &Env, replicas: &[Replica], sources: &mut [Node], from: Node)
     requires from { from < length env.now.names }
     requires sized { length replicas.now ≡ length env.now.names }
@@ -138,7 +140,7 @@ fn send_to_all(env: &Env, replicas: &[Replica], sources: &mut [Node], from: Node
     }
 }
 
-/// All nodes send all what they have.
+/// Each node in turn sends what it has to each of the others.
 fn spread(env: &Env, replicas: &[Replica]) -> Sources
     requires sized { length replicas.now ≡ length env.now.names }
     ensures sent { replicas_from replicas.now result.items
@@ -230,7 +232,7 @@ fn give_all(
 /// Those of these nodes whose own stamp is lower.
 fn older(replicas: &[Replica], stamp: Recency, these: &[Node]) -> SomeNodes
     requires known { All (λ p. p < length replicas.now) these.now }
-    requires few { length these.now ≤ 64 }
+    requires few { length these.now ≤ max_nodes }
     ensures nodes { result.items ≡ older_places replicas.now stamp these.now }
     ensures known { All (λ p. p < length replicas.now) result.items }
 {

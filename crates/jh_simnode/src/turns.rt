@@ -81,12 +81,7 @@ pub fn node_of(plan: &Plan, thread: u32) -> Node
     ensures node { result ≡ thread % length plan.now.env.names }
     ensures within { result < length plan.now.env.names }
 {
-    let nodes = plan.environment().nodes();
-    let place = thread as usize % nodes.len();
-    match nodes.at(place as u8) {
-        Some(node) => node,
-        None => unreachable!(),
-    }
+    plan.environment().nodes().of_thread(thread)
 }
 
 /// The driver of the plan's generator, cut off after as many calls as the plan has, for clients

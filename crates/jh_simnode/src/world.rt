@@ -11,7 +11,7 @@ ghost use Rattle.jh_simnode.specs.Limits.{max_events};
 ghost use Rattle.jh_simnode.specs.declared.events.Event.TheVariants as Event;
 
 use crate::database::{Database, Store};
-use crate::events::{Event, MAX_EVENTS, WorldError, fits};
+use crate::events::{Event, MAX_EVENTS, WorldError};
 use crate::replicas::{Replica, Reply, first_replicas};
 use crate::stores::{forget, killed_nodes, serve, take_over, tick_replicas};
 use jh_env::{Env, Node};
@@ -171,7 +171,7 @@ impl World {
         ensures work { self.new.work
             ≤ self.old.work + size_of_step (moment_at self.old.setup self.old.journal).faults step }
     {
-        if !fits(&step, self.nemesis.env()) {
+        if !step.fits(self.nemesis.env()) {
             return Err(WorldError::UnknownNode);
         }
         if self.journal.len() >= MAX_EVENTS {
