@@ -1,7 +1,8 @@
 //! A world behind a lock. Each thread that calls it counts its accepted calls in a share, and all
 //! shares together count the journal.
 //!
-//! A part is std's `Share` of the ledger; a share is a part with its count.
+//! The ledger of std has parts, which it calls `Share`. A share here (`WorldShare`) is such a part
+//! with its count.
 
 ghost use Rattle.std.specs.Prelude.{◌≡◌, ◌+◌, ◌<◌, [], length, sum_by, IfOk, IfSome, OnOk, OnErr};
 ghost use Rattle.std.specs.Prelude.{◌≤◌, MatchResult, IsSome, ⊤};
@@ -9,7 +10,7 @@ ghost use Rattle.jh_nemesis.specs.Steps.{FitsNodes};
 ghost use Rattle.jh_simnode.specs.Limits.{max_events};
 ghost use Rattle.jh_simnode.specs.Events.{AddsEvent, Refuses};
 ghost use Rattle.jh_simnode.specs.declared.events.Event.TheVariants as Event;
-ghost use Rattle.jh_workers.specs.Shown.{IsJournal};
+ghost use Rattle.jh_workers.specs.Shown.{IsJournal, world_parts};
 
 use crate::ports::{Count, Port};
 use jh_env::Node;
@@ -165,12 +166,12 @@ impl<L: Ledger> Counted<L> {
 
     /// The world, once all shares are back.
     fn settle(self, shares: Vec<WorldShare<L>>) -> Option<World>
-        requires { L.parts ≡ 32 }
+        requires { L.parts ≡ world_parts }
         ensures counted { IfSome result
             (λ world. length world.journal ≡ sum_by (λ share. share.count) shares.items) }
         ensures world { IfSome result (λ world. world ≡ self.world) }
-        ensures back { self.left + length shares.items ≡ 32 → IsSome result }
-        ensures whole { length shares.items ≡ 32 → IsSome result }
+        ensures back { self.left + length shares.items ≡ world_parts → IsSome result }
+        ensures whole { length shares.items ≡ world_parts → IsSome result }
     {
         let Counted {
             world,
@@ -231,13 +232,13 @@ pub struct LockedWorld<L: Ledger> {
 }
 
 impl<L: Ledger> LockedWorld<L> {
-    /// Puts a world in which nothing has happened behind a lock. The blank has 32 parts, so there are
-    /// 32 shares.
+    /// Puts a world in which nothing has happened behind a lock. The blank has `PARTS` parts, so there
+    /// are as many shares.
     pub fn new(world: World, blank: Blank) -> Self
         requires empty { world.journal ≡ [] }
         requires name { blank.name ≡ L.name }
         requires parts { blank.parts ≡ L.parts }
-        requires number { blank.parts ≡ 32 }
+        requires number { blank.parts ≡ world_parts }
     {
         let (book, rest) = blank.open::<L>();
         LockedWorld {
@@ -251,12 +252,12 @@ impl<L: Ledger> LockedWorld<L> {
     }
 
     /// Gives the world back for all shares that were handed out: their counts sum to the length of
-    /// its journal. `None` where one of them is missing, which none of 32 is.
+    /// its journal. `None` where one of them is missing, which none is where all `PARTS` come back.
     pub fn settle(self, shares: Vec<WorldShare<L>>) -> Option<World>
-        requires { L.parts ≡ 32 }
+        requires { L.parts ≡ world_parts }
         ensures counted { IfSome result
             (λ world. length world.journal ≡ sum_by ⟦<WorldShare<L> as Count>⟧.total shares.items) }
-        ensures whole { length shares.items ≡ 32 → IsSome result }
+        ensures whole { length shares.items ≡ world_parts → IsSome result }
     {
         let LockedWorld { inside } = self;
         inside.into_inner().settle(shares)

@@ -6,6 +6,7 @@ ghost use Rattle.jh_ops.specs.OperationWritten.{IsWritable};
 ghost use Rattle.jh_slots.specs.Seats.{Marks};
 ghost use Rattle.jh_workers.specs.Gather.{IsGathered};
 ghost use Rattle.jh_workers.specs.Outcomes.{IsOutcome};
+ghost use Rattle.jh_workers.specs.Shown.{world_parts};
 
 use crate::locked::{LockedWorld, PARTS};
 use crate::monitor::RunError;
@@ -62,7 +63,7 @@ fn run_over<L: Ledger + Send + Sync, R: Threads + Wait + Sync>(
     requires empty { world.journal ≡ [] }
     requires name { blank.name ≡ L.name }
     requires parts { blank.parts ≡ L.parts }
-    requires number { blank.parts ≡ 32 }
+    requires number { blank.parts ≡ world_parts }
     ensures outcome { IfOk result
         (λ run. IsOutcome plan.now run.journal.items (operations run.history.items)) }
     ensures gathered { IfOk result

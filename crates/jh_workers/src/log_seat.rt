@@ -3,6 +3,7 @@
 
 ghost use Rattle.std.specs.Prelude.{◌≡◌, ◌+◌, ◌*◌, ◌<◌, ◌≤◌, All, IfOk, IfErr, OnOk, length};
 ghost use Rattle.jh_slots.specs.Seats.{HoldsClaim};
+ghost use Rattle.jh_slots.specs.Sizes.{max_claimed};
 ghost use Rattle.jh_ops.specs.Operation.{operation, operations};
 ghost use Rattle.jh_ops.specs.OperationWritten.{IsWritable};
 ghost use Rattle.jh_workers.specs.Gather.{IsGathered};
@@ -15,8 +16,8 @@ use jh_slots::{Claim, Full, ROW_WORDS, Seat, Slots};
 use std::alloc::Global;
 use std::marker::{Brand, PhantomData};
 
-/// The log that a run writes into, as a name in the types for the prover alone: `Brand` makes a new one for
-/// each run, so that a seat of one log is never taken for a seat of another.
+/// The log that a run writes into, as a name in the types for the prover alone: `Brand` makes a new
+/// one for each run, so that a seat of one log is never taken for a seat of another.
 pub trait OfLog {
     /// The table of the log.
     ghost table: { TableId };
@@ -74,7 +75,7 @@ impl<B: OfLog> LogSeat<B> {
     /// Error: fewer rows are left.
     pub fn claim(&mut self, slots: &Slots, rows: u32) -> Result<Claim, Full>
         requires table { slots.now.table ≡ B.table }
-        requires rows { (1 ≤ rows) × (rows ≤ 255) }
+        requires rows { (1 ≤ rows) × (rows ≤ max_claimed) }
         ensures held { IfOk result
             (λ claim. HoldsWords self.new.seat.knows claim.first claim.rows × (claim.rows ≡ rows)) }
         ensures seen { self.new.seat.knows.seen ≡ self.old.seat.knows.seen }
@@ -97,7 +98,7 @@ impl<B: OfLog> LogSeat<B> {
         requires table { slots.now.table ≡ B.table }
         requires holds { HoldsWords self.old.seat.knows claim.first claim.rows
             × (claim.rows ≡ rows) }
-        requires rows { rows ≤ 255 }
+        requires rows { rows ≤ max_claimed }
         ensures { OnOk result
             (Publishes self.old.seat.knows.seen (operation op.now) self.new.seat.knows.seen) }
     {

@@ -9,6 +9,7 @@ ghost use Rattle.jh_simnode.specs.declared.replicas.Reply.{Reply};
 ghost use Rattle.jh_simnode.specs.Histories as rule;
 ghost use Rattle.jh_simnode.specs.Running as running;
 ghost use Rattle.jh_simnode.specs.Runs.{ticks_at};
+ghost use Rattle.jh_slots.specs.Sizes.{max_claimed, row_words};
 ghost use Rattle.jh_workers.specs.RecordsInside as records;
 ghost use Rattle.jh_workers.specs.RecordsInside.{HoldsWords, Publishes, PublishesBoth};
 ghost use Rattle.jh_ops.specs.declared.operation.Op.{Op};
@@ -64,12 +65,14 @@ fn integers_written(request: Request, reply: &Reply) -> usize
     }
 }
 
-/// How many rows the completion of a request takes: five words a row, of which three come before
-/// the integers.
+/// How many rows the completion of a request takes. A row has five words, and a record has three
+/// words before its integers.
 fn rows_written(request: Request, reply: &Reply) -> u32
-    ensures within { (1 ≤ result) × (result ≤ 255) }
-    ensures enough { min (3 + records.integers_written request reply.now) 1275 ≤ 5 * result }
-    ensures least { 5 * result < min (3 + records.integers_written request reply.now) 1275 + 5 }
+    ensures within { (1 ≤ result) × (result ≤ max_claimed) }
+    ensures enough { min (3 + records.integers_written request reply.now) (max_claimed * row_words)
+        ≤ row_words * result }
+    ensures least { row_words * result
+        < min (3 + records.integers_written request reply.now) (max_claimed * row_words) + row_words }
 {
     let most = MAX_CLAIMED as usize * ROW_WORDS - 3;
     let words = 3 + integers_written(request, reply).min(most);
@@ -86,7 +89,7 @@ fn publish<B: OfLog, P: Port>(
     made: Result<Op, AllocError>,
 ) -> Result<(), RunError>
     requires holds { HoldsWords log_seat.old.seat.knows claim.first claim.rows × (claim.rows ≡ rows) }
-    requires rows { rows ≤ 255 }
+    requires rows { rows ≤ max_claimed }
     ensures { OnOk result ((op : Op) × (made ≡ Ok op)
         × Publishes log_seat.old.seat.knows.seen (operation op) log_seat.new.seat.knows.seen) }
 {
@@ -100,7 +103,7 @@ fn publish<B: OfLog, P: Port>(
     Ok(())
 }
 
-/// Records that a client's process asks.
+/// Records the invocation of a client's process.
 fn record_invocation<B: OfLog, P: Port>(
     shared: &Shared<'_, B, P>,
     log_seat: &mut LogSeat<B>,
