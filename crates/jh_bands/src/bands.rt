@@ -65,8 +65,9 @@ fn bands_of_changes(alloc: Global, changes: &[Change]) -> Result<Vec<Band>, Allo
 /// A step stands under `:step` in the record that asks for it, as `jeprun drive` writes; where a
 /// record has none, as `jeprun run` writes, it is the one of `steps` at the record's place. A step
 /// that is not known, or is none of `[:begin ID FAULT]`, `[:withdraw ID]`, `[:withdraw-all]`,
-/// `[:undo]` and `[:redo]`, makes no band and changes nothing, and so does one that was refused, any
-/// other record of the nemesis, and a step that the active list does not allow, as none of ours has.
+/// `[:undo]` and `[:redo]`, makes no band and changes nothing. Nor does one that was refused, or that
+/// the active list does not allow, which no history of this program has, nor any other record of the
+/// nemesis.
 ///
 /// Takes time in the order of the records times the faults that are active at once, and O(n log n)
 /// for n changes of the list.

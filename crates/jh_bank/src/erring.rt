@@ -120,8 +120,8 @@ pub(crate) fn first_place(error: BankError, erring: &[ErringRead]) -> Option<usi
     }
 }
 
-/// The worse of what was the worst and one more, if that is to count. Of two that are as bad it is the
-/// one that was the worst.
+/// The worst read so far and one more, if that counts: the worse of both, and of two that are as bad
+/// the earlier one.
 fn worse(counts: bool, worst: Option<ErringRead>, read: ErringRead) -> Option<ErringRead>
     ensures { result ≡ worse_of counts worst read }
 {

@@ -4,7 +4,7 @@ ghost use Rattle.std.specs.Prelude.{◌≡◌};
 ghost use Rattle.jh_bank.specs.Banks.{is_bank_error};
 ghost use Rattle.jh_bank.specs.BankInside.{first_error_of};
 
-/// What is wrong with a read of a bank, each where none of those before it applies.
+/// What is wrong with a read of a bank: the first of these that applies.
 #[derive(Clone, Copy, Debug, PartialEq, Eq)]
 pub enum BankError {
     /// It shows a balance under a key that is none of the accounts (`:unexpected-key`).

@@ -66,7 +66,8 @@ fn write_kind<W: Write>(
     write_errors(errors, writer)
 }
 
-/// Whether the next pair is still the first one, behind that of these reads.
+/// Whether the pair of the next error is the first one that is written: none was before, and there are
+/// no reads with this error.
 fn is_first(first: bool, errors: &Option<ReadErrors>) -> bool
     ensures { result ≡ (first && is_none errors.now) }
 {

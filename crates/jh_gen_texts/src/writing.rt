@@ -90,7 +90,8 @@ fn rising_name(rise: Rise) -> &'static str
     }
 }
 
-/// The text of a generator, whose numbers of 32 bits were all looked at on the way.
+/// The text of a generator. On the way each of its numbers is read, so that a clause can say that all
+/// are below 2^32.
 #[cycle(written)]
 fn written(alloc: Global, source: &Gen) -> Result<Value, AllocError>
     ensures text { IfOk result (λ value. view value ≡ edn_of_generator (generator_of source.now)) }

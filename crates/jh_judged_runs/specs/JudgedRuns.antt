@@ -13,8 +13,8 @@ use Rattle.jh_simnode.specs.Plans.{PlanValue}
 use Rattle.jh_simnode.specs.Runs.{IsSerialRun}
 use Rattle.jh_simnode.specs.declared.events.Event.{Event}
 
--- by the checker of the plan's workload, from what a register holds at first; a no is not explained,
--- and what is said to other checkers means nothing, since no cluster runs their workloads
+-- By the checker of the plan's workload, from what a register holds at first. A no is not explained,
+-- and options of other checkers are not used, since no cluster runs their workloads.
 abbrev pub run_judging : PlanValue → ℕ → Judging
 run_judging p budget =
     record (judging_by (checker_of p.database.workload) budget) { initial = p.database.initial }

@@ -27,7 +27,7 @@ pub enum QueueResult {
     },
 }
 
-/// The earlier of the first place so far and one more, if no enqueue is found there.
+/// The first place so far at which no enqueue is found, once one more place was looked at.
 fn first_with(first: Option<usize>, none: bool, place: usize) -> Option<usize>
     ensures { result ≡ inside.first_with first none place }
 {

@@ -46,8 +46,8 @@ greater_id id entry = if nat_lt id (id_named entry.step) then id_named entry.ste
 abbrev pub greatest_id : List Entry → ℕ
 greatest_id entries = fold greater_id 0 entries
 
--- The faults of a candidate have the ids that follow the greatest of the plan's own, around where
--- there is no greater.
+-- The faults of a candidate have the ids that follow the greatest of the plan's own. Behind the
+-- greatest id of all comes 0.
 abbrev pub fault_id : PlanValue → ℕ → ℕ
 fault_id p fault = (greatest_id p.schedule + 1 + fault) % 2 ^ 32
 
@@ -106,8 +106,8 @@ entries_with_faults p options seed =
 -- two candidates in three heal, by their first random number: they withdraw all faults that are
 -- active then
 abbrev pub healed_entries : PlanValue → ℕ → List Entry → List Entry
-healed_entries p own entries =
-    if (own % 3) == 0 then entries
+healed_entries p number entries =
+    if (number % 3) == 0 then entries
     else entries_with entries (record { at = calls_before_heal p; step = WithdrawAll })
 
 abbrev pub random_schedule : PlanValue → Options → ℕ → List Entry
@@ -116,7 +116,7 @@ random_schedule p options seed =
 
 -- ---- the candidate
 
--- the seed of the candidate of this number, around the end of those that settings may have
+-- the seed of the candidate of this number; behind the greatest that settings may have comes 0
 abbrev pub seed_of : PlanValue → ℕ → ℕ
 seed_of p candidate = (p.seed + candidate) % 2 ^ 63
 

@@ -149,15 +149,15 @@ fn entries_with_faults(
     Ok(entries)
 }
 
-/// Puts the withdrawal of all faults among entries, where the candidate has one: two candidates in three heal,
-/// as their first random number says.
-fn put_heal(plan: &Plan, own: u64, entries: &mut Vec<Entry>) -> Result<(), AllocError>
+/// Puts the withdrawal of all faults among entries, where the candidate heals: two candidates in
+/// three do, as their first random number says.
+fn put_heal(plan: &Plan, first_number: u64, entries: &mut Vec<Entry>) -> Result<(), AllocError>
     requires kept { AreEntriesFor plan.now entries.old.items }
     ensures put { OnOk result
-        (entries.new.items ≡ rule.healed_entries plan.now own entries.old.items) }
+        (entries.new.items ≡ rule.healed_entries plan.now first_number entries.old.items) }
     ensures kept { OnOk result (AreEntriesFor plan.now entries.new.items) }
 {
-    if own % 3 == 0 {
+    if first_number % 3 == 0 {
         return Ok(());
     }
     let heal = Entry {
@@ -179,9 +179,9 @@ fn random_entries(
     ensures kept { IfOk result (λ entries. AreEntriesFor plan.now entries.items) }
 {
     let mut numbers = numbers_of(seed);
-    let own = next(&mut numbers);
+    let first_number = next(&mut numbers);
     let mut entries = entries_with_faults(alloc, plan, options, &mut numbers)?;
-    put_heal(plan, own, &mut entries)?;
+    put_heal(plan, first_number, &mut entries)?;
     Ok(entries)
 }
 
@@ -222,16 +222,15 @@ fn seed_of(plan: &Plan, number: u64) -> u64
     (raised % (1 << 63)) as u64
 }
 
-/// The candidate of this number, from 0: the plan with its seed raised by the number, around 2^63,
-/// and with random faults among the entries of its schedule. A schedule has at most 1,024 entries;
-/// what it has no room for is left out. Each fault, also one of the plan's own, has its links,
-/// nodes or bumps in the order of its text.
+/// The candidate of this number, from 0: the plan with its seed raised by the number, modulo 2^63,
+/// and with random faults among the entries of its schedule. A schedule has at most `MAX_ENTRIES`
+/// entries; what it has no room for is left out. Each fault, also one of the plan's own, has its
+/// links, nodes or bumps in the order of its text.
 ///
 /// Takes time for each fault and for the entries that stand behind it, and to sort what each fault
 /// names; and memory for the whole plan.
 ///
-/// Where settings can say the plan they can say the candidate, and what is read of these is the
-/// candidate again.
+/// Where settings can say the plan, they can say the candidate, and mean it when they are read.
 ///
 /// Error: memory was refused.
 pub fn candidate(

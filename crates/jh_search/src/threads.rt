@@ -60,8 +60,8 @@ impl From<AllocError> for SearchError {
 /// What trying one candidate gave.
 type Answer = Result<Verdict, AllocError>;
 
-/// The candidates of a block, as a name in the types for the prover alone: how many there are, and what may
-/// come of each. `Brand` makes a new one for each block.
+/// The candidates of a block, as a name in the types for the prover alone: how many there are, and
+/// what may come of each. `Brand` makes a new one for each block.
 pub trait Tries {
     /// How many there are.
     ghost count: { ℕ };
@@ -117,7 +117,7 @@ impl<'a, Q: Tries> Task<Answer> for Candidates<'a, Q> {
     }
 }
 
-/// What came of so many candidates.
+/// The answers of so many candidates from a number on, tried on threads, where the types name them.
 fn tried<Q: Tries + Send + Sync, R: Threads + Wait + Sync>(
     rt: &R,
     alloc: Global,
@@ -147,7 +147,7 @@ fn tried<Q: Tries + Send + Sync, R: Threads + Wait + Sync>(
     answer_tasks::<Answer, Candidates<'_, Q>, R>(rt, alloc, &candidates, count, threads)
 }
 
-/// What came of the candidates of a block.
+/// The answers of the candidates of a block, tried on threads.
 fn block<R: Threads + Wait + Sync>(
     rt: &R,
     alloc: Global,
@@ -227,9 +227,9 @@ fn after_block(
 }
 
 /// Tries candidates on so many threads, this one among them: what is found is what `search_serial`
-/// may find, the least candidate that fails, whatever the number of threads. Each next thread that
-/// is free takes the next candidate, and none above one that fails is begun. All threads have ended
-/// when it returns.
+/// may find, the least candidate that fails, whatever the number of threads. A thread that is free
+/// takes the next candidate, and none above one that fails is begun. All threads have ended when
+/// it returns.
 ///
 /// May wait, and promises only if it returns. Takes the time of each run and of its judge, and
 /// memory for one at a time for each thread, and 2 bytes for each candidate of 1,024 at once.

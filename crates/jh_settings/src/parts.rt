@@ -6,7 +6,7 @@ use jh_gen::Gen;
 use jh_ops::Workload;
 use jh_simnode::Store;
 
-/// Where calls are answered, and which calls may come.
+/// The cluster that answers calls, and which calls may come.
 #[derive(Drop)]
 pub(crate) struct Cluster {
     pub environment: Env,
@@ -25,9 +25,9 @@ pub(crate) struct Load {
     pub initial: Option<i64>,
 }
 
-/// How often a client thread ticks, how large the log is, how all is chosen, and how much the
-/// judgement may take: numbers of the settings, where the limits of `specs/Limits.antt` are the
-/// most that such numbers may be.
+/// Numbers of the settings: after how many of its calls a client thread ticks, how many rows the log
+/// has, the seed of what is random, and the budget of the judgement. The greatest that they may be
+/// are the limits of `specs/Limits.antt`.
 #[derive(Clone, Copy, Drop)]
 pub(crate) struct Limits {
     pub tick_every: u32,

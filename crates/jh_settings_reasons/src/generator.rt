@@ -26,7 +26,8 @@ fn add_step(line: &mut Vec<u8>, step: &FormStep<'_>) -> Result<(), AllocError>
     add_shown(line, &step.place)
 }
 
-/// What parts a step from those behind it, or the last one from what stands there.
+/// What stands behind a step: a comma where there are later ones, or else the colon that ends the
+/// way.
 fn behind_step(later: &[FormStep<'_>]) -> &'static str
     ensures { result.now ≡ rule.behind_step later.now }
 {

@@ -1,6 +1,6 @@
-//! The node that a step names and that is none. Of a step, texts name nodes: those behind the kind of
-//! its fault, alone, in a list or as the ends of links, and the keys of a map. No clause says which one
-//! is found; tests do.
+//! The name in a step that no node has. A step names nodes by the texts behind the kind of its fault,
+//! alone, in a list or as the ends of links, and by the keys of a map. No clause says which name is
+//! found; tests do.
 
 use jh_edn::Value;
 use jh_env::Nodes;

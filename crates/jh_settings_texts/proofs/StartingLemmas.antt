@@ -10,7 +10,7 @@ use Rattle.jh_env.specs.Cells.{Table, Link, link_at}
 use Rattle.jh_env.specs.Names.{node_places}
 use Rattle.jh_env.specs.Overlay.{EnvValue, cells_of}
 use Rattle.jh_env.specs.Starting.{IsStartingLink, IsStartingNode}
-use Rattle.jh_settings_texts.specs.StartInside.{IsStarting, MayStartLink, MayStartNode}
+use Rattle.jh_settings_texts.specs.StartInside.{HasStartingCells, MayStartLink, MayStartNode}
 
 none_not : {A : Type 0} (x : A) → None ≡ Some x → ⊥
 none_not x e = cc
@@ -35,7 +35,7 @@ if_some P (Some x) each = each x refl
 
 pub all_starting : (env : EnvValue) → length (cells_of env).nodes ≡ length env.names
     → All (λ from. All (MayStartLink env from) (node_places (length env.names))) (node_places (length env.names))
-    → All (MayStartNode env) (node_places (length env.names)) → IsStarting env
+    → All (MayStartNode env) (node_places (length env.names)) → HasStartingCells env
 all_starting env whole links nodes = record {
   links = λ a b link there.
       let within = link_within (cells_of env) a b link there in
@@ -48,8 +48,8 @@ all_starting env whole links nodes = record {
       subst (λ o. IfSome o IsStartingNode) there (at_place (MayStartNode env) n a nodes (subst (λ k. a < k) whole below));
 }
 
-pub links_starting : (env : EnvValue) → IsStarting env → (places : List ℕ) → All (λ from. All (MayStartLink env from) places) places
+pub links_starting : (env : EnvValue) → HasStartingCells env → (places : List ℕ) → All (λ from. All (MayStartLink env from) places) places
 links_starting env starting places = λ i d below. λ j e within. if_some IsStartingLink _ (λ link there. starting.links _ _ link there)
 
-pub nodes_starting : (env : EnvValue) → IsStarting env → (places : List ℕ) → All (MayStartNode env) places
+pub nodes_starting : (env : EnvValue) → HasStartingCells env → (places : List ℕ) → All (MayStartNode env) places
 nodes_starting env starting places = λ i d below. if_some IsStartingNode _ (λ cell there. starting.nodes _ cell there)

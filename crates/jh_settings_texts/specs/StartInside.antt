@@ -12,7 +12,8 @@ MayStartLink env a b = IfSome (link_of env a b) IsStartingLink
 abbrev pub MayStartNode : EnvValue → ℕ → Type 0
 MayStartNode env a = IfSome (node_of env a) IsStartingNode
 
--- each link and each node is as it may be at a start
-pub record IsStarting (env : EnvValue) : Type 0 where
+-- Each link and each node is as it may be at a start. `CanStart` of jh_env asks for good names and a
+-- cell for each node besides.
+pub record HasStartingCells (env : EnvValue) : Type 0 where
   pub links : (a b : ℕ) (link : Link) → link_of env a b ≡ Some link → IsStartingLink link
   pub nodes : (a : ℕ) (cell : NodeCell) → node_of env a ≡ Some cell → IsStartingNode cell

@@ -21,7 +21,7 @@ use Rattle.jh_laws.specs.StepLines.{IsStepOver}
 use Rattle.jh_settings_texts.specs.DocumentWritten.{printed_text, whole_number}
 use Rattle.jh_settings_texts.specs.DocumentWritten.{schedule_texts}
 use Rattle.jh_settings_texts.specs.SettingsWritten.{IsWritableEntry}
-use Rattle.jh_settings_texts.specs.StartInside.{IsStarting}
+use Rattle.jh_settings_texts.specs.StartInside.{HasStartingCells}
 
 -- the members with this one, at its place in the order of the keys' bytes
 abbrev pub put_member : List ℕ → Data → Members → Members
@@ -84,7 +84,7 @@ pub record HasWritableNumbers (p : PlanValue) : Type 0 where
 
 -- the start and the generator have texts that are read back
 pub record HasWritableTexts (p : PlanValue) : Type 0 where
-  pub start : IsStarting p.env
+  pub start : HasStartingCells p.env
   pub generator : IsPrintable depth_limit (edn_of_generator p.generator)
 
 -- and the numbers and the schedule can be written

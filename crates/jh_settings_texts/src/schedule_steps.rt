@@ -29,8 +29,9 @@ fn steps_of_entries(
     Ok(steps)
 }
 
-/// The steps of the schedule of a run, by its settings, a TOML document: a text for each entry, in order,
-/// as `value_of_step` writes it. Who draws what a run printed names its records of the nemesis by them.
+/// The steps of the schedule of a run, by its settings, a TOML document: a text for each entry, in
+/// order, as `value_of_step` writes it. A page that draws what a run printed says by them which steps
+/// the nemesis took.
 ///
 /// Errors: those of `settings_of`, in their order; `OutOfMemory`.
 pub fn steps_in_settings(alloc: Global, bytes: &[u8]) -> Result<Vec<Value>, SettingsError>

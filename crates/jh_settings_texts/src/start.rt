@@ -2,7 +2,7 @@
 
 ghost use Rattle.std.specs.Prelude.{◌↔◌, All, IfSome, IsTrue};
 ghost use Rattle.jh_env.specs.Starting.{IsStartingLink, IsStartingNode};
-ghost use Rattle.jh_settings_texts.specs.StartInside.{IsStarting, MayStartLink, MayStartNode};
+ghost use Rattle.jh_settings_texts.specs.StartInside.{HasStartingCells, MayStartLink, MayStartNode};
 
 use jh_env::{Env, Link, MAX_START_DELAY_MS, MAX_START_LOSS, MAX_START_OFFSET_MS, Node, NodeCell};
 
@@ -63,9 +63,9 @@ fn nodes_may_start(env: &Env, nodes: &[Node]) -> bool
 }
 
 /// Whether each link and each node is as it may be at a start. `CanStart` of `jh_env`, by which a
-/// start is printed, says this, and of names and cells what holds of each `Env`.
+/// start is printed, asks for this, and besides for what holds of the names and cells of every `Env`.
 pub(crate) fn may_start(env: &Env) -> bool
-    ensures { IsTrue result ↔ IsStarting env.now }
+    ensures { IsTrue result ↔ HasStartingCells env.now }
 {
     let nodes = env.nodes().all();
     all_links_may_start(env, nodes.as_slice()) && nodes_may_start(env, nodes.as_slice())

@@ -3,13 +3,12 @@
 -- `[:bump {"n1" 500, ..}]`, where LINKS are `[[src dst] ..]`, NODES `["n1" ..]`, and each name is a
 -- node's; or a cut that is named by a grudge over all nodes: `[:halves]`, `[:split-one "n1"]`,
 -- `[:bridge]`, `[:ring]` and `[:ring SEED]`. A new kind of fault is a new case here.
-use Rattle.std.specs.Prelude.{◌≡◌, ℕ, ◌^◌, ◌&&◌, ◌⊎◌, Bool, true, ℤ, pos, negsuc, List, [], ◌∷◌}
-use Rattle.std.specs.Prelude.{◌++◌, length, codes, not, nat_lt, nat_le, if◌then◌else◌}
+use Rattle.std.specs.Prelude.{◌≡◌, ℕ, ◌⊎◌, Bool, ℤ, List, [], ◌∷◌, length, codes, if◌then◌else◌}
 use Rattle.std.specs.Prelude.{is_some, option_and_then, option_map, Option, Some, None}
 use Rattle.std.specs.Prelude.{Result, Ok, Err, MatchResult, IsOk}
 use Rattle.std.specs.List.{list_all}
 use Rattle.std.specs.Str.{bytes_eq}
-use Rattle.jh_edn.specs.Edn.{Edn, int, str, keyword, mapping, elements_of, pairs_in}
+use Rattle.jh_edn.specs.Edn.{Edn, int, keyword, mapping, elements_of, pairs_in}
 use Rattle.jh_env.specs.Amounts.{link_fault_of}
 use Rattle.jh_env.specs.declared.amounts.GivenLinkFault.{GivenLinkFault}
 use Rattle.jh_env.specs.Faults.{FaultValue, kept_links, Cut}
@@ -27,8 +26,9 @@ use Rattle.jh_step_texts.specs.declared.kinds.FaultKind.{FaultKind}
 use Rattle.jh_step_texts.specs.NamedFaults.{links_that, named_links, touches, IsOverAll}
 use Rattle.jh_step_texts.specs.declared.spelling.NamedGrudge.{NamedGrudge}
 
--- a fault as it is spelled: what it does to its links, whatever its amount, and their values; its
--- kind and the values of its nodes; those of its bumps; or the loner's name; or the name of its grudge
+-- A fault as it is spelled, before anything is judged: what it does to links, with the values of
+-- these; what it does to nodes, with the values of these; the pairs of its bumps; for a split, the
+-- name of the node that is left alone; or the grudge that it is named by.
 pub data FaultSpelling : Type 0 where
   Links : GivenLinkFault → List Edn → FaultSpelling
   Nodes : NodeFault → List Edn → FaultSpelling
@@ -36,7 +36,7 @@ pub data FaultSpelling : Type 0 where
   SplitOne : List ℕ → FaultSpelling
   Grudge : NamedGrudge → FaultSpelling
 
--- these, if each of them is such
+-- these, if the test holds of each of them
 abbrev pub all_of : {A : Type 0} → (A → Bool) → List A → Option (List A)
 all_of is xs = if list_all is xs then Some xs else None
 
@@ -50,7 +50,7 @@ abbrev pub bumps_in : Edn → Option (List (Edn × Edn))
 bumps_in (mapping ms) = all_of (λ b. is_some (bump_spelled b)) (pairs_in ms)
 bumps_in _ = None
 
--- a keyword alone
+-- what a keyword alone spells
 abbrev pub spelled_by_keyword : List ℕ → Option FaultSpelling
 spelled_by_keyword name =
     if bytes_eq name (codes "halves") then Some (Grudge NamedGrudge.Halves)
@@ -63,15 +63,15 @@ abbrev pub spelled_ring : Edn → Option FaultSpelling
 spelled_ring (int seed) = Some (Grudge (NamedGrudge.ShuffledRing seed))
 spelled_ring _ = None
 
--- a keyword and what a cut of a grudge is about
+-- what a keyword and a value spell, where the keyword is that of a grudge and of no kind of fault
 abbrev pub spelled_grudge : List ℕ → Edn → Option FaultSpelling
 spelled_grudge name v =
     if bytes_eq name (codes "split-one") then option_map SplitOne (node_name v)
     else if bytes_eq name (codes "ring") then spelled_ring v
     else None
 
--- a kind and what a fault of it is about, without an amount; or, where the keyword is no kind's, a
--- cut of a grudge
+-- what a keyword and a value spell, where a fault of the keyword's kind has no amount; or, where the
+-- keyword is no kind's, a cut of a grudge
 abbrev pub spelled_unmeasured : Option FaultKind → List ℕ → Edn → Option FaultSpelling
 spelled_unmeasured (Some FaultKind.Cut) name v = option_map (Links GivenLinkFault.Cut) (links_in v)
 spelled_unmeasured (Some FaultKind.Pause) name v = option_map (Nodes NodeFault.Pause) (nodes_in v)
@@ -80,7 +80,7 @@ spelled_unmeasured (Some FaultKind.Bump) name v = option_map Bumps (bumps_in v)
 spelled_unmeasured (Some kind) name v = None
 spelled_unmeasured None name v = spelled_grudge name v
 
--- a keyword and what it is about, without an amount
+-- what a keyword and a value spell, without an amount
 abbrev pub unmeasured_fault : List ℕ → Edn → Option FaultSpelling
 unmeasured_fault name v = spelled_unmeasured (fault_kind_named name) name v
 
@@ -91,7 +91,7 @@ measured FaultKind.Loss z = Some (GivenLinkFault.Loss z)
 measured FaultKind.Fix z = Some (GivenLinkFault.Fix z)
 measured kind z = None
 
--- a keyword, an amount and what it is about
+-- what a keyword, an amount and a value spell
 abbrev pub measured_fault : List ℕ → ℤ → Edn → Option FaultSpelling
 measured_fault name z v =
     option_and_then (λ given. option_map (Links given) (links_in v))
@@ -112,7 +112,7 @@ abbrev pub IsRingOverAll : ℕ → Option FaultSpelling → Type 0
 IsRingOverAll n (Some (Grudge named)) = IsOverAll n named
 IsRingOverAll n _ = Unit {0}
 
--- what follows from a part that has to be there, or else the refusal
+-- what is parsed with a part that has to be there, or the refusal where it is not
 abbrev pub result_or_refusal : {A B : Type 0} → Option A → StepTextError
     → (A → Result B StepTextError) → Result B StepTextError
 result_or_refusal None refusal parsed = Err refusal
@@ -164,7 +164,7 @@ parsed_fault names (Bumps bumps) = parsed_bumps names bumps
 parsed_fault names (SplitOne loner) = parsed_split names loner
 parsed_fault names (Grudge named) = parsed_named (length names) named
 
--- What was answered is what is parsed, unless memory was refused for what would have been parsed.
+-- What was answered is what is parsed; or memory was refused where something would be parsed.
 abbrev pub IsParsedAs : {A : Type 0} → Result A StepTextError → Result A StepTextError → Type 0
 IsParsedAs answer parsed =
     MatchResult answer (λ x. parsed ≡ Ok x)

@@ -1,5 +1,5 @@
 //! Faults as EDN values: which fault is parsed. `specs/FaultText.antt` has the rule, case by case.
-//! Whether a fault is refused, jh_env judges; here its refusals are those of a step.
+//! jh_env judges whether a fault is refused; here its refusals become those of a step.
 
 ghost use Rattle.std.specs.Prelude.{Some, IfOk, length};
 ghost use Rattle.jh_edn.specs.View.{views, view_pairs};

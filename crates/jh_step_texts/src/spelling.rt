@@ -21,8 +21,9 @@ pub enum NamedGrudge {
     ShuffledRing(i64),
 }
 
-/// A fault as it is spelled: the values of its links, its nodes or its bumps, each of the right
-/// shape, or the name of the node that is split off, or the name of its grudge.
+/// A fault as it is spelled, before anything is judged: the values of its links, its nodes or its
+/// bumps, each of the right shape; for a split, the name of the node that is left alone; or the
+/// grudge that it is named by.
 #[derive(Clone, Copy, Debug)]
 pub enum SpelledFault<'a> {
     Links(GivenLinkFault, &'a [Value]),

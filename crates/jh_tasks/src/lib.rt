@@ -1,4 +1,4 @@
-//! Numbered tasks that threads share: the next thread that is free takes the next task.
+//! Numbered tasks that threads share: a thread that is free takes the next one.
 #![tactic(auto)]
 
 mod board;

@@ -147,11 +147,11 @@ fn do_rest<A: Drop, T: Task<A>>(task: &T, answers: &mut Vec<Option<A>>)
 }
 
 /// Does tasks on so many threads, this one among them, and gives what was answered to each, at the
-/// place of its number. Each next thread that is free takes the next task; none above a last one is
+/// place of its number. A thread that is free takes the next task, and none behind a last answer is
 /// begun. All threads have ended when it returns.
 ///
-/// An answer is missing where the task was not begun: it is above one that is last, or a thread
-/// could not be had. Where one thread is wanted, none is asked for.
+/// An answer is missing where the task was not begun: it is behind a last answer, or a thread could
+/// not be had. Where one thread is wanted, no other is asked for.
 ///
 /// May wait, and promises only if it returns. Where there are fewer tasks than threads, fewer
 /// threads are made.

@@ -14,12 +14,13 @@ use jh_ops::{Kind, Op, Process};
 use std::alloc::{AllocError, Global};
 use std::collections::BTreeMap;
 
-/// What the records of a process from an index on say of the record that it has before them.
+/// What comes behind a record in its process: whether the next record completes it, and where the
+/// last one stands.
 #[derive(Clone, Copy, Debug)]
 struct Ahead {
-    /// The index of its completion, if it is an invocation and has one.
+    /// The index of the next record of the process, if that is a completion.
     completion: Option<usize>,
-    /// The index of the last of them.
+    /// The index of the last record of the process.
     last: usize,
 }
 
@@ -30,8 +31,8 @@ fn is_invocation(kind: Kind) -> bool
     matches!(kind, Kind::Invoke)
 }
 
-/// Whether a record of a process answers an invocation, where this says of each client whether its
-/// last record is one.
+/// Whether the next record of a process answers an invocation. `invoking` has of each client whether
+/// its last record is an invocation.
 fn is_answering(invoking: &BTreeMap<u64, bool>, process: Process) -> bool
     ensures { result ≡ invoking_with invoking.now process }
 {
@@ -57,14 +58,15 @@ fn answers_in(alloc: Global, history: &[Op]) -> Result<Vec<bool>, AllocError>
     Ok(answers)
 }
 
-/// The index of the last record of a process, among those behind an index and the one there.
+/// The index of the last record of a process, from the one at an index on.
 fn last_with(index: usize, behind: Option<Ahead>) -> usize
     ensures { result ≡ inside.last_with index behind }
 {
     behind.map_or(index, |ahead| ahead.last)
 }
 
-/// What records of a process say of the one before them, with one more in front.
+/// What comes behind a record, once one more record of the process was put right behind it, in front of
+/// those that were known.
 fn ahead_with(kind: Kind, index: usize, behind: Option<Ahead>) -> Ahead
     ensures { result ≡ inside.ahead_with kind index behind }
 {

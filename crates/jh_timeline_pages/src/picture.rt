@@ -28,7 +28,8 @@ fn write_sides<W: Write>(width: u128, height: u128, writer: &mut W) -> Result<()
     write!(writer, " width=\"{width}\" height=\"{height}\"").map_err(|_| PageError::Write)
 }
 
-/// Writes the same, whatever it is made as wide as, and how far to the right it begins.
+/// Writes which part of the plane a picture shows, by which a browser scales it: from so far to the
+/// right on, so wide and so high.
 fn write_view<W: Write>(
     left: u128,
     width: u128,
