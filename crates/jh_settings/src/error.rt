@@ -11,7 +11,7 @@ use std::marker::Model;
 use thiserror::Error;
 
 /// How many bytes a key has at most that is shown itself.
-pub(crate) const MAX_SHOWN: usize = 200;
+pub(crate) const MAX_SHOWN_KEY: usize = 200;
 
 /// The text of a key that no setting has. A contract sees its bytes, which are UTF-8.
 ///
@@ -58,7 +58,7 @@ impl Display for KeyText {
 
     fn fmt<W: Write>(&self, f: &mut Formatter<W>) -> fmt::Result {
         let bytes = self.text.len();
-        if bytes > MAX_SHOWN {
+        if bytes > MAX_SHOWN_KEY {
             write!(f, "a key of {bytes} bytes")
         } else {
             write!(f, "{}", OnOneLine(self.as_str()))

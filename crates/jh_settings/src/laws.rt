@@ -3,9 +3,9 @@
 
 ghost use Rattle.std.specs.Prelude.{◌≡◌};
 ghost use Rattle.jh_settings.specs.Limits.{max_budget, max_due_at, max_tick_every};
-ghost use Rattle.jh_settings.specs.Shown.{max_shown};
+ghost use Rattle.jh_settings.specs.Shown.{max_shown_key};
 
-use crate::error::MAX_SHOWN;
+use crate::error::MAX_SHOWN_KEY;
 use crate::numbers::{MAX_BUDGET, MAX_TICK_EVERY};
 use crate::schedule::MAX_DUE_AT;
 
@@ -14,5 +14,5 @@ pub fn limits()
     ensures budget { MAX_BUDGET ≡ max_budget }
     ensures tick_every { MAX_TICK_EVERY ≡ max_tick_every }
     ensures due_at { MAX_DUE_AT ≡ max_due_at }
-    ensures shown { MAX_SHOWN ≡ max_shown }
+    ensures shown { MAX_SHOWN_KEY ≡ max_shown_key }
 {}

@@ -8,7 +8,7 @@ use Rattle.jh_settings.specs.declared.keys.Key.{Key}
 abbrev pub form_step_text : FormStep → List ℕ
 form_step_text step = codes "[:" ++ (step.form.now ++ (codes "] " ++ decimal step.place))
 
--- what parts a step from the next one, or the last one from what stands there
+-- what stands behind a step: a comma where there are later ones, or else the colon that ends the way
 abbrev pub behind_step : List FormStep → List ℕ
 behind_step [] = codes ": "
 behind_step (step ∷ way) = codes ", "

@@ -1,3 +1,4 @@
+pub mod Limits
 pub mod Takes
 pub mod Faults
 pub mod Moments

@@ -14,7 +14,7 @@ use jh_settings::Key;
 use std::alloc::{AllocError, Global};
 
 /// How many characters of a part are shown at most.
-const MAX_SHOWN: usize = 40;
+pub(crate) const MAX_SHOWN_PART: usize = 40;
 
 /// Adds the text of a step, as `[:mix] 2`.
 fn add_step(line: &mut Vec<u8>, step: &FormStep<'_>) -> Result<(), AllocError>
@@ -60,7 +60,7 @@ fn shown_bytes(text: &[u8]) -> usize
         if byte & 0xC0 != 0x80 {
             characters += 1;
         }
-        if characters > MAX_SHOWN {
+        if characters > MAX_SHOWN_PART {
             return bytes;
         }
         bytes += 1;

@@ -3,6 +3,7 @@
 
 mod generator;
 mod key_texts;
+mod laws;
 mod line;
 mod moments;
 mod reasons;
@@ -12,4 +13,5 @@ mod toml_text;
 mod unknown_nodes;
 
 pub use key_texts::SettingsKind;
+pub use laws::limits;
 pub use reasons::settings_reasons;

@@ -22,7 +22,7 @@ use std::fmt::{self, Display, Formatter, Write};
 use toml::Table;
 
 /// How many bytes of an unknown node's name are shown at most.
-const MAX_NAME: usize = 64;
+pub(crate) const MAX_SHOWN_NAME: usize = 64;
 
 /// Why a value is no entry.
 #[derive(Clone, Copy, Debug, PartialEq, Eq)]
@@ -139,7 +139,7 @@ fn add_unknown_node(
         return Ok(());
     };
     add(line, " ")?;
-    add(line, &shortened(alloc, name, MAX_NAME)?)
+    add(line, &shortened(alloc, name, MAX_SHOWN_NAME)?)
 }
 
 /// The line that says why entries over these nodes are refused, without its line feed: the first

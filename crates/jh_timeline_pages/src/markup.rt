@@ -10,8 +10,8 @@ use crate::error::PageError;
 use std::alloc::Global;
 use std::io::Write;
 
-/// How many characters of a text are shown where it has to be short.
-const MAX_SHOWN: usize = 18;
+/// How many characters the label of a bar has room for: so many of a text are shown there.
+const LABEL_ROOM: usize = 18;
 
 /// Writes bytes as they are.
 pub(crate) fn put<W: Write>(bytes: &[u8], writer: &mut W) -> Result<(), PageError>
@@ -90,7 +90,7 @@ fn write_short<W: Write>(text: &str, writer: &mut W) -> Result<(), PageError>
 {
     let mut written = 0;
     for character in text.chars() {
-        if written == MAX_SHOWN {
+        if written == LABEL_ROOM {
             return put(b"&#8230;", writer);
         }
         write_shown(character, writer)?;

@@ -25,14 +25,14 @@ short_whole cs ys few all =
     let fits : nat_lt label_room (length cs) ≡ false = grind (arith, nat_tests) in
     ap (λ b. if b then flat_map escaped_character (take label_room cs) ++ codes "&#8230;" else flat_map escaped_character cs) fits ∙ ap (flat_map escaped_character) (sym all)
 
-pub returns-then-written-eq-MAX_SHOWN : goal.returns-then-written-eq-MAX_SHOWN
-returns-then-written-eq-MAX_SHOWN g c =
+pub returns-then-written-eq-LABEL_ROOM : goal.returns-then-written-eq-LABEL_ROOM
+returns-then-written-eq-LABEL_ROOM g c =
     let contents = g.W.Write.contents in
     let ys = c.loop-character.yielded in
     let road = YieldsList-from_chars c.args.text.now c.utf8.text cc in
     let begins = sym (map_itself ys) ∙ YieldsList-so_far road ys _ c.loop-character.yielded_by in
     let turn = YieldsList-turn road ys _ c.loop-character.yielded_by _ _ c.in-Some.character c.in-Some.is c.next.ensures.steps in
-    let count = sym c.loop-character.invariant.0 ∙ c.if-written-eq-MAX_SHOWN.true in
+    let count = sym c.loop-character.invariant.0 ∙ c.if-written-eq-LABEL_ROOM.true in
     on_ok_weaker c.put.result (λ end. subst (Appends (contents c.args.writer.now) (contents c.put.new.writer)) (sym (short_long _ ys count begins turn.0))
     (appends_then (contents c.args.writer.now) (contents c.loop-character.writer) (contents c.put.new.writer) _ _ c.loop-character.invariant.2 end)) c.put.ensures.bytes
 
