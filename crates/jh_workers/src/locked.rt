@@ -58,7 +58,7 @@ fn count_one<L: Ledger>(book: &mut Book<L>, mine: &mut WorldShare<L>)
 
 /// A world with the book of all shares, whose total is the length of the journal.
 #[derive(Drop)]
-struct Counted<L: Ledger> {
+struct CountedWorld<L: Ledger> {
     world: World,
     book: Book<L>,
     rest: Share<L>,
@@ -68,7 +68,7 @@ struct Counted<L: Ledger> {
     ghost empty: { rest.amount ≡ 0 },
 }
 
-impl<L: Ledger> Counted<L> {
+impl<L: Ledger> CountedWorld<L> {
     /// A share of count 0, unless none is left.
     fn share(&mut self) -> Option<WorldShare<L>>
         ensures world { self.new.world ≡ self.old.world }
@@ -102,7 +102,7 @@ impl<L: Ledger> Counted<L> {
         ensures refused { OnErr result (mine.new.count ≡ mine.old.count) }
         ensures numbered { IfOk result (λ given. given.0 < max_events) }
     {
-        let Counted {
+        let CountedWorld {
             world,
             book,
             rest: _,
@@ -130,7 +130,7 @@ impl<L: Ledger> Counted<L> {
         ensures refused { OnErr result (mine.new.count ≡ mine.old.count) }
         ensures numbered { IfOk result (λ given. given.0 < max_events) }
     {
-        let Counted {
+        let CountedWorld {
             world,
             book,
             rest: _,
@@ -151,7 +151,7 @@ impl<L: Ledger> Counted<L> {
         ensures accepted { OnOk result (mine.new.count ≡ mine.old.count + 1) }
         ensures refused { OnErr result (mine.new.count ≡ mine.old.count) }
     {
-        let Counted {
+        let CountedWorld {
             world,
             book,
             rest: _,
@@ -173,7 +173,7 @@ impl<L: Ledger> Counted<L> {
         ensures back { self.left + length shares.items ≡ world_parts → IsSome result }
         ensures whole { length shares.items ≡ world_parts → IsSome result }
     {
-        let Counted {
+        let CountedWorld {
             world,
             book,
             rest,
@@ -228,7 +228,7 @@ fn copy_of(alloc: Global, events: &[Event]) -> Result<Vec<Event>, AllocError>
 /// and as long as all shares together have counted.
 #[derive(Drop)]
 pub struct LockedWorld<L: Ledger> {
-    inside: Mutex<Counted<L>>,
+    inside: Mutex<CountedWorld<L>>,
 }
 
 impl<L: Ledger> LockedWorld<L> {
@@ -242,7 +242,7 @@ impl<L: Ledger> LockedWorld<L> {
     {
         let (book, rest) = blank.open::<L>();
         LockedWorld {
-            inside: Mutex::new(Counted {
+            inside: Mutex::new(CountedWorld {
                 world,
                 book,
                 rest,
