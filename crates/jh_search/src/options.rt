@@ -3,10 +3,10 @@
 
 use crate::kinds::Palette;
 
-/// What a search takes beside a plan, with all known: which candidates are made and tried, and by which
-/// budget each is judged. On how many threads they are tried is no option, for the answer is the same.
-/// What a command line asks, which may name no kinds or one candidate to show, is
-/// `jh_cli::SearchQuestion`.
+/// What a search takes beside a plan: which candidates are made and tried, and by which budget each is
+/// judged. On how many threads they are tried is no option, for the answer is the same. What a
+/// command line asks is `jh_cli::SearchQuestion`: it may leave the kinds of faults out, or ask to
+/// show one candidate.
 #[derive(Clone, Copy, Debug, PartialEq, Eq)]
 pub struct Options {
     /// The number of the first candidate.

@@ -51,8 +51,8 @@ pub fn run_locked<R: Threads + Wait + Sync>(
     run_over::<Brand, R>(rt, alloc, plan, world, Blank::new(PARTS))
 }
 
-/// The same over this world, in which nothing has happened. Its shares are parts of a ledger with the
-/// name of the blank.
+/// Runs a plan on threads over this world, in which nothing has happened, as `run_locked` does. The
+/// shares of the world are parts of a ledger with the name of the blank.
 fn run_over<L: Ledger + Send + Sync, R: Threads + Wait + Sync>(
     rt: &R,
     alloc: Global,
