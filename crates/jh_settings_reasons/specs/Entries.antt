@@ -9,7 +9,6 @@ use Rattle.jh_step_texts.specs.declared.steps.StepTextError.{StepTextError}
 use Rattle.jh_settings_reasons.specs.Faults.{IsOneElement, RefusesElementText, text_fault_text}
 use Rattle.jh_settings_reasons.specs.Moments.{is_moment}
 use Rattle.jh_settings_reasons.specs.declared.key_texts.SettingsKind.{SettingsKind}
-use Rattle.jh_settings_reasons.specs.declared.text.TextFault.{TextFault}
 use Rattle.jh_settings_reasons.specs.declared.schedule.EntryFault.{EntryFault}
 
 -- The text of a fault; that of an error of EDN or of a step is that error's, which no clause knows.

@@ -1,7 +1,7 @@
 -- The texts of times and durations, and the column of times, byte for byte (this project's own; that a
 -- time counts nanoseconds since the test began is jepsen.history's). What is below the last digit is
 -- cut off.
-use Rattle.std.specs.Prelude.{ℕ, ◌+◌, ◌-ℤ◌, ◌/◌, ◌%◌, ◌*◌, ℤ, pos, List, [], ◌++◌, codes, int_le, int_lt}
+use Rattle.std.specs.Prelude.{ℕ, ◌+◌, ◌-ℤ◌, ◌/◌, ◌%◌, ℤ, pos, List, [], ◌++◌, codes, int_le, int_lt}
 use Rattle.std.specs.Prelude.{if◌then◌else◌, unsigned_abs, Option, Some, None}
 use Rattle.std.specs.Fmt.{decimal}
 use Rattle.std.specs.List.{enumerate_from, flat_map}
