@@ -9,7 +9,7 @@ ghost use Rattle.jh_simnode.specs.declared.replicas.Reply.{Reply};
 ghost use Rattle.jh_simnode.specs.Histories as rule;
 ghost use Rattle.jh_simnode.specs.Running as running;
 ghost use Rattle.jh_simnode.specs.Runs.{ticks_at};
-ghost use Rattle.jh_slots.specs.Sizes.{max_claimed, row_words};
+ghost use Rattle.jh_slots.specs.Sizes.{max_claimed};
 ghost use Rattle.jh_workers.specs.RecordsInside as records;
 ghost use Rattle.jh_workers.specs.RecordsInside.{HoldsWords, Publishes, PublishesBoth};
 ghost use Rattle.jh_ops.specs.declared.operation.Op.{Op};
@@ -69,10 +69,8 @@ fn integers_written(request: Request, reply: &Reply) -> usize
 /// words before its integers.
 fn rows_written(request: Request, reply: &Reply) -> u32
     ensures within { (1 ≤ result) × (result ≤ max_claimed) }
-    ensures enough { min (3 + records.integers_written request reply.now) (max_claimed * row_words)
-        ≤ row_words * result }
-    ensures least { row_words * result
-        < min (3 + records.integers_written request reply.now) (max_claimed * row_words) + row_words }
+    ensures enough { min (3 + records.integers_written request reply.now) 1275 ≤ 5 * result }
+    ensures least { 5 * result < min (3 + records.integers_written request reply.now) 1275 + 5 }
 {
     let most = MAX_CLAIMED as usize * ROW_WORDS - 3;
     let words = 3 + integers_written(request, reply).min(most);
