@@ -1,0 +1,14 @@
+pub mod Unique
+pub mod Reasons
+pub mod Judged
+pub mod Clusters
+pub mod Walk
+pub mod Steps
+pub mod Sorted
+pub mod Tables
+pub mod Lists
+pub mod LayoutInside
+pub mod Keys
+pub mod Marks
+pub mod Nils
+pub mod Cuts
