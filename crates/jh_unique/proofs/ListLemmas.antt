@@ -91,7 +91,7 @@ before_cases (x ∷ xs) ys a b h =
       ]
     ]
 
--- No int twice.
+-- No number twice.
 
 head_apart : (x : ℕ) (xs : List ℕ) (y : ℕ) → AllByRecursion (λ z. eqb x z ≡ false) xs → has xs y ≡ true → x ≡ y → ⊥
 head_apart x [] y all h e = false≢true h

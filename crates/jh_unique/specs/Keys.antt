@@ -4,7 +4,7 @@ use Rattle.jh_linear.specs.declared.register.RegOp.{RegOp}
 use Rattle.jh_linear.specs.Order.{op_at, IsDone, has}
 use Rattle.jh_unique.specs.Sorted.{AreKeyedNumbers, RiseInKeys, seconds_of}
 
--- the first end among some operations, or a int past all
+-- the first end among some operations, or a number behind all
 pub record IsSoonest (ops : List RegOp) (numbers : List ℕ) (soon : ℕ) : Type 0 where
   pub least : (number end : ℕ) → has numbers number ≡ true → IsDone ops number
       → (op_at ops number).ended ≡ Some end → soon ≤ end

@@ -1,4 +1,5 @@
-//! What stands behind each value: its reads, and the compare-and-set from it.
+//! What must stand behind each value: its reads, by their invocations, and the compare-and-set from
+//! it.
 
 ghost use Rattle.std.specs.Prelude.{◌≡◌, ◌≢◌, ◌<◌, ◌∷◌, ◌++◌, [], ℕ, ℤ, Some, IfOk, OnOk, MatchOption, length};
 ghost use Rattle.jh_unique.specs.Sorted.{IsTurnOfOps};

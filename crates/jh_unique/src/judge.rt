@@ -1,4 +1,6 @@
-//! Whether a register whose values are written once each has an order.
+//! Whether a register whose values are written once each is linearizable. The files below, in the
+//! order in which they are asked: `writers.rt`, `marks.rt`, `behind.rt`, `lists.rt`, `keys.rt`,
+//! `flat.rt`, `late.rt`, `nils.rt`.
 
 ghost use Rattle.std.specs.Prelude.{◌≡◌, ◌+◌, IfOk, length};
 ghost use Rattle.jh_unique.specs.Judged.{IsUniqueVerdict};
@@ -99,8 +101,20 @@ fn judge_once(
     }
 }
 
-/// Whether the operations of a register with this initial value have an order: one, or the reason
-/// why there is none.
+/// Whether the operations of a register with this initial value are linearizable: an order, or the
+/// reason why there is none.
+///
+/// Each value is to be written by one operation at most, and the initial one by none: else the
+/// verdict names two operations that write one value, or one that writes the initial value.
+/// Operations that failed do not count. Operations are given in any order, and go by their numbers
+/// in the list. Each one has to end after its invocation, as those do that `reg_ops` finds.
+///
+/// That this can be decided is due to Gibbons and Korach, "Testing shared memories" (SIAM J.
+/// Comput. 26, 1997). Compare-and-set and operations of unknown outcome are this project's own.
+///
+/// Errors: out of memory.
+///
+/// Takes time in the order of n log n for n operations, and memory linear in them.
 pub fn judge_unique(
     alloc: Global,
     ops: &[RegOp],

@@ -1,4 +1,6 @@
-//! The clusters, sorted by the sums of their first end and their last invocation.
+//! The clusters, sorted by the sums of their first end and their last invocation. One cluster comes
+//! before another where its first end is before the last invocation of the other; where no two come
+//! each before the other, the sums rise along all that comes before.
 
 ghost use Rattle.std.specs.Prelude.{◌≡◌, ◌≤◌, ◌⊎◌, ◌^◌, ◌-◌, ◌<◌, ◌∷◌, ℕ, ℤ, Option, Some, true, IfOk, length};
 ghost use Rattle.jh_unique.specs.Keys.{AreClustersOf, HasClusterKey, HasKey, IsLatest, IsSoonest};
@@ -11,7 +13,7 @@ use crate::sorted::sorted_out;
 use jh_linear::{Outcome, RegOp};
 use std::alloc::{AllocError, Global};
 
-/// Where an operation ended, or past all, where it is not known to have happened.
+/// Where an operation ended, or behind all places, where it is not known to have happened.
 fn end_of(op: RegOp) -> usize
     ensures least { (end : ℕ) → op.outcome ≡ Done → op.ended ≡ Some end → result ≤ end }
     ensures which { ((op.outcome ≡ Done) × (op.ended ≡ Some result)) ⊎ (result ≡ 2 ^ 64 - 1) }

@@ -1,4 +1,5 @@
-//! Operations in a list that ended before what stands in front of them was invoked.
+//! An operation in a list that ended before something in front of it was invoked, found in one pass
+//! with the one that was invoked last so far.
 
 ghost use Rattle.std.specs.Prelude.{◌≡◌, ◌≤◌, ◌⊎◌, ◌↔◌, ℕ, Option, Some, IsTrue, MatchOption};
 ghost use Rattle.jh_linear.specs.Order as rule;
@@ -8,7 +9,7 @@ ghost use Rattle.jh_linear.specs.declared.register.Outcome.TheVariants.{Done};
 use crate::calls::op_at;
 use jh_linear::{Outcome, RegOp};
 
-/// Whether an operation happened, and ended before this number in the history.
+/// Whether an operation happened, and ended before this place of the history.
 fn is_over(op: RegOp, at: usize) -> bool
     ensures { IsTrue result ↔ ((op.outcome ≡ Done) × EndsBefore op.ended at) }
 {

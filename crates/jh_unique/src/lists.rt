@@ -1,4 +1,5 @@
-//! The clusters, each in a list.
+//! The clusters, each in a list: number 0 is that of the initial value, and n + 1 that of the write of
+//! number n.
 
 ghost use Rattle.std.specs.Prelude.{◌≡◌, ◌+◌, ◌<◌, ◌∷◌, [], ℤ, None, Some, IfOk, MatchOption, length};
 ghost use Rattle.jh_unique.specs.Lists.{HaveLists};

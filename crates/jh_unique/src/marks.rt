@@ -1,4 +1,5 @@
-//! What must stand in each order.
+//! What must stand in each order: what is known to have happened, who wrote what that needs, and so
+//! on.
 
 ghost use Rattle.std.specs.Prelude.{◌≡◌, ◌<◌, ℕ, ℤ, true, false, IfOk, MatchOption, length, slice_index_or, slice_set};
 ghost use Rattle.jh_unique.specs.Marks.{KeepsMarks, MarkOnlyNeeded, MarkWriters};

@@ -1,4 +1,5 @@
-//! Reads of nil, put where they were invoked.
+//! Reads of nil, which match any value, merged into an order: each in front of the first operation
+//! that was invoked later.
 
 ghost use Rattle.std.specs.Prelude.{◌≡◌, ◌<◌, ◌≤◌, ◌⊎◌, ◌↔◌, ℕ, ℤ, None, true, false, IfOk, IsTrue, length, slice_index_or};
 ghost use Rattle.jh_unique.specs.Clusters.{IsPart, ReadsNil};

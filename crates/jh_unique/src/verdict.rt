@@ -2,7 +2,8 @@
 
 use jh_linear::Linearization;
 
-/// Why operations have no order. Each number is that of an operation.
+/// Why operations have no order: by itself each of these excludes every one (`reasons_exclude`). Each
+/// number is that of an operation.
 #[derive(Clone, Copy, Debug, PartialEq, Eq)]
 pub enum UniqueReason {
     /// What this operation needs comes from nowhere: no compare-and-sets lead to that value from a
