@@ -1,4 +1,4 @@
--- The operations of a register, cluster by cluster, and when that makes an order.
+-- Parts of orders, and runs of clusters: proofs rest on it, and no public clause names it.
 use Rattle.std.specs.Prelude.{◌≡◌, ◌⊎◌, ℕ, zero, suc, ◌≤◌, ℤ, Option, None, List, true}
 use Rattle.jh_linear.specs.declared.register.RegCall.TheVariants.{Read}
 use Rattle.jh_linear.specs.declared.register.RegOp.{RegOp}
@@ -30,7 +30,7 @@ IsRunOf ops initial zero numbers = (last : Option ℤ) × IsLegalFrom ops initia
 IsRunOf ops initial (suc write) numbers =
     (value : Option ℤ) → (last : Option ℤ) × IsLegalFrom ops value numbers last
 
--- The first operation leads to the second one, or was invoked no later (two reads of one value).
+-- The first operation hands on to the second one, or was invoked no later (two reads of one value).
 abbrev pub AreInStep : List RegOp → ℕ → ℕ → Type 0
 AreInStep ops first second = ((between : List ℕ) × HandsOnBy ops first between second)
     ⊎ ((op_at ops first).invoked ≤ (op_at ops second).invoked)

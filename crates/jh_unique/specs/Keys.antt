@@ -1,4 +1,4 @@
--- The sums by which clusters are sorted.
+-- The sums by which clusters are sorted: no public clause names it.
 use Rattle.std.specs.Prelude.{◌≡◌, ◌⊎◌, ℕ, ◌+◌, ◌-◌, ◌^◌, ◌≤◌, Some, List, ◌∷◌, true}
 use Rattle.jh_linear.specs.declared.register.RegOp.{RegOp}
 use Rattle.jh_linear.specs.Order.{op_at, IsDone, has}

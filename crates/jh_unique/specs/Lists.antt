@@ -1,4 +1,4 @@
--- The clusters, in lists.
+-- The clusters, in lists: no public clause names it.
 use Rattle.std.specs.Prelude.{◌≡◌, ℕ, ◌+◌, ℤ, Option, List, [], length, Vec}
 use Rattle.std.specs.Prelude.{slice_get, unwrap_or, option_map}
 use Rattle.std.specs.declared.alloc.Global.{Global}

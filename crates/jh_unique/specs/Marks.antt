@@ -1,4 +1,4 @@
--- Marks of what must be there, on the way.
+-- Marks of what must be there, on the way: no public clause names it.
 use Rattle.std.specs.Prelude.{◌≡◌, ℕ, ℤ, Bool, true, false, List, length, slice_index_or}
 use Rattle.jh_linear.specs.declared.register.RegOp.{RegOp}
 use Rattle.jh_linear.specs.Order.{has}

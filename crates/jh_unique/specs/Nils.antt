@@ -1,4 +1,4 @@
--- Reads of nil, put where they were invoked.
+-- Reads of nil, put where they were invoked: no public clause names it.
 use Rattle.std.specs.Prelude.{◌≡◌, ◌⊎◌, ℕ, ◌<◌, ◌≤◌, ℤ, Option, List, true, length, slice_index_or, ◌++◌, drop}
 use Rattle.jh_linear.specs.declared.register.RegOp.{RegOp}
 use Rattle.jh_linear.specs.Order.{op_at, IsDone, has}

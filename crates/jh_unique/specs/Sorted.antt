@@ -1,4 +1,4 @@
--- Numbers, sorted by keys.
+-- Numbers, sorted by keys: no public clause names it.
 use Rattle.std.specs.Prelude.{◌≡◌, ℕ, ◌<◌, ◌≤◌, List, true, length, map, slice_index_or}
 use Rattle.std.specs.List.{All}
 use Rattle.std.specs.List.Sorted.{IsPermutation}

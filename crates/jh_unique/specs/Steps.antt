@@ -1,4 +1,4 @@
--- What the steps of a walk answer.
+-- What the steps of a walk answer: proofs rest on it, and no public clause names it.
 use Rattle.std.specs.Prelude.{◌≡◌, ℕ, ℤ, Bool, true, false, Option, Some, List, length}
 use Rattle.std.specs.Prelude.{slice_index_or}
 use Rattle.jh_linear.specs.declared.register.RegCall.TheVariants.{Read, Cas}
@@ -9,7 +9,7 @@ use Rattle.jh_unique.specs.Unique.{GivesValue, reg_call_at, MustStand, HasValue,
 use Rattle.jh_unique.specs.Clusters.{AreInStep, IsRunOf}
 use Rattle.jh_unique.specs.Walk.{IsCasFrom}
 
--- what must be there is marked, and nothing else
+-- what must stand is marked, and nothing else
 pub record AreStandingMarks (ops : List RegOp) (there : List Bool) : Type 0 where
   pub count : length there ≡ length ops
   pub marked : (number : ℕ) → slice_index_or there number false ≡ true → MustStand ops number
@@ -19,7 +19,7 @@ pub record AreStandingMarks (ops : List RegOp) (there : List Bool) : Type 0 wher
 abbrev pub IsReadOf : List RegOp → ℤ → ℕ → Type 0
 IsReadOf ops value number = MustStand ops number × (reg_call_at ops number ≡ Read (Some value))
 
--- the operation must be there, and is a compare-and-set from the value
+-- the operation must stand, and is a compare-and-set from the value
 abbrev pub IsNextFrom : List RegOp → ℤ → ℕ → Type 0
 IsNextFrom ops value number = MustStand ops number × IsCasFrom ops number value
 
@@ -29,7 +29,7 @@ IsNextOf ops value next = MustStand ops next.number
     × (reg_call_at ops next.number ≡ Cas value next.new.int)
     × ((other : ℕ) → IsNextFrom ops value other → other ≡ next.number)
 
--- All of a cluster that must be there, in its order.
+-- All of a cluster that must stand, in its order.
 pub record IsClusterList (ops : List RegOp) (initial : Option ℤ) (cluster : ℕ) (numbers : List ℕ)
     : Type 0 where
   pub once : HasNoneTwice numbers

@@ -1,4 +1,4 @@
--- Tables of operations by their values.
+-- Tables of operations by their values: no public clause names it.
 use Rattle.std.specs.Prelude.{◌≡◌, ◌≢◌, ℕ, ◌<◌, ℤ, Option, Some, List, [], length, Vec, unwrap_or, option_map}
 use Rattle.std.specs.BTreeMap.{get}
 use Rattle.std.specs.Ordering.{int_cmp}

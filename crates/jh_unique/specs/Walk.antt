@@ -1,4 +1,5 @@
--- A cluster, walked from its beginning along its compare-and-sets.
+-- A cluster, walked from its beginning along its compare-and-sets: proofs rest on it, and no public
+-- clause names it.
 use Rattle.std.specs.Prelude.{◌≡◌, ◌⊎◌, ℕ, zero, suc, ◌≤◌, ℤ, Option, Some, List, true}
 use Rattle.jh_linear.specs.declared.register.RegCall.TheVariants.{Read, Cas}
 use Rattle.jh_linear.specs.declared.register.RegOp.{RegOp}
@@ -57,7 +58,7 @@ pub record HasReads (ops : List RegOp) (initial : Option ℤ) (cluster : ℕ) (v
   pub whole : (number : ℕ) (other : ℤ) → IsReachedValue ops initial cluster numbers other
       → MustStand ops number → GivesValue (reg_call_at ops number) other → has numbers number ≡ true
 
--- the reads of a value that must be there, in the order of their invocations
+-- the reads of a value that must stand, in the order of their invocations
 pub record AreReads (ops : List RegOp) (value : ℤ) (numbers : List ℕ) : Type 0 where
   pub once : HasNoneTwice numbers
   pub each : (number : ℕ) → has numbers number ≡ true
@@ -67,7 +68,7 @@ pub record AreReads (ops : List RegOp) (value : ℤ) (numbers : List ℕ) : Type
   pub sorted : (first second : ℕ) → StandBefore numbers first second
       → (op_at ops first).invoked ≤ (op_at ops second).invoked
 
--- all of a cluster that must be there
+-- all of a cluster that must stand
 pub record IsWalked (ops : List RegOp) (initial : Option ℤ) (cluster : ℕ) (numbers : List ℕ)
     : Type 0 where
   pub value : ℤ
