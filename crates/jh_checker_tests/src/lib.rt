@@ -14,3 +14,5 @@ mod random;
 mod rows;
 #[cfg(test)]
 mod sets;
+#[cfg(test)]
+mod unique;
