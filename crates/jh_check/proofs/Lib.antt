@@ -5,3 +5,5 @@ pub mod FinalReadLemmas
 pub mod SumLemmas
 pub mod ErrorLemmas
 pub mod LineLemmas
+pub mod ShownLemmas
+pub mod PartLemmas

@@ -2,6 +2,7 @@ pub mod Verdicts
 pub mod Asked
 pub mod Distinct
 pub mod SetResults
+pub mod Shown
 pub mod Tallies
 pub mod TallyInside
 pub mod IdsResults

@@ -4,6 +4,9 @@
 use Rattle.std.specs.Prelude.{ℕ, pos, true, false, List, [], ◌∷◌, map, codes, Option, Some, None}
 use Rattle.jh_edn.specs.Edn.{Edn, boolean, int, keyword, str}
 use Rattle.jh_edn.specs.Parts.{map_of, vector_of}
+use Rattle.jh_ops.specs.Operation.{operation}
+use Rattle.jh_ops.specs.OperationWritten.{value_written}
+use Rattle.jh_ops.specs.declared.operation.Op.{Op}
 use Rattle.jh_check.specs.declared.counter.CounterResult.{CounterResult}
 use Rattle.jh_check.specs.declared.counter.ReadBounds.{ReadBounds}
 use Rattle.jh_check.specs.declared.ids.IdsResult.{IdsResult}
@@ -21,6 +24,10 @@ verdict_value False = boolean false
 abbrev pub map_with_verdict : Verdict → List (Edn × Edn) → Edn
 map_with_verdict verdict others =
     map_of ((keyword (codes "valid?"), verdict_value verdict) ∷ others)
+
+-- operations, each as operations are written
+abbrev pub operations_value : List Op → Edn
+operations_value ops = vector_of (map (λ op. value_written (operation op)) ops)
 
 abbrev pub set_pairs : Verdict → Option SetFound → List (Edn × Edn)
 set_pairs verdict None =

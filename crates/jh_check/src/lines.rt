@@ -2,7 +2,7 @@
 
 ghost use Rattle.std.specs.Prelude.{◌≡◌, ◌++◌, IfErr, OnOk, Some, codes, pos};
 ghost use Rattle.std.specs.Io.KnownBytes.{Appends};
-ghost use Rattle.jh_edn.specs.Edn.{int};
+ghost use Rattle.jh_edn.specs.Edn.{int, keyword};
 ghost use Rattle.jh_edn.specs.Parts.{behind_pair_text, map_of};
 ghost use Rattle.jh_edn.specs.Print.{print};
 ghost use Rattle.jh_check.specs.Lines.{counter_value, ids_value, set_pairs, set_value};
@@ -94,6 +94,18 @@ pub fn write_count<W: Write>(name: &str, count: usize, writer: &mut W) -> Result
     ensures error { IfErr result (λ e. e ≡ EdnError.Write) }
 {
     write!(writer, ", :{name} {count}").map_err(|_| EdnError::Write)
+}
+
+/// Writes a pair with a keyword, behind others: `, :NAME :TEXT`.
+///
+/// Errors: `Write` where the writer failed, and no other.
+pub fn write_keyword<W: Write>(name: &str, text: &str, writer: &mut W) -> Result<(), EdnError>
+    ensures bytes { OnOk result
+        (Appends (W.contents writer.old) (W.contents writer.new)
+        (behind_pair_text name.now (keyword text.now))) }
+    ensures error { IfErr result (λ e. e ≡ EdnError.Write) }
+{
+    write!(writer, ", :{name} :{text}").map_err(|_| EdnError::Write)
 }
 
 /// Writes the one line of the result for unique ids, without a line feed:

@@ -13,7 +13,7 @@ ghost use Rattle.jh_ops.specs.OperationWritten.{value_written};
 ghost use Rattle.jh_ops.specs.PrintedInside.{front_text, rest_text, type_text};
 
 use crate::operation::{Kind, Op, Process};
-use jh_edn::{EdnError, Value, put, write};
+use jh_edn::{EdnError, Element, Value, put, write};
 use std::io::Write;
 
 /// Writes a pair with an integer in front of others, where there is one.
@@ -128,4 +128,13 @@ pub fn write_operation<W: Write>(op: &Op, writer: &mut W) -> Result<(), EdnError
     write_head(op, writer)?;
     write_body(op, writer)?;
     put(b"}", writer)
+}
+
+/// Operations can be elements of a vector that is written, as `jh_edn::write_part` writes one.
+impl Element for Op {
+    ghost value = { λ op. value_written (operation op) };
+
+    fn write_to<W: Write>(&self, writer: &mut W) -> Result<(), EdnError> {
+        write_operation(self, writer)
+    }
 }

@@ -19,7 +19,8 @@ use Rattle.jh_txn.specs.declared.model.ConsistencyModel.TheVariants.{SnapshotIso
 use Rattle.jh_txn.specs.declared.model.ConsistencyModel.TheVariants.{StrongSnapshotIsolation}
 use Rattle.jh_txn.specs.declared.txn.Point.{Point}
 use Rattle.jh_txn.specs.declared.txn.Txn.{Txn}
-use Rattle.jh_txn_findings.specs.Found.{AreFoundSteps, AreOperationsAt}
+use Rattle.jh_check.specs.Shown.{AreOperationsAt}
+use Rattle.jh_txn_findings.specs.Found.{AreFoundSteps}
 use Rattle.jh_txn_findings.specs.declared.finding.TxnFinding.{TxnFinding}
 use Rattle.jh_txn_findings.specs.declared.finding.TxnFinding.TheVariants as found
 use Rattle.jh_txn_histories.specs.Histories.{AreTransactions}

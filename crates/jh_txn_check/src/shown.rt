@@ -9,9 +9,10 @@ ghost use Rattle.jh_txn_check.specs.Found.{AreShown};
 ghost use Rattle.jh_txn_check.specs.FoundInside.{IsBadReadFound, IsCycleFound};
 ghost use Rattle.jh_txn_findings.specs.Found.{AreStepsNumbered};
 
+use jh_check::operations_of;
 use jh_ops::{Op, Pair};
 use jh_txn::{Point, Step};
-use jh_txn_findings::{TxnFinding, found_steps, operations_of};
+use jh_txn_findings::{TxnFinding, found_steps};
 use jh_txn_histories::Transactions;
 use jh_txn_reads::BadReadAt;
 use std::alloc::{AllocError, Global};

@@ -1,4 +1,2 @@
-pub mod ListLemmas
 pub mod NeighbourLemmas
 pub mod TextLemmas
-pub mod OperationLemmas

@@ -1,15 +1,11 @@
 -- The text of a line: its pieces, one after another.
-use Rattle.std.proofs.Common.{◌≡◌, ◌∙◌, ℕ, ◌+◌, ◌<◌, eqb, List, [], ◌∷◌, ◌++◌, codes, length, take, get_or, map, refl, sym, ap, append_assoc, append-nil}
+use Rattle.std.proofs.Common.{◌≡◌, ◌∙◌, ℕ, List, [], ◌∷◌, ◌++◌, codes, refl, sym, ap, append_assoc, append-nil}
 use Rattle.jh_edn.specs.Edn.{Edn, keyword, items_of, members_of}
 use Rattle.jh_edn.specs.Parts.{behind_pair_text, vector_of}
-use Rattle.jh_edn.specs.Print.{print, item_texts, joined_text, member_texts, separator_before}
-use Rattle.jh_edn.proofs.CitedLemmas.{joined_more}
-use Rattle.jh_check.specs.Lines.{map_with_verdict, verdict_value}
+use Rattle.jh_edn.specs.Print.{print, item_texts, joined_text, member_texts}
+use Rattle.jh_check.specs.Lines.{map_with_verdict, operations_value, verdict_value}
 use Rattle.jh_check.specs.declared.verdict.Verdict.{Verdict}
-use Rattle.jh_ops.specs.Operation.{operation}
-use Rattle.jh_ops.specs.OperationWritten.{value_written}
 use Rattle.jh_ops.specs.declared.operation.Op.{Op}
-use Rattle.jh_txn_findings.specs.Lines.{operations_value}
 use Rattle.jh_txn_findings.specs.TextInside.{pairs_text, values_text}
 
 -- ---- maps
@@ -58,23 +54,9 @@ joined_values t (v ∷ vs) =
 pub vector_text : (v : Edn) (vs : List Edn) → ((codes "[" ++ print v) ++ values_text vs) ++ codes "]" ≡ print (vector_of (v ∷ vs))
 vector_text v vs = sym (ap (λ (w : List ℕ). codes "[" ++ (w ++ codes "]")) (joined_values (print v) vs))
 
--- the text of one element more
-pub texts_push : {X : Type 0} (text : X → List ℕ) (xs : List X) (i : ℕ) (d : X) → i < length xs
-    → joined_text (codes " ") (map text (take (i + 1) xs)) ≡ (joined_text (codes " ") (map text (take i xs)) ++ separator_before (eqb i 0) (codes " ")) ++ text (get_or xs i d)
-texts_push text = joined_more (map text) text refl (λ x xs. refl) (codes " ")
-
--- the texts of elements by their values
-pub item_texts_map : {X : Type 0} (value : X → Edn) (xs : List X) → item_texts (items_of (map value xs)) ≡ map (λ x. print (value x)) xs
-item_texts_map value [] = refl
-item_texts_map value (x ∷ xs) = ap (λ w. print (value x) ∷ w) (item_texts_map value xs)
-
 -- operations, as a pair
 pub operations_text : (ops ops' : List Op) → ops ≡ ops'
-    → (codes ", :operations [" ++ joined_text (codes " ") (map (λ op. print (value_written (operation op))) ops)) ++ codes "]"
-    ≡ pairs_text ((keyword (codes "operations"), operations_value ops') ∷ [])
+    → behind_pair_text (codes "operations") (operations_value ops) ≡ pairs_text ((keyword (codes "operations"), operations_value ops') ∷ [])
 operations_text ops ops' e =
-    let value : Op → Edn = λ op. value_written (operation op) in
-    let text : List (List ℕ) → List ℕ = λ texts. (codes ", :operations [" ++ joined_text (codes " ") texts) ++ codes "]" in
-    (λ i. text (map (λ op. print (value op)) (e i)))
-    ∙ ap text (sym (item_texts_map value ops'))
-    ∙ sym (append-nil (text (item_texts (items_of (map value ops')))))
+    (λ i. behind_pair_text (codes "operations") (operations_value (e i)))
+    ∙ sym (append-nil (behind_pair_text (codes "operations") (operations_value ops')))

@@ -1,22 +1,15 @@
--- What a finding has of a history: steps with the values of their numbers, and operations. This
--- project's own.
-use Rattle.std.specs.Prelude.{◌≡◌, ◌<◌, ℕ, List, Option, Some, option_and_then, option_map}
-use Rattle.std.specs.Prelude.{slice_get, unwrap_or}
+-- What the steps of a finding have of a history: the values of their numbers. This project's own.
+use Rattle.std.specs.Prelude.{◌≡◌, ◌<◌, ℕ, List, Some, option_map, slice_get}
 use Rattle.std.specs.List.{All, AllZip}
 use Rattle.jh_edn.specs.Edn.{Edn}
 use Rattle.jh_edn.specs.View.{view}
 use Rattle.jh_edn.specs.declared.value.Value.{Value}
-use Rattle.jh_ops.specs.Operation.{Operation, operation}
-use Rattle.jh_ops.specs.declared.operation.Op.{Op}
-use Rattle.jh_ops.specs.declared.pairs.Pair.{Pair}
 use Rattle.jh_txn.specs.declared.dependency.Step.{Step}
 use Rattle.jh_txn.specs.declared.dependency.Why.{Why}
 use Rattle.jh_txn.specs.declared.dependency.Why.TheVariants as numbered
 use Rattle.jh_txn_findings.specs.declared.finding.FoundStep.{FoundStep}
 use Rattle.jh_txn_findings.specs.declared.finding.FoundWhy.{FoundWhy}
 use Rattle.jh_txn_findings.specs.declared.finding.FoundWhy.TheVariants as found
-
--- ---- steps
 
 -- The key and the element of a reason have numbers.
 abbrev pub IsWhyNumbered : ℕ → ℕ → Why → Type 0
@@ -57,19 +50,3 @@ IsFoundStep keys elements step found =
 -- the same steps, one after another
 abbrev pub AreFoundSteps : List (ℕ × Edn) → List (ℕ × Edn) → List Step → List FoundStep → Type 0
 AreFoundSteps keys elements = AllZip (IsFoundStep keys elements)
-
--- ---- operations
-
--- the place in a history of the last operation of a pair: of its completion, if there is one
-abbrev pub last_of : Pair → ℕ
-last_of pair = unwrap_or pair.outcome pair.invoke
-
--- the last operation of the pair at a place
-abbrev pub last_operation_at : List Operation → List Pair → ℕ → Option Operation
-last_operation_at history pairs place =
-    option_and_then (λ pair. slice_get history (last_of pair)) (slice_get pairs place)
-
--- the last operations of the pairs at these places, one after another
-abbrev pub AreOperationsAt : List Operation → List Pair → List ℕ → List Op → Type 0
-AreOperationsAt history pairs =
-    AllZip (λ place op. last_operation_at history pairs place ≡ Some (operation op))

@@ -6,10 +6,8 @@ use Rattle.jh_edn.specs.Edn.{Edn, int, keyword}
 use Rattle.jh_edn.specs.Parts.{vector_of}
 use Rattle.jh_edn.specs.Print.{print}
 use Rattle.jh_edn.specs.View.{view}
-use Rattle.jh_ops.specs.Operation.{operation}
-use Rattle.jh_ops.specs.OperationWritten.{value_written}
 use Rattle.jh_ops.specs.declared.operation.Op.{Op}
-use Rattle.jh_check.specs.Lines.{map_with_verdict}
+use Rattle.jh_check.specs.Lines.{map_with_verdict, operations_value}
 use Rattle.jh_txn_findings.specs.CycleNames.{cycle_name, cycle_name_text}
 use Rattle.jh_txn_findings.specs.Findings.{anomaly_text, txn_finding_verdict}
 use Rattle.jh_txn_findings.specs.declared.finding.FoundStep.{FoundStep}
@@ -41,10 +39,6 @@ why_values RealTime = keyword (codes "rt") ∷ []
 -- a step as its place, and why it is one
 abbrev pub step_value : FoundStep → Edn
 step_value step = vector_of (number_value step.place ∷ why_values step.why)
-
--- operations, each as operations are written
-abbrev pub operations_value : List Op → Edn
-operations_value ops = vector_of (map (λ op. value_written (operation op)) ops)
 
 -- the operations, where they are there
 abbrev pub operations_pairs : Option (Vec Op Global) → List (Edn × Edn)

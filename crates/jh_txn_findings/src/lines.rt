@@ -4,7 +4,6 @@ ghost use Rattle.std.specs.Prelude.{◌≡◌, ◌∷◌, ◌++◌, [], IfErr, O
 ghost use Rattle.std.specs.Io.KnownBytes.{Appends};
 ghost use Rattle.jh_edn.specs.Edn.{keyword};
 ghost use Rattle.jh_edn.specs.Parts.{behind_pair_text, vector_of};
-ghost use Rattle.jh_edn.specs.Print.{joined_text, print, separator_before};
 ghost use Rattle.jh_ops.specs.Operation.{operation};
 ghost use Rattle.jh_ops.specs.OperationWritten.{value_written};
 ghost use Rattle.jh_txn_findings.specs.CycleNames.{cycle_name, cycle_name_text};
@@ -15,51 +14,11 @@ ghost use Rattle.jh_txn_findings.specs.TextInside.{pairs_text};
 
 use crate::cycle_name::name_of_cycle;
 use crate::finding::{FoundStep, TxnFinding, anomaly_text};
-use jh_check::write_verdict;
+use jh_check::{write_count, write_keyword, write_verdict};
 use jh_edn::{EdnError, put, write_part};
-use jh_ops::{Op, write_operation};
+use jh_ops::Op;
 use jh_txn::BadRead;
 use std::io::Write;
-
-/// Writes a pair with a keyword, behind others.
-fn write_keyword<W: Write>(name: &str, text: &str, writer: &mut W) -> Result<(), EdnError>
-    ensures bytes { OnOk result (Appends (W.contents writer.old) (W.contents writer.new)
-        (behind_pair_text name.now (keyword text.now))) }
-    ensures error { IfErr result (λ e. e ≡ EdnError.Write) }
-{
-    write!(writer, ", :{name} :{text}").map_err(|_| EdnError::Write)
-}
-
-/// Writes a pair with a number, behind others.
-fn write_number<W: Write>(name: &str, number: usize, writer: &mut W) -> Result<(), EdnError>
-    ensures bytes { OnOk result (Appends (W.contents writer.old) (W.contents writer.new)
-        (behind_pair_text name.now (number_value number))) }
-    ensures error { IfErr result (λ e. e ≡ EdnError.Write) }
-{
-    write!(writer, ", :{name} {number}").map_err(|_| EdnError::Write)
-}
-
-/// Writes a space between operations, but not before the first one.
-fn separate<W: Write>(first: bool, writer: &mut W) -> Result<(), EdnError>
-    ensures bytes { OnOk result (Appends (W.contents writer.old) (W.contents writer.new)
-        (separator_before first (codes " "))) }
-    ensures error { IfErr result (λ e. e ≡ EdnError.Write) }
-{
-    if first { Ok(()) } else { put(b" ", writer) }
-}
-
-/// Writes operations with one space between.
-fn write_each<W: Write>(operations: &[Op], writer: &mut W) -> Result<(), EdnError>
-    ensures bytes { OnOk result (Appends (W.contents writer.old) (W.contents writer.new)
-        (joined_text (codes " ") (map (λ op. print (value_written (operation op))) operations.now))) }
-    ensures error { IfErr result (λ e. e ≡ EdnError.Write) }
-{
-    for (place, op) in operations.iter().enumerate() {
-        separate(place == 0, writer)?;
-        write_operation(op, writer)?;
-    }
-    Ok(())
-}
 
 /// Writes the pair of the operations, behind others, where they are there.
 fn write_operations<W: Write>(operations: &Option<Vec<Op>>, writer: &mut W) -> Result<(), EdnError>
@@ -70,9 +29,7 @@ fn write_operations<W: Write>(operations: &Option<Vec<Op>>, writer: &mut W) -> R
     let Some(operations) = operations else {
         return Ok(());
     };
-    put(b", :operations [", writer)?;
-    write_each(operations, writer)?;
-    put(b"]", writer)
+    write_part("operations", operations.as_slice(), writer)
 }
 
 /// Writes what stands behind the verdict of a bad read, but for the operations.
@@ -89,8 +46,8 @@ fn write_bad_read<W: Write>(
     ensures error { IfErr result (λ e. e ≡ EdnError.Write) }
 {
     write_keyword("anomaly", anomaly_text(kind), writer)?;
-    write_number("place", place, writer)?;
-    write_number("op", index, writer)
+    write_count("place", place, writer)?;
+    write_count("op", index, writer)
 }
 
 /// Writes what stands behind the verdict of a cycle, but for the operations.

@@ -3,7 +3,8 @@ use Rattle.std.specs.Ordering.{is_le, is_lt}
 use Rattle.std.proofs.lemmas.List.Sorted.{IsPartitionPoint-from_clause}
 use Rattle.jh_edn.specs.Order.{edn_cmp}
 use Rattle.jh_edn.specs.View.{view}
-use Rattle.jh_total_queue.proofs.CountLemmas.{count_by_ends, parted_below, parted_within}
+use Rattle.jh_check.proofs.PartLemmas.{parted_below, parted_within}
+use Rattle.jh_total_queue.proofs.CountLemmas.{count_by_ends}
 use Rattle.jh_total_queue.proofs.lists.count_in.Goals as goal
 
 pub returns : goal.returns

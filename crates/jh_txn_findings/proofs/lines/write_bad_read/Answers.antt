@@ -12,6 +12,6 @@ pub returns-clause-bytes : goal.returns-clause-bytes
 returns-clause-bytes g c =
     let contents = g.W.Write.contents in
     let start = contents c.args.writer.now in
-    let a = appends_then start (contents c.write_keyword.new.writer) (contents c.write_number.new.writer) _ _ c.in_ok-write_keyword.ensures.bytes c.in_ok-write_number.ensures.bytes in
+    let a = appends_then start (contents c.write_keyword.new.writer) (contents c.write_count.new.writer) _ _ c.in_ok-write_keyword.ensures.bytes c.in_ok-write_count.ensures.bytes in
     let text = three_pairs (codes "anomaly") (codes "place") (codes "op") _ (keyword (anomaly_text c.args.kind)) (number_value c.args.place) (number_value c.args.index) (ap keyword c.anomaly_text.ensures) in
-    on_ok_weaker c.write_number-2.result (λ end. subst (Appends start (contents c.write_number-2.new.writer)) text (appends_then start (contents c.write_number.new.writer) (contents c.write_number-2.new.writer) _ _ a end)) c.write_number-2.ensures.bytes
+    on_ok_weaker c.write_count-2.result (λ end. subst (Appends start (contents c.write_count-2.new.writer)) text (appends_then start (contents c.write_count.new.writer) (contents c.write_count-2.new.writer) _ _ a end)) c.write_count-2.ensures.bytes

@@ -2,7 +2,7 @@ use Rattle.std.proofs.Common.{refl}
 use Rattle.jh_txn.specs.declared.dependency.Step.{Step}
 use Rattle.jh_txn.specs.declared.dependency.Why.TheVariants.{WriteRead}
 use Rattle.jh_txn_findings.specs.Found.{IsFoundStep}
-use Rattle.jh_txn_findings.proofs.ListLemmas.{all_zip_more}
+use Rattle.jh_check.proofs.ShownLemmas.{all_zip_more}
 use Rattle.jh_txn_findings.proofs.steps.found_steps.Goals as goal
 
 pub loop-step-preserved : goal.loop-step-preserved
