@@ -1,0 +1,3 @@
+pub mod FifoHistories
+pub mod FifoFindings
+pub mod FifoLines
