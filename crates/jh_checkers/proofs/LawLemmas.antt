@@ -24,6 +24,7 @@ use Rattle.jh_checkers.specs.declared.checker.Checker.{Checker}
 use Rattle.jh_checkers.specs.declared.explanation.Explanation.{Explanation}
 use Rattle.jh_checkers.specs.declared.finding.Finding.{Finding}
 use Rattle.jh_checkers.specs.declared.finding.Judging.{Judging}
+use Rattle.jh_fifo_check.proofs.AgreeLemmas.{fifo_agree}
 use Rattle.jh_checkers.proofs.LineLawLemmas.{bank_lines, bank_verdicts, queue_lines, queue_verdicts}
 
 -- ---- one finding
@@ -40,6 +41,7 @@ one_finding Checker.Queue judging history a b one x y = absurd cc
 one_finding Checker.Bank judging history a b one x y = absurd cc
 one_finding Checker.SetFull judging history a b one x y = x.1 ∙ sym y.1
 one_finding Checker.Mutex judging history a b one x y = absurd cc
+one_finding Checker.FifoQueue judging history a b one x y = absurd cc
 
 -- ---- one line
 
@@ -57,6 +59,7 @@ one_line Checker.Bank judging history a b one x y =
     ap finding_value x.1.1 ∙ bank_lines (judged_bank judging) history x.1.0 y.1.0 x.1.2 y.1.2 ∙ sym (ap finding_value y.1.1)
 one_line Checker.SetFull judging history a b one x y = ap finding_value (x.1 ∙ sym y.1)
 one_line Checker.Mutex judging history a b one x y = absurd cc
+one_line Checker.FifoQueue judging history a b one x y = absurd cc
 
 pub one_verdict : (checker : Checker) (judging : Judging) (history : List Operation) (a b : Finding) → IsTrue (has_one_line checker)
     → IsFindingBy checker judging history a → IsFindingBy checker judging history b → finding_verdict a ≡ finding_verdict b
@@ -72,6 +75,7 @@ one_verdict Checker.Bank judging history a b one x y =
     ap finding_verdict x.1.1 ∙ bank_verdicts (judged_bank judging) history x.1.0 y.1.0 x.1.2 y.1.2 ∙ sym (ap finding_verdict y.1.1)
 one_verdict Checker.SetFull judging history a b one x y = ap finding_verdict (x.1 ∙ sym y.1)
 one_verdict Checker.Mutex judging history a b one x y = absurd cc
+one_verdict Checker.FifoQueue judging history a b one x y = absurd cc
 
 -- ---- no two verdicts
 
@@ -125,6 +129,8 @@ verdicts_agree Checker.TotalQueue judging history a b append x y = apart _ _ (on
 verdicts_agree Checker.Queue judging history a b append x y = apart _ _ (one_verdict Checker.Queue judging history a b refl x y)
 verdicts_agree Checker.Bank judging history a b append x y = apart _ _ (one_verdict Checker.Bank judging history a b refl x y)
 verdicts_agree Checker.SetFull judging history a b append x y = apart _ _ (one_verdict Checker.SetFull judging history a b refl x y)
+verdicts_agree Checker.FifoQueue judging history a b append x y =
+    apart _ _ (ap finding_verdict x.1.1 ∙ fifo_agree judging.explain judging.explain history x.1.0 y.1.0 x.1.2 y.1.2 ∙ sym (ap finding_verdict y.1.1))
 
 -- ---- one place where an object is stuck
 
@@ -187,3 +193,4 @@ stuck_agree Checker.Mutex judging history a b x y no_a no_b =
     ∙ linear_stuck Object.Mutex (Some (mutex_start judging.locked)) judging history x.0 y.0 x.1 y.1 x.3 y.3
     (sym (ap finding_verdict x.2) ∙ no_a) (sym (ap finding_verdict y.2) ∙ no_b)
     ∙ sym (ap stuck_point_of y.2)
+stuck_agree Checker.FifoQueue judging history a b x y no_a no_b = ap stuck_point_of x.1.1 ∙ sym (ap stuck_point_of y.1.1)

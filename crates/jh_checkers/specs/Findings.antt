@@ -1,6 +1,6 @@
 -- What a checker finds in a history, and why it judges none (the checkers of specs/Checkers.antt; what
 -- each finds stands in the definitions of its own crate).
-use Rattle.std.specs.Prelude.{◌≡◌, ◌⊎◌, ℕ, ℤ, pos, Bool, true, false, if◌then◌else◌, List, []}
+use Rattle.std.specs.Prelude.{◌≡◌, ◌⊎◌, ◌<◌, ℕ, ℤ, pos, Bool, true, false, if◌then◌else◌, List, []}
 use Rattle.std.specs.Prelude.{Option, Some, None}
 use Rattle.std.specs.Prelude.{unwrap_or}
 use Rattle.std.specs.Option.{option_map_or}
@@ -25,6 +25,9 @@ use Rattle.jh_queue.specs.declared.queue.QueueResult.{QueueResult}
 use Rattle.jh_queue.specs.declared.queue.QueueResult.TheVariants.{Dequeued, First}
 use Rattle.jh_set_full.specs.SetFull.{AreReadsKnown, RefusesSetFull, set_full_result}
 use Rattle.jh_total_queue.specs.TotalQueue.{AreDrainsKnown, RefusesTotalQueue, total_queue_result}
+use Rattle.jh_fifo_check.specs.FifoFindings.{IsFifoFinding, verdict_of_fifo}
+use Rattle.jh_fifo_check.specs.FifoHistories.{IsFifoHistory, RefusesFifo}
+use Rattle.jh_fifo_check.specs.declared.finding.FifoFinding.{FifoFinding}
 use Rattle.jh_linear.specs.Operations.{AreRegOps, IsLeastBad, free, held}
 use Rattle.jh_linear.specs.Verdict.{IsJudged}
 use Rattle.jh_linear.specs.declared.operations.Object.{Object}
@@ -38,13 +41,15 @@ use Rattle.jh_txn_findings.specs.Findings.{txn_finding_verdict}
 use Rattle.jh_txn_findings.specs.declared.finding.TxnFinding.{TxnFinding}
 use Rattle.jh_txn_histories.specs.Histories.{RefusesTransactions}
 use Rattle.jh_txn_histories.specs.declared.histories.TxnError.TheVariants as transactions
+use Rattle.jh_unique.specs.Judged.{IsDecided}
+use Rattle.jh_unique.specs.Unique.{WriteOnce}
 use Rattle.jh_checkers.specs.Explanations.{IsExplained, stuck_point}
 use Rattle.jh_checkers.specs.declared.checker.Checker.{Checker}
 use Rattle.jh_checkers.specs.declared.explanation.Explanation.{Explanation}
 use Rattle.jh_checkers.specs.declared.finding.Finding.{Finding}
 use Rattle.jh_checkers.specs.declared.finding.Finding.TheVariants.{Set, Counter, Ids, Register}
 use Rattle.jh_checkers.specs.declared.finding.Finding.TheVariants.{ListAppend, TotalQueue, Queue}
-use Rattle.jh_checkers.specs.declared.finding.Finding.TheVariants.{SetFull, Mutex}
+use Rattle.jh_checkers.specs.declared.finding.Finding.TheVariants.{SetFull, Mutex, FifoQueue}
 use Rattle.jh_checkers.specs.declared.finding.Judging.{Judging}
 
 -- the judgement by a checker, within a budget, where nothing else is said to it
@@ -71,13 +76,15 @@ AreObjectOps object history ops =
     IsWellFormed history × AreRegOps object history (history_pairs history) ops
 
 -- Of an object that holds this at first: what the judge promises, of which more than one may be right,
--- and the explanation that is asked for.
+-- and the explanation that is asked for. Where each value is written once it is known, unless the budget
+-- is 0.
 abbrev pub IsLinear : Object → Option ℤ → Judging → List Operation → LinVerdict → Option Explanation
     → Type 0
 IsLinear object initial judging history judged explanation =
     (ops : List RegOp) × AreObjectOps object history ops
     × IsJudged ops initial judging.budget judged
     × IsExplained judging.explain history ops judged explanation
+    × (WriteOnce ops initial → 0 < judging.budget → IsDecided judged)
 
 -- what a mutex holds at first, as the register that it is judged as
 abbrev pub mutex_start : Bool → ℤ
@@ -134,6 +141,10 @@ IsFindingBy Checker.Mutex judging history finding =
     (judged : LinVerdict) × (explanation : Option Explanation)
     × (finding ≡ Mutex judged explanation)
     × IsLinear Object.Mutex (Some (mutex_start judging.locked)) judging history judged explanation
+IsFindingBy Checker.FifoQueue judging history finding =
+    IsFifoHistory history
+    × ((found : FifoFinding) × (finding ≡ FifoQueue found)
+    × IsFifoFinding judging.explain history found)
 
 abbrev pub IsFinding : Judging → List Operation → Finding → Type 0
 IsFinding judging history finding = IsFindingBy judging.checker judging history finding
@@ -147,11 +158,13 @@ has_one_finding Checker.TotalQueue = true
 has_one_finding Checker.SetFull = true
 has_one_finding _ = false
 
--- of a history this checker has one line at most: it finds no order, of which there may be several
+-- of a history this checker has one line at most: it finds no order and no reason, of which there may
+-- be several
 abbrev pub has_one_line : Checker → Bool
 has_one_line Checker.Register = false
 has_one_line Checker.Mutex = false
 has_one_line Checker.ListAppend = false
+has_one_line Checker.FifoQueue = false
 has_one_line _ = true
 
 -- ---- verdicts
@@ -178,6 +191,7 @@ finding_verdict (Queue found) = verdict_of_queue found
 finding_verdict (Finding.Bank found) = found.verdict
 finding_verdict (SetFull found) = found.verdict
 finding_verdict (Mutex judged explanation) = verdict_of_register judged
+finding_verdict (FifoQueue found) = verdict_of_fifo found.verdict
 
 -- what of a finding no choice of an order changes: of a register or a mutex that is stuck, and where
 -- that is asked for, the completion and what is pending there
@@ -233,3 +247,4 @@ RefusesChecking Checker.Queue history error = RefusesQueue history error
 RefusesChecking Checker.Bank history error = RefusesAccounts history error
 RefusesChecking Checker.SetFull history error = RefusesSetFull history error
 RefusesChecking Checker.Mutex history error = RefusesObject Object.Mutex history error
+RefusesChecking Checker.FifoQueue history error = RefusesFifo history error

@@ -12,8 +12,9 @@ use Rattle.jh_checkers.specs.declared.explanation.Explanation.{Explanation}
 use Rattle.jh_checkers.specs.declared.finding.Finding.{Finding}
 use Rattle.jh_checkers.specs.declared.finding.Finding.TheVariants.{Set, Counter, Ids, Register}
 use Rattle.jh_checkers.specs.declared.finding.Finding.TheVariants.{ListAppend, TotalQueue, Queue}
-use Rattle.jh_checkers.specs.declared.finding.Finding.TheVariants.{Bank, SetFull, Mutex}
+use Rattle.jh_checkers.specs.declared.finding.Finding.TheVariants.{Bank, SetFull, Mutex, FifoQueue}
 use Rattle.jh_bank.specs.BankLines.{bank_value}
+use Rattle.jh_fifo_check.specs.FifoLines.{fifo_value}
 use Rattle.jh_linear.specs.declared.operations.Object.{Object}
 use Rattle.jh_linear.specs.declared.verdict.LinVerdict.{LinVerdict}
 use Rattle.jh_linear.specs.declared.verdict.LinVerdict.TheVariants.{Valid, Invalid}
@@ -70,6 +71,7 @@ finding_value (Queue found) = queue_value found
 finding_value (Bank found) = bank_value found
 finding_value (SetFull found) = set_full_value found
 finding_value (Mutex judged explanation) = object_value Object.Mutex judged explanation
+finding_value (FifoQueue found) = fifo_value found
 
 abbrev pub finding_line : Finding → List ℕ
 finding_line finding = print (finding_value finding)

@@ -19,6 +19,7 @@ pub enum Checker {
     Bank,
     SetFull,
     Mutex,
+    FifoQueue,
 }
 
 impl Checker {
@@ -40,6 +41,7 @@ impl Checker {
             "bank" => Some(Checker::Bank),
             "set-full" => Some(Checker::SetFull),
             "mutex" => Some(Checker::Mutex),
+            "fifo-queue" => Some(Checker::FifoQueue),
             _ => None,
         }
     }

@@ -16,6 +16,7 @@ use jh_check::{
     check_unique,
 };
 use jh_edn::Value;
+use jh_fifo_check::{FifoFinding, check_fifo};
 use jh_linear::LinVerdict;
 use jh_ops::Op;
 use jh_queue::{QueueResult, check_queue};
@@ -33,7 +34,8 @@ pub struct Judging<'a> {
     pub initial: Option<i64>,
     /// How many configurations the judge of a register or a mutex may reach.
     pub budget: u64,
-    /// Whether the no of a register, of a mutex or of transactions is explained.
+    /// Whether what is no yes of a register, of a mutex, of transactions or of a first-in-first-out queue is
+    /// explained.
     pub explain: bool,
     /// The consistency model that transactions are judged by, and strict serializability where it is missing.
     pub model: Option<ConsistencyModel>,
@@ -90,6 +92,7 @@ pub enum Finding {
         /// Of a mutex that is not valid, where it is asked for.
         explanation: Option<Explanation>,
     },
+    FifoQueue(FifoFinding),
 }
 
 /// What the finding of a queue says of its history.
@@ -118,25 +121,29 @@ impl Finding {
             Finding::Bank(found) => found.verdict,
             Finding::SetFull(found) => found.verdict,
             Finding::Mutex { judged, .. } => verdict_of_register(judged),
+            Finding::FifoQueue(found) => found.verdict(),
         }
     }
 }
 
 /// Judges a history by a checker: `check_set`, `check_counter` and `check_unique` of `jh_check`,
 /// `check_total_queue`, `check_queue`, `check_bank` and `check_set_full` of the crates of their names,
-/// for a register or a mutex the judge of `jh_linear` over its operations, or for transactions
-/// `find_transactions` of `jh_txn_check`.
+/// for a register or a mutex the judge of `jh_linear` over its operations, for transactions
+/// `find_transactions` of `jh_txn_check`, or for a first-in-first-out queue `check_fifo` of
+/// `jh_fifo_check`.
 ///
 /// What is said to one checker means nothing to the others: the initial value to the register's alone,
 /// whether it is held at first to that of a mutex, the budget to these two, the model to that of
-/// transactions, whether a no is explained to these three, accounts, total and whether balances may be
-/// negative to a bank's, and whether it has to be linearizable to that of a set over time. A no of a register or a mutex that is explained has the
-/// completion with which no order is left, and what is pending there; one of transactions has the
+/// transactions, whether a no is explained to these three and to that of a first-in-first-out queue,
+/// accounts, total and whether balances may be negative to a bank's, and whether it has to be linearizable
+/// to that of a set over time. A no of a register or a mutex that is explained has the completion with
+/// which no order is left, and what is pending there; one of transactions or of such a queue has the
 /// operations that it names.
 ///
 /// Errors: those of the checker. For a register and a mutex `Pair`, then `BadValue` at the least place
 /// of one; for transactions `Pair`, then `BadValue` or `RepeatedAppend` at the least place of all, and
-/// of one place `BadValue` first; `OutOfMemory` may come before any of them.
+/// of one place `BadValue` first; for a first-in-first-out queue `Pair`, then `BadValue` at the first
+/// call that it does not have; `OutOfMemory` may come before any of them.
 ///
 /// Costs what the checker costs; the explanation of a register or a mutex takes time linear in the
 /// operations beside it, and copies one of them, and that of transactions copies those that it shows.
@@ -163,5 +170,8 @@ pub fn check_history(
             Ok(Finding::SetFull(found))
         }
         Checker::Mutex => check_mutex(alloc, history, judging),
+        Checker::FifoQueue => {
+            Ok(Finding::FifoQueue(check_fifo(alloc, history, judging.explain)?))
+        }
     }
 }

@@ -10,9 +10,10 @@ ghost use Rattle.jh_checkers.specs.declared.checker.Checker.TheVariants as check
 ghost use Rattle.jh_checkers.specs.declared.finding.Finding.{Finding};
 ghost use Rattle.jh_checkers.specs.declared.finding.Judging.{Judging};
 
-/// Whatever judges a history: checkers other than those of a register, a mutex and transactions write
-/// one line, and no history of a register or a mutex is valid once and not valid another time. One that
-/// is not valid is stuck at one completion, where the same operations are pending. Of transactions it
+/// Whatever judges a history: checkers other than those of a register, a mutex, a first-in-first-out queue
+/// and transactions write one line, and no history of a register, a mutex or a first-in-first-out queue is valid once and not valid
+/// another time. One of a register or a mutex that is not valid is stuck at one completion, where the same
+/// operations are pending. Of transactions it
 /// says nothing but that no finding has a place where it is stuck.
 ///
 /// The finding of a queue or a bank shows operations of the history. Two of them may hold the same text

@@ -16,6 +16,7 @@ use crate::finding::Finding;
 use jh_bank::write_bank;
 use jh_check::{Verdict, write_counter, write_ids, write_set, write_verdict};
 use jh_edn::{EdnError, put, write_part};
+use jh_fifo_check::write_fifo;
 use jh_linear::{LinVerdict, Linearization, Object, Stuck};
 use jh_ops::write_operation;
 use jh_queue::write_queue;
@@ -171,13 +172,14 @@ fn write_object<W: Write>(
 
 /// Writes the one line of a finding, without a line feed. That of a set, a counter and unique ids
 /// is `jh_check`'s, that of a queue, a bank and a set over time of the crate of its name, that of
-/// transactions `jh_txn_findings`'s; that of a register is
+/// transactions `jh_txn_findings`'s, that of a first-in-first-out queue `jh_fifo_check`'s; that of a
+/// register is
 /// `{:valid? true, :order [..]}`, `{:valid? :unknown}` or `{:valid? false}`, which goes on where it
 /// is explained:
 /// `{:valid? false, :stuck {..}, :order [..], :value V, :pending [..]}`, with the completion at
 /// which it is stuck, an order of what is before it, the value that this leads to, and what is
-/// pending there. That of a mutex is the same without `:value`. Orders, and what is pending, are the numbers of operations: their places among
-/// the pairs, and not in the history.
+/// pending there. That of a mutex is the same without `:value`. Orders, and what is pending, are the
+/// numbers of operations: their places among the pairs, and not in the history.
 ///
 /// Takes no memory. The writer may have taken a part of the line where it failed.
 ///
@@ -204,5 +206,6 @@ pub fn write_finding<W: Write>(finding: &Finding, writer: &mut W) -> Result<(), 
             judged,
             explanation,
         } => write_object(Object::Mutex, judged, explanation, writer),
+        Finding::FifoQueue(found) => write_fifo(found, writer),
     }
 }

@@ -1,5 +1,5 @@
-//! The checkers of a register and of a mutex: the judge of `jh_linear` over its operations, with the
-//! explanation that is asked for. `specs/Findings.antt` has the rule.
+//! The checkers of a register and of a mutex: their operations, as `jh_linear` has them, judged by
+//! `jh_unique`, with the explanation that is asked for. `specs/Findings.antt` has the rule.
 
 ghost use Rattle.std.specs.Prelude.{◌≡◌, MatchResult};
 ghost use Rattle.jh_ops.specs.Operation.{operations};
@@ -12,7 +12,7 @@ ghost use Rattle.jh_linear.specs.declared.operations.Object.TheVariants as Objec
 use crate::explanation::{Explanation, explained};
 use crate::finding::{Finding, Judging};
 use jh_check::{CheckError, Verdict};
-use jh_linear::{FREE, HELD, LinVerdict, Object, RegOpsError, check, reg_ops};
+use jh_linear::{FREE, HELD, LinVerdict, Object, RegOpsError, reg_ops};
 use jh_ops::{Op, pair};
 use std::alloc::Global;
 
@@ -58,7 +58,7 @@ fn judged_object(
         Ok(ops) => ops,
         Err(error) => return Err(error_of(error)),
     };
-    let judged = check(alloc, &ops, initial, judging.budget)?;
+    let judged = jh_unique::check_register(alloc, &ops, initial, judging.budget)?;
     let explanation = explained(alloc, judging.explain, history, &ops, &judged)?;
     Ok((judged, explanation))
 }

@@ -10,6 +10,7 @@ use Rattle.jh_check.specs.contracts.set.SetResult as set
 use Rattle.jh_checkers.specs.contracts.explanation.Explanation as explanation
 use Rattle.jh_checkers.specs.contracts.finding.Finding as finding
 use Rattle.jh_checkers.specs.contracts.finding.Judging as judging
+use Rattle.jh_fifo_check.specs.contracts.finding.FifoFinding as fifo
 use Rattle.jh_edn.specs.contracts.value.Pairs as pairs
 use Rattle.jh_edn.specs.contracts.value.Value as value
 use Rattle.jh_independent.specs.contracts.split.KeyPlaces as places
@@ -61,9 +62,9 @@ bank_send o = bank_send_by o (bank_errors_send (read_errors_send o))
 -- a finding has what one of the checkers found, or what the judge of a register or a mutex answered with
 -- what explains it
 pub finding_send : IsSend set.the_row → IsSend counter.the_row → IsSend ids.the_row → IsSend verdict.the_row → IsSend explanation.the_row → IsSend transactions.the_row
-    → IsSend total_queue.the_row → IsSend queue.the_row → IsSend bank.the_row → IsSend set_full.the_row → IsSend finding.the_row
-finding_send s c i v e t q u b f = variants_send finding.enum
-    ((search sendable depth 16, tt), ((search sendable depth 16, tt), ((search sendable depth 16, tt), ((search sendable depth 16, (search sendable depth 16, tt)), ((search sendable depth 16, tt), ((search sendable depth 16, tt), ((search sendable depth 16, tt), ((search sendable depth 16, tt), ((search sendable depth 16, tt), ((search sendable depth 16, (search sendable depth 16, tt)), tt))))))))))
+    → IsSend total_queue.the_row → IsSend queue.the_row → IsSend bank.the_row → IsSend set_full.the_row → IsSend fifo.the_row → IsSend finding.the_row
+finding_send s c i v e t q u b f o = variants_send finding.enum
+    ((search sendable depth 16, tt), ((search sendable depth 16, tt), ((search sendable depth 16, tt), ((search sendable depth 16, (search sendable depth 16, tt)), ((search sendable depth 16, tt), ((search sendable depth 16, tt), ((search sendable depth 16, tt), ((search sendable depth 16, tt), ((search sendable depth 16, tt), ((search sendable depth 16, (search sendable depth 16, tt)), ((search sendable depth 16, tt), tt)))))))))))
 
 -- what a history is judged by has a checker, numbers, a model and accounts
 judging_sync : (ℓ : NamedLft) → IsSync value.the_row → IsSync (judging.the_row ℓ)

@@ -1,6 +1,6 @@
 -- What the keys that threads share are answered: proofs rest on it, and no public clause names it.
 -- This project's own.
-use Rattle.std.specs.Prelude.{◌≡◌, ℕ, false, List, [], length, slice_get, Option, Some, None}
+use Rattle.std.specs.Prelude.{◌≡◌, ℕ, List, [], length, slice_get, Option, Some}
 use Rattle.std.specs.Prelude.{Result, Ok, Err, IsErrOf}
 use Rattle.jh_edn.specs.Edn.{Edn}
 use Rattle.jh_ops.specs.Operation.{Operation}

@@ -16,6 +16,7 @@ ghost use Rattle.jh_edn.specs.contracts.value.Pairs as pairs;
 ghost use Rattle.jh_edn.specs.contracts.value.Value as value;
 ghost use Rattle.jh_edn.specs.contracts.value.Values as values;
 ghost use Rattle.jh_checkers.specs.contracts.explanation.Explanation as explanation;
+ghost use Rattle.jh_fifo_check.specs.contracts.finding.FifoFinding as fifo;
 ghost use Rattle.jh_independent.specs.contracts.split.KeyPlaces as places;
 ghost use Rattle.jh_checkers.specs.contracts.finding.Finding as finding;
 ghost use Rattle.jh_linear.specs.contracts.verdict.LinVerdict as verdict;
@@ -32,6 +33,8 @@ use crate::split::KeyPlaces;
 use jh_check::{CounterResult, IdsResult, SetFound, SetResult, Tally};
 use jh_checkers::Explanation;
 use jh_edn::{Pairs, Text, Value, Values};
+use jh_fifo::FifoVerdict;
+use jh_fifo_check::FifoFinding;
 use jh_linear::LinVerdict;
 use jh_ops::Op;
 use jh_set_full::{SetFullResult, Stales};
@@ -188,6 +191,15 @@ fn sets_over_time_can_be_sent()
     can_be_sent::<SetFullResult>()
 }
 
+/// What is found of a first-in-first-out queue.
+fn orders_of_queues_can_be_sent()
+    ensures { IsSend fifo.the_row }
+{
+    operations_can_be_sent();
+    can_be_sent::<FifoVerdict>();
+    can_be_sent::<FifoFinding>()
+}
+
 /// Findings can be sent.
 pub(crate) fn findings_can_be_sent()
     ensures { IsSend finding.the_row }
@@ -200,6 +212,7 @@ pub(crate) fn findings_can_be_sent()
     transactions_can_be_sent();
     queues_can_be_sent();
     banks_can_be_sent();
+    orders_of_queues_can_be_sent();
     sets_over_time_can_be_sent();
 }
 

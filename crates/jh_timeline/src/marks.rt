@@ -63,6 +63,8 @@ pub enum Note {
     Stale,
     /// It read balances that the bank can't have.
     WrongBalances,
+    /// The verdict names it: as one of those that exclude every order, or for which none is sought.
+    Named,
 }
 
 /// A mark at a call, or at its bar.

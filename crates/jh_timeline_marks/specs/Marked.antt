@@ -21,8 +21,11 @@ use Rattle.jh_checkers.specs.declared.explanation.Explanation.{Explanation}
 use Rattle.jh_checkers.specs.declared.finding.Finding.{Finding}
 use Rattle.jh_checkers.specs.declared.finding.Finding.TheVariants.{Set, Counter, Ids, Register}
 use Rattle.jh_checkers.specs.declared.finding.Finding.TheVariants.{ListAppend, TotalQueue, Queue}
-use Rattle.jh_checkers.specs.declared.finding.Finding.TheVariants.{Bank, SetFull, Mutex}
+use Rattle.jh_checkers.specs.declared.finding.Finding.TheVariants.{Bank, SetFull, Mutex, FifoQueue}
 use Rattle.jh_bank.specs.declared.judge.BankResult.{BankResult}
+use Rattle.jh_fifo.specs.declared.verdict.FifoVerdict.{FifoVerdict}
+use Rattle.jh_fifo.specs.declared.verdict.FifoVerdict.TheVariants as fifo
+use Rattle.jh_fifo_check.specs.FifoFindings.{named_by_verdict}
 use Rattle.jh_queue.specs.declared.queue.QueueResult.{QueueResult}
 use Rattle.jh_queue.specs.declared.queue.QueueResult.TheVariants.{Dequeued, First}
 use Rattle.jh_set_full.specs.declared.set_full.SetFullResult.{SetFullResult}
@@ -312,6 +315,16 @@ queue_note (Dequeued count) call = None
 queue_note (First place completion) call =
     note_if (is_completed_among (place ∷ []) call) Note.Unexpected
 
+-- the verdict on a first-in-first-out queue names it
+abbrev pub named_note : FifoVerdict → List Operation → Call → Option Note
+named_note verdict history call =
+    note_if (is_some (place_in (named_by_verdict verdict) history call)) Note.Named
+
+-- of a yes its place in the order
+abbrev pub fifo_note : FifoVerdict → List Operation → Call → Option Note
+fifo_note (fifo.Valid order) history call = placed_note [] order.items history call
+fifo_note verdict history call = named_note verdict history call
+
 -- ---- banks
 
 -- it is a read that has an error
@@ -349,6 +362,7 @@ note_of (Queue found) history call = queue_note found call
 note_of (Bank found) history call = bank_note found call
 note_of (SetFull found) history call = set_full_note found history call
 note_of (Mutex judged explanation) history call = register_note judged explanation history call
+note_of (FifoQueue found) history call = fifo_note found.verdict history call
 
 -- the mark of a note at the call of a number
 abbrev pub mark_at : ℕ → Option Note → Option Mark

@@ -4,6 +4,7 @@
 mod bank;
 mod completed;
 mod counter;
+mod fifo;
 mod held;
 mod ids;
 mod marked;

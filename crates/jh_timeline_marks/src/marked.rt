@@ -6,6 +6,7 @@ ghost use Rattle.jh_timeline_marks.specs.Marked as rule;
 
 use crate::bank::bank_marks;
 use crate::counter::counter_marks;
+use crate::fifo::fifo_marks;
 use crate::ids::ids_marks;
 use crate::queues::{queue_marks, total_queue_marks};
 use crate::register::register_marks;
@@ -35,7 +36,8 @@ use std::alloc::{AllocError, Global};
 ///
 /// A queue: of `total-queue` a call that put in what is lost, that took out what is unexpected or came out
 /// too often, or that tried to put in what is recovered; of `queue` the first dequeue that comes from no
-/// enqueue. A bank: each read that has an error. A set over time: a call that tried to add what is lost,
+/// enqueue; of `fifo-queue` of a yes each call's place in the order, else each operation that the verdict
+/// names. A bank: each read that has an error. A set over time: a call that tried to add what is lost,
 /// or what was stale, and a read that shows an element twice.
 ///
 /// The calls are those of the history, as `jh_timeline::calls_of` has them. A call is known by where
@@ -72,5 +74,6 @@ pub fn marks_of(
             judged,
             explanation,
         } => register_marks(alloc, judged, explanation, history, calls),
+        Finding::FifoQueue(found) => fifo_marks(alloc, found, history, calls),
     }
 }

@@ -7,7 +7,7 @@ use Rattle.jh_timeline.specs.declared.marks.Note.{Note}
 use Rattle.jh_timeline.specs.declared.marks.Note.TheVariants.{Placed, Stuck, Pending, Lost}
 use Rattle.jh_timeline.specs.declared.marks.Note.TheVariants.{Recovered, Unexpected, Repeated}
 use Rattle.jh_timeline.specs.declared.marks.Note.TheVariants.{Outside, Step, BadRead}
-use Rattle.jh_timeline.specs.declared.marks.Note.TheVariants.{Stale, WrongBalances}
+use Rattle.jh_timeline.specs.declared.marks.Note.TheVariants.{Stale, WrongBalances, Named}
 use Rattle.jh_timeline.specs.declared.marks.Place.{Place}
 use Rattle.jh_timeline.specs.declared.marks.StepKind.{StepKind}
 use Rattle.jh_timeline.specs.declared.marks.StepKind.TheVariants.{WriteRead, WriteWrite}
@@ -38,6 +38,7 @@ class_of (Step place kind) = codes "step"
 class_of BadRead = codes "bad-read"
 class_of Stale = codes "stale"
 class_of WrongBalances = codes "wrong-balances"
+class_of Named = codes "named"
 
 -- the name of a kind of step (Adya, "Weak consistency", 1999, has the first, the second and the
 -- fourth; `fcw` and `rt` are this project's own)
@@ -74,6 +75,7 @@ plain_meaning Repeated = codes "repeated: this gives what was given more than on
 plain_meaning BadRead = codes "bad read: no order explains it"
 plain_meaning Stale = codes "stale: it was known to be there, and a read behind that lacked it"
 plain_meaning WrongBalances = codes "wrong balances: the bank can't have these"
+plain_meaning Named = codes "named: the verdict stands on this operation"
 plain_meaning note = []
 
 -- what a register holds behind an operation, where that is known

@@ -56,6 +56,7 @@ fn class_of(note: Note) -> &'static str
         Note::BadRead => "bad-read",
         Note::Stale => "stale",
         Note::WrongBalances => "wrong-balances",
+        Note::Named => "named",
     }
 }
 
@@ -189,6 +190,7 @@ fn plain_meaning(note: Note) -> &'static [u8]
         Note::BadRead => b"bad read: no order explains it",
         Note::Stale => b"stale: it was known to be there, and a read behind that lacked it",
         Note::WrongBalances => b"wrong balances: the bank can't have these",
+        Note::Named => b"named: the verdict stands on this operation",
         _ => b"",
     }
 }

@@ -10,7 +10,11 @@ use Rattle.jh_checkers.specs.declared.explanation.Explanation.{Explanation}
 use Rattle.jh_checkers.specs.declared.finding.Finding.{Finding}
 use Rattle.jh_checkers.specs.declared.finding.Finding.TheVariants.{Set, Counter, Ids, Register}
 use Rattle.jh_checkers.specs.declared.finding.Finding.TheVariants.{ListAppend, TotalQueue, Queue}
-use Rattle.jh_checkers.specs.declared.finding.Finding.TheVariants.{Bank, SetFull, Mutex}
+use Rattle.jh_checkers.specs.declared.finding.Finding.TheVariants.{Bank, SetFull, Mutex, FifoQueue}
+use Rattle.jh_fifo.specs.declared.verdict.FifoReason.{FifoReason}
+use Rattle.jh_fifo.specs.declared.verdict.FifoReason.TheVariants as reasons
+use Rattle.jh_fifo.specs.declared.verdict.FifoVerdict.{FifoVerdict}
+use Rattle.jh_fifo.specs.declared.verdict.FifoVerdict.TheVariants as fifo
 use Rattle.jh_queue.specs.declared.queue.QueueResult.{QueueResult}
 use Rattle.jh_queue.specs.declared.queue.QueueResult.TheVariants.{Dequeued, First}
 use Rattle.jh_independent.specs.Lines.{verdict_of_all}
@@ -116,6 +120,18 @@ queue_reason (Dequeued count) = []
 queue_reason (First place completion) =
     codes ": the dequeue at index " ++ (decimal place ++ codes " comes from no enqueue")
 
+-- what excludes every order of a first-in-first-out queue
+abbrev pub order_excluded_text : FifoReason → List ℕ
+order_excluded_text (reasons.EndsTooSoon number) = codes ": an operation ended before it was invoked"
+order_excluded_text (reasons.Nowhere number) = codes ": a value is dequeued that was never enqueued"
+order_excluded_text (reasons.Twice first second) = codes ": a value is dequeued twice"
+order_excluded_text (reasons.TooSoon dequeue enqueue) =
+    codes ": a value is dequeued before it is enqueued"
+order_excluded_text (reasons.Crossed first second) =
+    codes ": of two values each has to come before the other"
+order_excluded_text (reasons.NeverEmpty number) =
+    codes ": a dequeue found the queue empty, which it never was"
+
 -- of a bank that is wrong how many reads are
 abbrev pub bank_reason : Verdict → ℕ → List ℕ
 bank_reason Verdict.False wrong =
@@ -137,6 +153,14 @@ set_full_reason Verdict.False lost stale duplicated = timed_elements_text lost s
 set_full_reason Verdict.Unknown lost stale duplicated = codes ": no element is stable"
 set_full_reason Verdict.True lost stale duplicated = []
 
+-- of a first-in-first-out queue how many operations have an order, or what excludes every one, or why
+-- none is sought
+abbrev pub fifo_reason : FifoVerdict → List ℕ
+fifo_reason (fifo.Valid order) = ordered_text (length order.items)
+fifo_reason (fifo.Invalid why) = order_excluded_text why
+fifo_reason (fifo.Repeated first second) = codes ": a value is enqueued twice"
+fifo_reason (fifo.Unsure number) = codes ": it is not known what a dequeue did"
+
 abbrev pub reason : Finding → List ℕ
 reason (Set found) = set_reason found.verdict found.found
 reason (Counter found) = counter_reason found.verdict (length found.errors)
@@ -151,6 +175,7 @@ reason (SetFull found) =
     set_full_reason found.verdict (length found.lost) (length found.stale)
     (length found.duplicated)
 reason (Mutex judged explanation) = register_reason judged explanation
+reason (FifoQueue found) = fifo_reason found.verdict
 
 -- the title of a history: the verdict with what is said behind it, or that nothing was judged
 abbrev pub history_title : Option Finding → List ℕ

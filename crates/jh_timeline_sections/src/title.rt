@@ -14,6 +14,7 @@ use crate::key_sections::rank_of_verdict;
 use jh_bands::answered_text;
 use jh_check::{SetFound, Verdict};
 use jh_checkers::{Explanation, Finding};
+use jh_fifo::{FifoReason, FifoVerdict};
 use jh_independent::KeyFinding;
 use jh_linear::{LinVerdict, Stuck};
 use jh_ops::{Op, Process};
@@ -248,6 +249,32 @@ fn queue_reason(alloc: Global, found: &QueueResult) -> Result<Vec<u8>, AllocErro
     }
 }
 
+/// What excludes every order of a first-in-first-out queue.
+fn order_excluded(reason: FifoReason) -> &'static [u8]
+    ensures { result.now ≡ rule.order_excluded_text reason }
+{
+    match reason {
+        FifoReason::EndsTooSoon(_) => b": an operation ended before it was invoked",
+        FifoReason::Nowhere(_) => b": a value is dequeued that was never enqueued",
+        FifoReason::Twice(..) => b": a value is dequeued twice",
+        FifoReason::TooSoon(..) => b": a value is dequeued before it is enqueued",
+        FifoReason::Crossed(..) => b": of two values each has to come before the other",
+        FifoReason::NeverEmpty(_) => b": a dequeue found the queue empty, which it never was",
+    }
+}
+
+/// What is said of a first-in-first-out queue.
+fn fifo_reason(alloc: Global, verdict: &FifoVerdict) -> Result<Vec<u8>, AllocError>
+    ensures { IfOk result (λ text. text.items ≡ rule.fifo_reason verdict.now) }
+{
+    match verdict {
+        FifoVerdict::Valid(order) => ordered(alloc, order.len()),
+        FifoVerdict::Invalid(reason) => Vec::from_slice(alloc, order_excluded(*reason)),
+        FifoVerdict::Repeated(..) => Vec::from_slice(alloc, b": a value is enqueued twice"),
+        FifoVerdict::Unsure(_) => Vec::from_slice(alloc, b": it is not known what a dequeue did"),
+    }
+}
+
 /// What is said of a bank with so many wrong reads.
 fn bank_reason(alloc: Global, verdict: Verdict, wrong: usize) -> Result<Vec<u8>, AllocError>
     ensures { IfOk result (λ text. text.items ≡ rule.bank_reason verdict wrong) }
@@ -327,6 +354,7 @@ fn reason(alloc: Global, found: &Finding) -> Result<Vec<u8>, AllocError>
             judged,
             explanation,
         } => register_reason(alloc, judged, explanation.as_ref()),
+        Finding::FifoQueue(queue) => fifo_reason(alloc, &queue.verdict),
     }
 }
 
