@@ -31,7 +31,7 @@ use Rattle.jh_arguments.specs.Commands.{SubcommandIsAny, AsksCheck, SubcommandIs
 use Rattle.jh_arguments.specs.Limits.{max_candidates, max_spread_ms}
 use Rattle.jh_settings.specs.Limits.{max_budget}
 use Rattle.jh_checkers.specs.declared.checker.Checker.{Checker}
-use Rattle.jh_checkers.specs.declared.checker.Checker.TheVariants.{Register, Set, Counter, Ids, ListAppend, TotalQueue, Queue, Bank, SetFull, Mutex}
+use Rattle.jh_checkers.specs.declared.checker.Checker.TheVariants.{Register, Set, Counter, Ids, ListAppend, TotalQueue, Queue, Bank, SetFull, Mutex, FifoQueue}
 use Rattle.jh_checkers.specs.declared.finding.Judging.{Judging}
 use Rattle.jh_cli.specs.declared.search_command.Show.{Show}
 use Rattle.jh_arguments.specs.declared.commands.Command.{Command}
@@ -102,7 +102,7 @@ checker_in : (names : Bor (List (Bor Text))) → map (λ s. s.now) names.now ≡
 checker_in names all rows t =
     let among : list_any (λ n. bytes_eq n t.text) checker_names ≡ true =
     ap (list_any (λ n. bytes_eq n t.text)) (sym all) ∙ (sym (list_any-map (λ n. bytes_eq n t.text) (λ s. s.now) names.now) ∙ t.accepted) in
-    let found = any_checker t.text (Register ∷ Set ∷ Counter ∷ Ids ∷ ListAppend ∷ TotalQueue ∷ Queue ∷ Bank ∷ SetFull ∷ Mutex ∷ []) among in
+    let found = any_checker t.text (Register ∷ Set ∷ Counter ∷ Ids ∷ ListAppend ∷ TotalQueue ∷ Queue ∷ Bank ∷ SetFull ∷ Mutex ∷ FifoQueue ∷ []) among in
     (found.0, t.first ∙ ap Some (sym found.1))
 
 -- ---- each command

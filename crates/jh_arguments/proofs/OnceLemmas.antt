@@ -11,7 +11,7 @@ use Rattle.jh_arguments.specs.Accounts.{Accounts}
 use Rattle.jh_arguments.specs.Commands.{AsksCheck, SubcommandIs, AsksSearch, AsksTimeline, IsFlag, IsGivenWithin, IsGivenNumber, IsGivenSigned, IsJudging, IsJudgingBy, IsNumberWithin, IsShow}
 use Rattle.jh_arguments.specs.Limits.{max_candidates, max_spread_ms}
 use Rattle.jh_checkers.specs.declared.checker.Checker.{Checker}
-use Rattle.jh_checkers.specs.declared.checker.Checker.TheVariants.{Register, Set, Counter, Ids, ListAppend, TotalQueue, Queue, Bank, SetFull, Mutex}
+use Rattle.jh_checkers.specs.declared.checker.Checker.TheVariants.{Register, Set, Counter, Ids, ListAppend, TotalQueue, Queue, Bank, SetFull, Mutex, FifoQueue}
 use Rattle.jh_checkers.specs.declared.finding.Judging.{Judging}
 use Rattle.jh_cli.specs.declared.check_command.CheckQuestion.{CheckQuestion}
 use Rattle.jh_cli.specs.declared.search_command.SearchQuestion.{SearchQuestion}
@@ -36,6 +36,7 @@ checker_back Queue = refl
 checker_back Bank = refl
 checker_back SetFull = refl
 checker_back Mutex = refl
+checker_back FifoQueue = refl
 
 checker_once : (c d : Checker) → checker_name c ≡ checker_name d → c ≡ d
 checker_once c d e = some_same c d (sym (checker_back c) ∙ (ap checker_named e ∙ checker_back d))

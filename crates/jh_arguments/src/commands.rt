@@ -197,8 +197,8 @@ pub fn search_question_of(options: &ArgMatches<'_>) -> Option<SearchQuestion>
     })
 }
 
-/// What the options of `timeline` ask for, with the accounts that they give. Where there is no workload, what
-/// is said to a checker and a budget mean nothing. `parse` has seen to it that a workload is one that a checker
+/// What the options of `timeline` ask for, with the accounts that they give. Where there is no workload,
+/// options of a checker and a budget are not used. `parse` has seen to it that a workload is one that a checker
 /// judges, that a model is one, and that the budget is a number.
 pub fn timeline_question_of<'a>(
     options: &ArgMatches<'_>,

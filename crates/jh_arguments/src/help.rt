@@ -26,8 +26,8 @@ pub(crate) const CHECK: &str = "\
 It writes the verdict, and what it stands on. Of a register or a mutex that is not valid,
 --explain adds the completion at which it is stuck, an order of what is before that, the value
 that this order leads to, and the numbers of the operations that are pending there; of
-list-append, the transactions that the line names. Other workloads say themselves what is
-wrong. A bank needs --accounts and --total, and with --negative-balances accounts may be
+list-append and fifo-queue, the operations that the line names. Other workloads say themselves
+what is wrong. A bank needs --accounts and --total, and with --negative-balances accounts may be
 overdrawn; stale reads of a set-full are allowed without --linearizable; a mutex is free at
 first without --locked. An empty history is valid: --at-least N answers that it is not known
 whether one is, where fewer than N calls of the workload's functions ended :ok.

@@ -24,7 +24,7 @@ use std::alloc::Global;
 use std::convert::AsStr;
 
 /// The names of the workloads, as `jh_checkers` has them.
-static WORKLOADS: [&str; 10] = [
+static WORKLOADS: [&str; 11] = [
     "register",
     "set",
     "counter",
@@ -35,6 +35,7 @@ static WORKLOADS: [&str; 10] = [
     "bank",
     "set-full",
     "mutex",
+    "fifo-queue",
 ];
 
 /// The names of the consistency models, as `jh_checkers` has them.
@@ -121,7 +122,7 @@ fn check_command<'a>(
     let explain = flag_option(
         alloc,
         "explain",
-        "Says why a register, a mutex or list-append is not valid",
+        "Says why a register, a mutex, list-append or a fifo-queue is not valid",
     );
     let independent = flag_option(
         alloc,

@@ -280,7 +280,7 @@ impl<P: Eprint> Teller<'_, P> {
     }
 }
 
-/// What may decide what a command left unknown, of a register or a mutex.
+/// What may decide what a command left unknown, or why it did.
 fn remedy_of(work: Work, status: u8) -> Option<&'static str>
     ensures known { status ≢ 2 → IsNone result }
 {
@@ -296,9 +296,17 @@ fn remedy_of(work: Work, status: u8) -> Option<&'static str>
             ..
         } => Some("unknown: the history has too few operations, or a larger --budget may decide"),
         Work::History {
-            checker: Some(Checker::Register | Checker::Mutex),
+            checker: Some(Checker::Register),
+            ..
+        } => Some("unknown: a larger --budget may decide, or a test that writes each value once"),
+        Work::History {
+            checker: Some(Checker::Mutex),
             ..
         } => Some("unknown: a larger --budget may decide"),
+        Work::History {
+            checker: Some(Checker::FifoQueue),
+            ..
+        } => Some("unknown: a value is enqueued twice, or a dequeue has no known outcome"),
         _ => None,
     }
 }

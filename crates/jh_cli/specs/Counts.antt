@@ -1,6 +1,6 @@
 -- What a history holds for a checker (this project's own): a history of another workload breaks none of
 -- its rules, and who judges it wants to know.
-use Rattle.std.specs.Prelude.{ℕ, not, ◌&&◌, Bool, List, count_by}
+use Rattle.std.specs.Prelude.{not, ◌&&◌, Bool, List, count_by}
 use Rattle.jh_checkers.specs.declared.checker.Checker.{Checker}
 use Rattle.jh_cli.specs.Enough.{is_judged}
 use Rattle.jh_cli.specs.declared.counts.HistoryCounts.{HistoryCounts}

@@ -20,6 +20,7 @@ functions_of Checker.Queue = codes "enqueue" ∷ codes "dequeue" ∷ []
 functions_of Checker.Bank = codes "read" ∷ []
 functions_of Checker.SetFull = codes "add" ∷ codes "read" ∷ []
 functions_of Checker.Mutex = codes "acquire" ∷ codes "release" ∷ []
+functions_of Checker.FifoQueue = codes "enqueue" ∷ codes "dequeue" ∷ []
 
 -- a client's operation of this kind, of one of these functions
 abbrev pub is_judged : Checker → Kind → Operation → Bool

@@ -1,6 +1,6 @@
 -- What a page says where the verdict in its input, as `run` and `drive` print it, is another than its
 -- own (this project's own).
-use Rattle.std.specs.Prelude.{ℕ, ◌==◌, List, [], ◌++◌, codes, if◌then◌else◌, Option, Some, None}
+use Rattle.std.specs.Prelude.{ℕ, ◌==◌, List, [], ◌++◌, codes, if◌then◌else◌, Option, Some}
 use Rattle.jh_check.specs.declared.verdict.Verdict.{Verdict}
 use Rattle.jh_checkers.specs.declared.finding.Judging.{Judging}
 use Rattle.jh_reports.specs.Reports.{verdict_status}

@@ -38,7 +38,7 @@ pub fn functions_of(checker: Checker) -> &'static [&'static str]
         Checker::Ids => IDS.as_slice(),
         Checker::ListAppend => TRANSACTIONS.as_slice(),
         Checker::TotalQueue => TOTAL_QUEUE.as_slice(),
-        Checker::Queue => QUEUE.as_slice(),
+        Checker::Queue | Checker::FifoQueue => QUEUE.as_slice(),
         Checker::Bank => BANK.as_slice(),
         Checker::Mutex => MUTEX.as_slice(),
     }
@@ -64,7 +64,9 @@ pub(crate) fn is_judged(checker: Checker, kind: Kind, op: &Op) -> bool
                 || op.is_asked(kind, "dequeue")
                 || op.is_asked(kind, "drain")
         }
-        Checker::Queue => op.is_asked(kind, "enqueue") || op.is_asked(kind, "dequeue"),
+        Checker::Queue | Checker::FifoQueue => {
+            op.is_asked(kind, "enqueue") || op.is_asked(kind, "dequeue")
+        }
         Checker::Bank => op.is_asked(kind, "read"),
         Checker::Mutex => op.is_asked(kind, "acquire") || op.is_asked(kind, "release"),
     }
