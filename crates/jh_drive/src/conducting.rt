@@ -37,8 +37,8 @@ fn judging_of(
 }
 
 /// Why a conversation did not come to its end. Of the last four endings only `InputEnded` comes
-/// here: a test that is over has its own answer (`drive_answer`), and a failed write and want of
-/// memory were told before (`hold`).
+/// here: a test that is over has its own answer (`drive_answer`), and a failed write, and that
+/// memory ran out, were told before (`hold`).
 fn ended_early(ending: Ending) -> DriveError
     ensures { result ≡ rule.ended_early ending }
 {

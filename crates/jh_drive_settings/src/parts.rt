@@ -25,7 +25,8 @@ pub(crate) struct Pace {
     pub recovery: u32,
 }
 
-/// What is said of registers or of transactions alone, and how all is chosen and judged.
+/// What is set for registers or for transactions alone, the seed of what is random, and how the history is
+/// judged.
 #[derive(Clone, Copy, Drop)]
 pub(crate) struct Details {
     pub initial: Option<i64>,

@@ -49,7 +49,7 @@ impl Datum {
         &self.value
     }
 
-    /// The same value once more. Costs as much as the value is large.
+    /// The same value once more. Takes time and memory in proportion to its size.
     pub fn copy(&self, alloc: Global) -> Result<Self, AllocError>
         ensures { IfOk result (λ copy. copy ≡ self.now) }
     {

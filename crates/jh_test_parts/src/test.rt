@@ -16,7 +16,6 @@ use crate::parts::{
 use crate::workload::TestWorkload;
 use jh_env::{Env, Node, Nodes};
 use jh_gen::{Gen, Inner, MAX_CALLS, MAX_CLIENTS};
-use jh_nemesis::Step;
 use jh_ops::Workload;
 use std::alloc::{AllocError, Global};
 use std::marker::Model;
@@ -131,26 +130,13 @@ impl Model for Test {
     ghost invariant = { IsFitInside };
 }
 
-/// Whether each node that the fault of a step names is in the environment.
-fn fits(step: &Step, environment: &Env) -> bool
-    ensures { IsTrue result ↔ FitsNodes (length environment.now.names) step.now }
-{
-    match step {
-        Step::Begin(_, fault) => fault.fits(environment),
-        Step::Withdraw(_) => true,
-        Step::WithdrawAll => true,
-        Step::Undo => true,
-        Step::Redo => true,
-    }
-}
-
 /// Whether each node that a fault of the schedule names is in the environment.
 fn all_fit(schedule: &[TestEntry], environment: &Env) -> bool
     ensures { IsTrue result
         ↔ All (λ entry. FitsNodes (length environment.now.names) entry.step) schedule.now }
 {
     for entry in schedule {
-        if !fits(&entry.step, environment) {
+        if !entry.step.fits(environment) {
             return false;
         }
     }
