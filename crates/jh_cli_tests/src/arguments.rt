@@ -113,7 +113,7 @@ Usage: jeprun check --workload <NAME>
 For more information, try '--help'.
 § jeprun check --workload lock → 3
 error: invalid value 'lock' for '--workload <NAME>'
-  [possible values: register, set, counter, unique-ids, list-append, total-queue, queue, bank, set-full, mutex]
+  [possible values: register, set, counter, unique-ids, list-append, total-queue, queue, bank, set-full, mutex, fifo-queue]
 
 For more information, try '--help'.
 § jeprun check --workload list-append --model causal → 3
@@ -249,7 +249,7 @@ Writes a page that shows a history, which is read from standard input as EDN
 Usage: jeprun timeline [OPTIONS]
 
 Options:
-      --workload <NAME>    What the database was to be [possible values: register, set, counter, unique-ids, list-append, total-queue, queue, bank, set-full, mutex]
+      --workload <NAME>    What the database was to be [possible values: register, set, counter, unique-ids, list-append, total-queue, queue, bank, set-full, mutex, fifo-queue]
       --initial <N>        The register's first value, as --initial=-5; nil where it is left out
       --model <MODEL>      What transactions were to keep; strict-serializable where it is left out [possible values: strict-serializable, serializable, strong-snapshot-isolation, snapshot-isolation]
       --accounts <VALUES>  The accounts of a bank, as '[0 1 2]'
@@ -371,7 +371,7 @@ Judges a history of operations, read from standard input as EDN
 Usage: jeprun check [OPTIONS] --workload <NAME>
 
 Options:
-      --workload <NAME>    What the database was to be [possible values: register, set, counter, unique-ids, list-append, total-queue, queue, bank, set-full, mutex]
+      --workload <NAME>    What the database was to be [possible values: register, set, counter, unique-ids, list-append, total-queue, queue, bank, set-full, mutex, fifo-queue]
       --initial <N>        The register's first value, as --initial=-5; nil where it is left out
       --model <MODEL>      What transactions were to keep; strict-serializable where it is left out [possible values: strict-serializable, serializable, strong-snapshot-isolation, snapshot-isolation]
       --accounts <VALUES>  The accounts of a bank, as '[0 1 2]'
@@ -380,7 +380,7 @@ Options:
       --linearizable       Stale reads make a set-full not valid
       --locked             A mutex is held at first
       --budget <N>         How many configurations the judge of a register or a mutex may reach [default: 100000]
-      --explain            Says why a register, a mutex or list-append is not valid
+      --explain            Says why a register, a mutex, list-append or a fifo-queue is not valid
       --independent        Judges each key by itself; values are tuples of a key and a value
       --threads <N>        How many threads judge keys [default: 1]
       --at-least <N>       A history with fewer calls that ended :ok is not called valid
@@ -391,8 +391,8 @@ Options:
 It writes the verdict, and what it stands on. Of a register or a mutex that is not valid,
 --explain adds the completion at which it is stuck, an order of what is before that, the value
 that this order leads to, and the numbers of the operations that are pending there; of
-list-append, the transactions that the line names. Other workloads say themselves what is
-wrong. A bank needs --accounts and --total, and with --negative-balances accounts may be
+list-append and fifo-queue, the operations that the line names. Other workloads say themselves
+what is wrong. A bank needs --accounts and --total, and with --negative-balances accounts may be
 overdrawn; stale reads of a set-full are allowed without --linearizable; a mutex is free at
 first without --locked. An empty history is valid: --at-least N answers that it is not known
 whether one is, where fewer than N calls of the workload's functions ended :ok.

@@ -66,6 +66,7 @@ fn note_of(name: &str, first: Option<i128>, second: Option<i128>) -> Option<Note
         "bad-read" => Some(Note::BadRead),
         "stale" => Some(Note::Stale),
         "wrong-balances" => Some(Note::WrongBalances),
+        "named" => Some(Note::Named),
         name => Some(Note::Step {
             place: index(first)?,
             kind: kind_of(name)?,

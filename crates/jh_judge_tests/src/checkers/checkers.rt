@@ -18,18 +18,19 @@ fn name_of(name: &str) -> &'static str {
         Some(Checker::Bank) => "bank",
         Some(Checker::SetFull) => "set-full",
         Some(Checker::Mutex) => "mutex",
+        Some(Checker::FifoQueue) => "fifo-queue",
         None => "none",
     }
 }
 
 #[test]
 fn names_mean_checkers(rt: HostRuntime) {
-    for name in "register set counter unique-ids list-append total-queue queue bank set-full mutex".split(
+    for name in "register set counter unique-ids list-append total-queue queue bank set-full mutex fifo-queue".split(
         ' ',
     ) {
         assert_eq!(rt; name_of(name), name);
     }
-    for name in "Register sets unique_ids list_append queues fifo-queue".split(' ') {
+    for name in "Register sets unique_ids list_append queues fifo_queue".split(' ') {
         assert_eq!(rt; name_of(name), "none", "{name}");
     }
 }

@@ -1,4 +1,4 @@
-//! Queues, banks, sets over time and mutexes, by rows whose lines follow from the definitions.
+//! Queues, banks, sets over time, mutexes and first-in-first-out queues, by rows whose lines follow from the definitions.
 
 use crate::checkers::rows::{by, explained, judge_all};
 use jh_checkers::{Checker, Judging};
@@ -77,4 +77,27 @@ fn mutexes_are_judged(rt: HostRuntime) -> Result<(), Fail> {
         0 :invoke :acquire; 0 :ok :acquire => {:valid? false}
         0 :invoke :release; 0 :ok :release => {:valid? true, :order [0]}";
     judge_all(rt.alloc(), judging, rows)
+}
+
+/// Each reason, and each cause why none is sought. Numbers count operations that failed, too.
+#[test]
+fn first_in_first_out_queues_are_judged(rt: HostRuntime) -> Result<(), Fail> {
+    let rows = "
+        0 :invoke :enqueue 1; 0 :ok :enqueue 1; 0 :invoke :dequeue; 0 :ok :dequeue 1; 0 :invoke :dequeue; 0 :ok :dequeue nil => {:valid? true, :order [0 1 2]}
+        0 :invoke :enqueue 5; 0 :fail :enqueue 5; 1 :invoke :dequeue; 1 :ok :dequeue 5 => {:valid? false, :because :never-enqueued, :named [1]}
+        0 :invoke :dequeue; 0 :ok :dequeue 1; 1 :invoke :enqueue 1 => {:valid? false, :because :dequeued-before-enqueued, :named [0 1]}
+        0 :invoke :enqueue 1; 1 :invoke :dequeue; 1 :ok :dequeue 1; 1 :invoke :dequeue; 1 :ok :dequeue 1 => {:valid? false, :because :dequeued-twice, :named [1 2]} or {:valid? false, :because :dequeued-twice, :named [2 1]}
+        0 :invoke :enqueue 1; 0 :ok :enqueue 1; 0 :invoke :enqueue 2; 0 :ok :enqueue 2; 0 :invoke :dequeue; 0 :ok :dequeue 2 \
+        => {:valid? false, :because :out-of-order, :named [0 1]} or {:valid? false, :because :out-of-order, :named [1 0]}
+        0 :invoke :enqueue 1; 0 :ok :enqueue 1; 0 :invoke :dequeue; 0 :ok :dequeue nil => {:valid? false, :because :never-empty, :named [1]}
+        0 :invoke :enqueue [1]; 0 :ok :enqueue [1]; 1 :invoke :enqueue (1) => {:valid? :unknown, :because :enqueued-twice, :named [0 1]} or {:valid? :unknown, :because :enqueued-twice, :named [1 0]}
+        0 :invoke :drain; 0 :ok :drain [] => operation 0: bad value
+        0 :invoke :dequeue; 1 :invoke :enqueue nil => operation 1: bad value";
+    judge_all(rt.alloc(), by(Checker::FifoQueue), rows)?;
+    let rows = "
+        0 :invoke :dequeue; 0 :ok :dequeue 7 \
+        => {:valid? false, :because :never-enqueued, :named [0], :operations [{:type :ok, :process 0, :f :dequeue, :value 7}]}
+        0 :invoke :dequeue => {:valid? :unknown, :because :unknown-dequeue, :named [0], :operations [{:type :invoke, :process 0, :f :dequeue, :value nil}]}
+        => {:valid? true, :order []}";
+    judge_all(rt.alloc(), explained(Checker::FifoQueue), rows)
 }

@@ -1,4 +1,4 @@
-//! Queues, banks, sets over time and mutexes, each with the marks that the definition gives.
+//! Queues, banks, sets over time, mutexes and first-in-first-out queues, each with the marks that the definition gives.
 
 use crate::checkers::rows::{by, explained};
 use crate::marks::rows::ask_all;
@@ -41,4 +41,14 @@ fn marks_mutexes(rt: HostRuntime) -> Result<(), Fail> {
         0 :invoke :acquire; 0 :ok :acquire; 1 :invoke :release; 1 :ok :release => 0 placed 0; 1 placed 1
         0 :invoke :acquire; 0 :ok :acquire; 1 :invoke :acquire; 1 :ok :acquire => 0 placed 0; 1 stuck";
     ask_all(rt.alloc(), explained(Checker::Mutex), rows)
+}
+
+/// The places of a yes, and what anything else names.
+#[test]
+fn marks_first_in_first_out_queues(rt: HostRuntime) -> Result<(), Fail> {
+    let rows = "
+        0 :invoke :enqueue 1; 0 :ok :enqueue 1; 1 :invoke :dequeue; 1 :ok :dequeue 1 => 0 placed 0; 1 placed 1
+        0 :invoke :enqueue 1; 0 :fail :enqueue 1; 1 :invoke :dequeue; 1 :ok :dequeue 1 => 1 named
+        0 :invoke :enqueue 1; 0 :ok :enqueue 1; 0 :invoke :enqueue 1 => 0 named; 1 named";
+    ask_all(rt.alloc(), by(Checker::FifoQueue), rows)
 }
