@@ -8,7 +8,7 @@ import time
 from clients import Client, NotDone
 from servers import PATIENCE, Connection, new_pair
 
-QUEUE, TAKEN, LOCK, SET = "jeprun-queue", "jeprun-taken", "jeprun-lock", "jeprun-set"
+QUEUE, OTHER, TAKEN, LOCK, SET = "jeprun-queue", "jeprun-other", "jeprun-taken", "jeprun-lock", "jeprun-set"
 LIMIT = 1  # second that a client waits for a reply
 EXPIRY = 50  # milliseconds after which Redis takes a lock away
 RELEASE = "return redis.call('GET', KEYS[1]) == ARGV[1] and redis.call('DEL', KEYS[1]) or 0"
@@ -89,6 +89,35 @@ class MovedQueue(PoppedQueue):
 class SlowQueue(MovedQueue):
     def work(self):
         time.sleep(self.dice.uniform(0, 0.02))
+
+
+class OrderedQueue(PoppedQueue):
+    """The same list, whose order counts: what finds it empty answers nil, and nothing is drained."""
+
+    def perform(self, f, value):
+        if f == "enqueue":
+            self.ask("LPUSH", self.end_in(), value)
+            return value
+        text = self.take()
+        return None if text is None else int(text)
+
+    def end_in(self):
+        """The list that takes in the next value."""
+        return QUEUE
+
+    def finish(self):
+        """Nothing is drained: an order has room for what is left."""
+
+
+class PartedQueue(OrderedQueue):
+    """Two such lists, of which each call takes either: a queue with two partitions."""
+
+    def end_in(self):
+        return self.dice.choice([QUEUE, OTHER])
+
+    def take(self):
+        first, second = self.dice.sample([QUEUE, OTHER], 2)
+        return self.ask("RPOP", first) or self.ask("RPOP", second)
 
 
 class Lock(RedisClient):

@@ -48,6 +48,8 @@ TESTS = {
     "queue-moved": Test(on_redis.new_server, on_redis.MovedQueue, 40, on_redis.kill_connections, 0.1),
     "queue-popped": Test(on_redis.new_server, on_redis.PoppedQueue, 40, on_redis.kill_connections, 0.1),
     "queue-taken-back": Test(on_redis.new_server, on_redis.SlowQueue, 30, on_redis.take_back),
+    "queue-ordered": Test(on_redis.new_server, on_redis.OrderedQueue, 40),
+    "queue-parted": Test(on_redis.new_server, on_redis.PartedQueue, 40),
     "bank-read-committed": Test(on_postgresql.new_server, on_postgresql.CommittedBank, 40),
     "bank-serializable": Test(on_postgresql.new_server, on_postgresql.Bank, 40),
     "lock": Test(on_redis.new_server, on_redis.Lock, 40),
