@@ -114,8 +114,8 @@ where
     Ok(steps_in_settings(rt.alloc(), &settings)?)
 }
 
-/// The steps by which a page names records: those of the file that the arguments name, and none where they
-/// name none.
+/// The steps in whose words a page says what the nemesis did: those of the schedule in the file of settings that
+/// `timeline --settings` names, and none where it names none.
 ///
 /// Errors: those of `steps_in_file`, and none where no file is named.
 fn steps_of<T>(rt: &T, matches: &ArgMatches<'_>) -> Result<Vec<Value>, CliError>

@@ -179,8 +179,8 @@ pub fn question_of<'a>(
     })
 }
 
-/// What the options of `search` ask for. `parse` has seen to it that each is a number in its range;
-/// where the kinds of faults are no names of kinds, the question has no palette.
+/// What the options of `search` ask for. `parse` has seen to it that each is a number in its range. Where
+/// `--palette` names anything but kinds of faults, the question has no palette.
 pub fn search_question_of(options: &ArgMatches<'_>) -> Option<SearchQuestion>
     ensures parsed { IfSome result (AsksSearch (rows_of (found_of options.now))) }
     ensures ranges { IfSome result (λ question. HasNumbersInRange (Search question)) }
@@ -378,9 +378,9 @@ fn palette_of(options: &ArgMatches<'_>) -> Option<Palette>
 /// | 1 | the history is not valid | the schedule is minimal | a run found that fails | |
 /// | 2 | it is not known whether it is valid | the budget was used up | none found, and some are unknown | |
 ///
-/// The error has the status otherwise: 3 for an input that is refused, 4 for an error of the machine or
-/// a run that was not completed. Options that do not go with one another, or that name no kinds of faults, are
-/// refused before anything is read. Nothing is written before any error but `Write`.
+/// An error has a status of its own (`CliError::status`): 3 where the options or the input are refused, 4 where
+/// the machine failed or a run was not completed. Options that do not go with the checker, or that name no kinds
+/// of faults, are refused before anything is read. Nothing is written before any error but `Write`.
 ///
 /// The steps are those by which `timeline` names the records of the nemesis; no other command looks at them.
 ///

@@ -2,12 +2,12 @@
 //!
 //! `line.rt` has the commands and their options as `clap` reads them, `help.rt` what stands at the end
 //! of their help, `accounts.rt` how the accounts of a bank are read, and `commands.rt` what each command is and
-//! does. `drive` is none of these: it has a
-//! file of settings, and `answers.rt` conducts its test. There the whole stands in one call, from the
-//! arguments to the exit status; `program.rt` has the standard streams, `teller.rt` what a terminal is told, and
-//! `reasons.rt` what `--verbose` says of a refusal.
-//! A new command is a line of the first and a text of the second, and a case of `Command`, of
-//! `command_of`, of `do_command`, and of `input_of` in `teller.rt`.
+//! does. `drive` is no `Command`: it has a file of settings, and `answers.rt` conducts its test. `answer` in
+//! `answers.rt` is the whole in one call, from the arguments to the exit status; `program.rt` has the standard
+//! streams, `teller.rt` what a terminal is told, and `reasons.rt` what `--verbose` says of a refusal.
+//!
+//! A new command is a function in `line.rt` and a text in `help.rt`, and a case of `Command`, of `command_of` and of
+//! `do_command`, and of `Work` in `teller.rt`.
 #![tactic(auto)]
 
 mod accounts;

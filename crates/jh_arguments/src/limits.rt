@@ -3,7 +3,7 @@
 //! `jh_settings` has: `line.rt` has `clap` refuse what is beyond them, and `commands.rt` takes what is
 //! within.
 
-/// The greatest number of a candidate, and the most candidates: two of them still fit 64 bits.
+/// The greatest number of a candidate, and the most candidates: the sum of the two still fits 64 bits.
 pub(crate) const MAX_CANDIDATES: i64 = i64::MAX;
 
 /// The most random faults of a candidate.

@@ -1,5 +1,5 @@
 //! The commands and their options, as `clap` reads them, and what its refusals mean to the program.
-//! Its texts stand here and in `help` alone: help and complaints are shown by tests.
+//! The texts of help stand here and in `help.rt`. No clause speaks of them: tests show help and complaints.
 
 ghost use Rattle.std.specs.Prelude.{◌≡◌, ◌≢◌, ◌↔◌, codes, false, IfOk, IfErr, IsErrOf, Ok, map};
 ghost use Rattle.clap.specs.Words.{app_of, kind_of, rule_of, subcommand_rows_of};

@@ -117,11 +117,13 @@ where
 /// `do_command` and `drive` answer, 0 where help or the version was asked for, 3 where the
 /// arguments or the input are refused, 4 where the machine failed or a run was not completed.
 ///
-/// Where standard error is a terminal, it is told there what is read, where standard input is a terminal
-/// too, and how far `shrink` or `search` is. Where it is one, or `--verbose` is given: what a history holds
-/// that `check` judges; what `run` and `search` warn of; how the calls of a test ended, of `drive`; and what to
-/// raise, where a register was left unknown. With `--verbose` lines behind an error say where and why the input
-/// was refused.
+/// What is told on standard error, and when:
+///
+/// - how far `shrink` or `search` is, where standard error is a terminal; and what is read, where standard input
+///   is one too;
+/// - where standard error is a terminal or `--verbose` is given: how many operations of a history `check` judges,
+///   what `run` and `search` warn of, how the calls of a test ended, and what may decide a verdict that is unknown;
+/// - where `--verbose` is given: lines behind an error, which say where and why the input was refused.
 ///
 /// A run on threads, a search and the judgement of keys may wait.
 pub fn status<R>(rt: &R, terminals: Terminals) -> u8

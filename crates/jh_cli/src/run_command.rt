@@ -43,7 +43,7 @@ use std::thread::Threads;
 /// before the first byte is written.
 ///
 /// A serial run gives the same history for the same input each time
-/// (`jh_run_laws::same_settings_same_run`), and the same order of a register, as tests show.
+/// (`jh_run_laws::same_settings_same_run`). Tests show that all its output is the same too.
 ///
 /// A run on threads is one of `jh_workers::run_locked`. It may wait, and promises only if it returns.
 /// It may give another history each time. Its two lines of faults show what the steps of its journal

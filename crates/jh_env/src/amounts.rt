@@ -34,7 +34,7 @@ fn is_link_amount(kind: LinkFault) -> bool
     }
 }
 
-/// The same, if its amount is in its range.
+/// What a fault does to its links, if its amount is in its range.
 fn in_range(kind: LinkFault) -> Option<LinkFault>
     ensures { MatchOption result (IsLinkAmount kind → ⊥)
         (λ right. (right ≡ kind) × IsLinkAmount kind) }

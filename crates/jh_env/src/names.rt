@@ -176,8 +176,8 @@ impl Nodes {
         }
     }
 
-    /// The node that a thread of this number calls: threads have the nodes in order, the first node
-    /// again after the last.
+    /// The node that the client thread of this number, from 0, calls: threads have the nodes in order,
+    /// the first node again after the last.
     pub fn of_thread(&self, thread: u32) -> Node
         ensures node { result ≡ thread % length self.now }
         ensures known { result < length self.now }

@@ -134,8 +134,9 @@ pub fn env_of_value(alloc: Global, value: &Value) -> Result<Env, EnvTextError>
 }
 
 /// The text of an environment as it is now: all six keys in the order
-/// `:nodes :cut :slow :loss :down :clock`, and under them only what is not calm or not running,
-/// links by the place of their source and then of their destination, nodes by place.
+/// `:nodes :cut :slow :loss :down :clock`. Under `:nodes` stand all names, and under the others only
+/// links that are not calm, nodes that are down and clocks that are off: links by the place of their
+/// source and then of their destination, nodes by place.
 pub fn value_of_env(alloc: Global, env: &Env) -> Result<Value, AllocError>
     ensures { IfOk result (λ value. view value ≡ edn_of_env env.now) }
 {

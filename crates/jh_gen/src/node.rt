@@ -33,13 +33,23 @@ pub(crate) struct Count {
 /// What is left of a generator: a node of its tree, and none of a cluster.
 #[cycle(node)]
 pub(crate) enum Node {
+    /// Nothing is left.
     Gone,
+    /// One call, of `Gen::Once`.
     One(Call),
+    /// Rising numbers, of `Gen::Rising`.
     Counting(Count),
+    /// One call again and again, of `Gen::Forever`.
     Endless(Call),
+    /// Members in their turn, of `Gen::Seq` or `Gen::Phases`: each waits until none of these threads is
+    /// busy. A `Seq` awaits no thread.
     InTurn(Vec<usize>, Row),
+    /// At most so many calls, of `Gen::Limit`.
     Limited(u32, Within),
+    /// Members among which a random number chooses, of `Gen::Mix`.
     Mixed(Row),
+    /// Nodes that each have threads of their own: of `Gen::Reserve`, `EachThread`, `Clients` or
+    /// `NemesisOnly`.
     Split(Lots),
 }
 

@@ -15,7 +15,8 @@ pub(crate) type Ranks = [Option<usize>; 256];
 pub(crate) enum Rule {
     /// Nodes of different ranks drop each other.
     Apart,
-    /// In a ring of so many nodes each drops those before it, as far as they are fewer than half.
+    /// In a ring of so many nodes each sees the smallest majority that begins with itself, and drops the
+    /// others, which are those just before it.
     Ring(usize),
 }
 

@@ -26,7 +26,8 @@ pub struct JudgedRun {
 /// Runs a plan serially, and judges its history by the checker of its workload, with this budget for
 /// a register. The same plan gives the same history each time (`jh_simnode::one_run`).
 ///
-/// Errors: `Stuck` where in one round no thread got a call; `OutOfMemory`, or `World` with the same.
+/// Errors: `Stuck` where in one round no thread got a call; `OutOfMemory`, or `World` with
+/// `WorldError::OutOfMemory`.
 /// No checker refuses the history of a serial run (`jh_run_laws::own_histories_are_judged`).
 ///
 /// Takes what `run_serial` takes, and then what the checker takes.

@@ -74,7 +74,7 @@ fn put_all(active: &mut Stamps, stamps: &[usize])
     let _ = active.try_extend_from_slice(stamps);
 }
 
-/// Takes the step at this index, over the active stamps.
+/// Changes the active stamps as the step at this index does.
 pub fn play(accepted: &[AcceptedStep], index: usize, active: &mut Stamps)
     requires known { index < length accepted.now }
     requires room { length (stamps_after index (accepted_at accepted.now index) active.old.items)
@@ -88,7 +88,7 @@ pub fn play(accepted: &[AcceptedStep], index: usize, active: &mut Stamps)
     }
 }
 
-/// Takes the step at this index back, over the active stamps.
+/// Changes the active stamps back to what they were before the step at this index.
 pub fn play_back(accepted: &[AcceptedStep], index: usize, active: &mut Stamps)
     requires known { index < length accepted.now }
     requires room { length (stamps_before (accepted_at accepted.now index) active.old.items)

@@ -82,7 +82,7 @@ fn take_each(env: &mut Env, accepted: &[AcceptedStep], stamps: &[usize])
 }
 
 /// Does to the environment what the step at this index does. It takes no memory, and writes no more
-/// than the faults take that the step begins or ends.
+/// often than the sizes of the faults say that the step begins or ends.
 pub fn step_forth(env: &mut Env, accepted: &[AcceptedStep], index: usize)
     requires known { index < length accepted.now }
     requires few { length accepted.now ≤ max_steps }

@@ -99,9 +99,9 @@ pub fn cuts_of_start_stay()
     ensures { CutsOfStartStay }
 {}
 
-/// The most that a step writes (`Nemesis::apply`) is what its own faults take, whatever else is
-/// active: a begin or a withdrawal what its fault takes, a withdrawal of all the sum, an undo what
-/// its step takes, a redo what its undo takes, and a refused step nothing.
+/// How often a step writes at most (`Nemesis::apply`) is the size of its own faults, whatever else is
+/// active: of a begin or a withdrawal the size of its fault, of a withdrawal of all the sum of all sizes,
+/// of an undo as often as its step, of a redo as often as its undo, and of a refused step not at all.
 pub fn steps_write_their_faults()
     ensures refused { RefusedWritesNothing }
     ensures begin { BeginWritesItsFault }

@@ -356,9 +356,9 @@ impl Nemesis {
     }
 
     /// Takes a step, and answers it; a refused step changes nothing. The fault of a begin must fit
-    /// the environment, as `Fault::fits` tests. An accepted step writes no more than those faults
-    /// take which it begins or ends (`steps_write_their_faults`), and takes time for their links
-    /// and nodes, and for the stamps of the active faults, at most `MAX_ACTIVE`.
+    /// the environment, as `Fault::fits` tests. An accepted step writes no more often than the sizes of
+    /// the faults that it begins or ends say (`steps_write_their_faults`). It takes time for the links and
+    /// nodes of these faults, and for the stamps of the active faults, at most `MAX_ACTIVE`.
     ///
     /// Error: memory was refused to a step that would be accepted. Then nothing has changed. A step
     /// back or forth takes no memory.
@@ -434,7 +434,7 @@ impl Nemesis {
     /// Withdraws the active fault of an id. What other faults or the start make of the environment
     /// stays.
     ///
-    /// Errors, which change nothing: `NotActive`; `TooManySteps` where 4,096 steps lie in the past;
+    /// Errors, which change nothing: `NotActive`; `TooManySteps` where `MAX_STEPS` steps lie in the past;
     /// `OutOfMemory`.
     pub fn withdraw(&mut self, id: u32) -> Result<(), WithdrawError>
         ensures answer { MatchResult result
@@ -453,7 +453,7 @@ impl Nemesis {
 
     /// Withdraws all active faults: the environment is its start again, whatever that was.
     ///
-    /// Errors, which change nothing: `NothingActive`; `TooManySteps` where 4,096 steps lie in the
+    /// Errors, which change nothing: `NothingActive`; `TooManySteps` where `MAX_STEPS` steps lie in the
     /// past; `OutOfMemory`.
     pub fn withdraw_all(&mut self) -> Result<(), WithdrawAllError>
         ensures answer { MatchResult result

@@ -1,5 +1,5 @@
-//! Settings whose values are choices, numbers and truth values. `specs/Parsed.antt` says what each
-//! means.
+//! Settings whose values are choices, and what a register holds at first. `specs/Parsed.antt` says what
+//! each means.
 
 ghost use Rattle.std.specs.Prelude.{◌≡◌};
 ghost use Rattle.toml.specs.View.{table_view};

@@ -18,8 +18,8 @@ use std::alloc::{AllocError, Global};
 use std::marker::Model;
 use thiserror::Error;
 
-/// The most rows of the log of a run on threads: as many as a log of `jh_slots` may have, which so
-/// refuses none of a plan for its size.
+/// The most rows of the log of a run on threads. A log of `jh_slots` may have as many, so it refuses no
+/// number of rows that a plan has.
 pub const MAX_ROWS: u32 = 65_536;
 
 /// What a run does: on which environment and store, by how many clients, which calls, which steps

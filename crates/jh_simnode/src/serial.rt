@@ -99,9 +99,9 @@ fn run_turns(alloc: Global, plan: &Plan, world: &mut World) -> Result<(), RunErr
 ///
 /// Takes time for each call and step, and for the size of the generator.
 ///
-/// Errors: `Stuck` where in one round no thread got a call; `OutOfMemory`, or `World` with the
-/// same. A run never fills its world: it has at most two events for each call, and one for each
-/// entry of its schedule.
+/// Errors: `Stuck` where in one round no thread got a call; `OutOfMemory`, or `World` with
+/// `WorldError::OutOfMemory`. A run never fills its world: it has at most two events for each call, and
+/// one for each entry of its schedule.
 pub fn run_serial(alloc: Global, plan: &Plan) -> Result<(World, Vec<Op>), RunError>
     ensures judged { MatchResult result
         (λ run. (run.0.setup ≡ setup_of plan.now)

@@ -28,14 +28,17 @@ use std::alloc::Global;
 pub(crate) struct Run {
     driver: Driver,
     random_numbers: Lcg128Xsl64,
-    /// How many calls of each client thread were answered, and of all.
+    /// How many calls of each client thread were answered.
     calls: Vec<u32>,
+    /// How many calls of all client threads were answered.
     answered: u32,
     /// How many entries of the schedule were applied.
     applied: usize,
+    /// How many times a client thread was asked.
     asks: u64,
     /// How many of the last asks got nothing.
     pub(crate) waits: u32,
+    /// Whether the calls have ended: the generator is spent.
     pub(crate) has_ended: bool,
 }
 
@@ -76,7 +79,7 @@ pub fn ticks_at(plan: &Plan, calls: u32) -> bool
     plan.tick_every() != 0 && calls % plan.tick_every() == 0
 }
 
-/// The node that a thread calls.
+/// The node that the client thread of this number, from 0, calls.
 pub fn node_of(plan: &Plan, thread: u32) -> Node
     ensures node { result ≡ thread % length plan.now.env.names }
     ensures within { result < length plan.now.env.names }

@@ -116,9 +116,9 @@ fn step_of_keyword(name: &str) -> Result<Step, StepTextError>
 /// they are listed, or `[:ring SEED]`, which shuffles them first, for one seed always alike, and
 /// leaves none out. `named_faults_are_grudges` ties these to their grudges.
 ///
-/// Errors: `BadStep` where the value has none of these shapes, its fault's looked at too; `BadId`;
-/// then over the whole fault `UnknownNode`, `SelfLink`, `BadAmount` also where a node is bumped
-/// twice or the seed is below zero; `OutOfMemory`.
+/// Errors, in this order: `BadStep` where the value, or the fault in it, has none of these shapes;
+/// `BadId`; then over the whole fault `UnknownNode`, `SelfLink`, `BadAmount` also where a node is
+/// bumped twice or the seed is below zero; `OutOfMemory`.
 pub fn step_of_value(alloc: Global, nodes: &Nodes, value: &Value) -> Result<Step, StepTextError>
     ensures parsed { IsParsedAs result (parsed_step nodes.now (view value.now)) }
     ensures ring { IfOk result (λ _. IsRingOverAll (length nodes.now)

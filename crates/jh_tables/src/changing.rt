@@ -69,7 +69,8 @@ fn node_changed(change: Change, fault: NodeFault, tally: &NodeTally) -> NodeCoun
     }
 }
 
-/// The sum of a node whose clock the fault moves, changed.
+/// The sum of a node whose clock the fault moves, changed. A sum within 2^62 has room for one more bump
+/// in 64 bits.
 fn clock_changed(change: Change, ms: i64, tally: &NodeTally) -> NodeCount
     requires amount { IsBumpAmount ms }
     requires room { IsWithin (2 ^ 62) tally.now.bumped_ms }
@@ -120,7 +121,8 @@ fn change_nodes(counted: &mut Counted, change: Change, fault: NodeFault, nodes: 
     }
 }
 
-/// Changes the clock of each of these nodes, each of which stands once.
+/// Changes the clock of each of these nodes, each of which stands once. The bound of 2^61 is far above
+/// what `MAX_LAID` bumps can sum to, so it always holds.
 fn change_clocks(counted: &mut Counted, change: Change, bumps: &[(Node, i64)])
     requires known { All (λ b. b.0 < length counted.old.nodes) bumps.now }
     requires right { AreBumps bumps.now }

@@ -1,6 +1,6 @@
 //! Faults as plain data. `specs/Plain.antt` says which fault each is, `specs/Faults.antt` what
 //! holds of a right one, and `specs/Overlay.antt` what it does. A new kind of fault is a case of
-//! each, and of `tables.rt`.
+//! each, of `counted.rt` where a count or a sum is kept of it, and of `changing.rt`.
 
 use crate::nodes::Node;
 

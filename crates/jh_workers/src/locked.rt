@@ -252,7 +252,7 @@ impl<L: Ledger> LockedWorld<L> {
     }
 
     /// Gives the world back for all shares that were handed out: their counts sum to the length of
-    /// its journal. `None` where one of them is missing, which none is where all `PARTS` come back.
+    /// its journal. `None` where one of them is missing. Where `PARTS` shares come back, none is missing.
     pub fn settle(self, shares: Vec<WorldShare<L>>) -> Option<World>
         requires { L.parts ≡ world_parts }
         ensures counted { IfSome result

@@ -23,6 +23,7 @@ pub trait OfLog {
     ghost table: { TableId };
 }
 
+// A call that passes `Brand` picks the table of its own log in place of this one.
 impl OfLog for Brand {
     ghost use Rattle.jh_workers.specs.TablesInside.{no_table};
 

@@ -65,8 +65,9 @@ fn integers_written(request: Request, reply: &Reply) -> usize
     }
 }
 
-/// How many rows the completion of a request takes. A row has five words, and a record has three
-/// words before its integers.
+/// How many rows the completion of a request takes. A row has `ROW_WORDS` words, and a record has three
+/// words before its integers. A claim has at most `MAX_CLAIMED` rows, which are 1,275 words: for a longer
+/// record that many rows are claimed, and it is refused when it is written.
 fn rows_written(request: Request, reply: &Reply) -> u32
     ensures within { (1 ≤ result) × (result ≤ max_claimed) }
     ensures enough { min (3 + records.integers_written request reply.now) 1275 ≤ 5 * result }
