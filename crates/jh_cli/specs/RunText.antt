@@ -20,23 +20,23 @@ use Rattle.jh_laws.specs.HistoryLines.{IsTextOfHistory}
 use Rattle.jh_ops.specs.HistoryWritten.{history_lines}
 use Rattle.jh_reports.specs.Reports.{IsReport, verdict_status}
 
--- The lines of a history, which are a text of it, of what the faults of a state make, and of what is
--- found, with the exit status.
+-- An output of a run: the lines of its history, which are a text of it, those of the faults of a state
+-- and of the environment that they make, and the line of what is found; with the exit status.
 abbrev pub IsRunOutput : State → List Operation → Finding → ℕ → List ℕ → Type 0
 IsRunOutput last history finding status output =
     IsReport last history (line (finding_line finding)) output
     × IsTextOfHistory (history_lines history) history
     × (status ≡ verdict_status (finding_verdict finding))
 
--- for a plan that is run serially
+-- what is written for a plan that is run serially, by a judge of this budget
 abbrev pub IsSerialText : PlanValue → ℕ → ℕ → List ℕ → Type 0
 IsSerialText p budget status output =
     (journal : List Event) × (history : List Operation) × (finding : Finding)
     × IsJudgedRun p budget journal history finding
     × IsRunOutput (state_at (setup_of p) journal) history finding status output
 
--- For a plan that is run on threads. The faults are those that the journal's steps lead to from the
--- start of the plan on.
+-- What is written for a plan that is run on threads. The faults are those that the journal's steps lead
+-- to from the start of the plan on.
 abbrev pub IsThreadsText : PlanValue → ℕ → ℕ → List ℕ → Type 0
 IsThreadsText p budget status output =
     (journal : List Event) × (history : List Operation) × (finding : Finding)
@@ -44,12 +44,13 @@ IsThreadsText p budget status output =
     × IsFinding (run_judging p budget) history finding
     × IsRunOutput (state_at (setup_of p) journal) history finding status output
 
--- for a plan that is run in this mode
+-- what is written for a plan that is run in this mode
 abbrev pub IsRunText : PlanValue → Mode → ℕ → ℕ → List ℕ → Type 0
 IsRunText p Mode.Serial budget status output = IsSerialText p budget status output
 IsRunText p Mode.Threads budget status output = IsThreadsText p budget status output
 
--- for an input, with the exit status: the plan, the mode and the budget are those that it means
+-- What is written for an input, with the exit status. The plan, the mode and the budget are those that
+-- the input means.
 abbrev pub IsRunTextOf : List ℕ → ℕ → List ℕ → Type 0
 IsRunTextOf input status output =
     (p : PlanValue) × (mode : Mode) × (budget : ℕ) × AreSettingsOf input p mode budget

@@ -41,7 +41,7 @@ links_itself (OfNode node says) = false
 abbrev pub is_within : ℤ → ℤ → ℤ → Bool
 is_within least most z = int_le least z && int_le z most
 
--- a link's change is in its range: a delay of 0 or more milliseconds, a level of loss of 0 or more
+-- a link's change is in its range: from 0 to the greatest delay or level of loss at the start
 abbrev pub is_link_change_amount : LinkChange → Bool
 is_link_change_amount LinkChange.Cut = true
 is_link_change_amount (LinkChange.Delay ms) = is_within (pos 0) (pos max_start_delay_ms) ms

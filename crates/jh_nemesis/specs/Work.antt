@@ -11,7 +11,7 @@ pub record NemesisValue : Type 0 where
   pub state : State
   pub work : ℕ
 
--- the most cells and entries that these faults may take
+-- the sizes of these faults together
 abbrev pub size_of_all : Active → ℕ
 size_of_all active = sum_by (λ f. fault_size f.1) active
 
@@ -19,17 +19,17 @@ size_of_all active = sum_by (λ f. fault_size f.1) active
 abbrev pub faults_only_in : Active → Active → Active
 faults_only_in active other = filter (λ f. not (is_active other f.0)) active
 
--- the most that may be written between two moments: what the faults take that are active at one of
--- them alone
+-- how often may be written between two moments, at most: the sizes of the faults that are active at
+-- one of them alone
 abbrev pub size_between : Active → Active → ℕ
 size_between before after =
     size_of_all (faults_only_in before after) + size_of_all (faults_only_in after before)
 
--- the most that a step may write
+-- how often a step may write, at most
 abbrev pub size_of_step : State → Step → ℕ
 size_of_step s step = size_between s.active (state_after s step).active
 
--- the most that steps may write, one after another
+-- how often steps may write, at most, one after another
 abbrev pub size_of_steps : State → List Step → ℕ
 size_of_steps s [] = 0
 size_of_steps s (step ∷ steps) = size_of_step s step + size_of_steps (state_after s step) steps

@@ -1,4 +1,5 @@
--- What each step may write (this project's own): what its own faults take, whatever else is active.
+-- How often each step may write, at most (this project's own): the sizes of its own faults, whatever
+-- else is active.
 use Rattle.std.specs.Prelude.{◌≡◌, ℕ, true, false, ◌∷◌, ◌++◌}
 use Rattle.jh_env.specs.Faults.{FaultValue, fault_size}
 use Rattle.jh_nemesis.specs.Laws.{StepsReach, is_change}
@@ -14,7 +15,7 @@ abbrev pub RefusedWritesNothing : Type 0
 RefusedWritesNothing =
     (s : State) (step : Step) → is_ok (answer_of s step) ≡ false → size_of_step s step ≡ 0
 
--- a begin writes what its fault takes
+-- a begin writes as often as the size of its fault says
 abbrev pub BeginWritesItsFault : Type 0
 BeginWritesItsFault =
     (s : State) (id : ℕ) (f : FaultValue) → is_ok (answer_of s (Begin id f)) ≡ true
@@ -27,19 +28,19 @@ WithdrawalWritesItsFault =
     → StepsReach s → s.active ≡ before ++ ((id, f) ∷ after)
     → is_ok (answer_of s (Withdraw id)) ≡ true → size_of_step s (Withdraw id) ≡ fault_size f
 
--- a withdrawal of all writes what they take together
+-- a withdrawal of all writes as often as the sizes of all faults say together
 abbrev pub WithdrawingAllWritesAll : Type 0
 WithdrawingAllWritesAll =
     (s : State) → is_ok (answer_of s WithdrawAll) ≡ true
     → size_of_step s WithdrawAll ≡ size_of_all s.active
 
--- an undo writes what its step takes
+-- an undo writes as often as its step
 abbrev pub UndoWritesItsStep : Type 0
 UndoWritesItsStep =
     (s : State) (step : Step) → is_change step ≡ true → is_ok (answer_of s step) ≡ true
     → size_of_step (state_after s step) Undo ≡ size_of_step s step
 
--- a redo after an undo writes what the undo takes, and an undo after a redo what the redo takes
+-- a redo after an undo writes as often as the undo, and an undo after a redo as often as the redo
 abbrev pub RedoWritesItsUndo : Type 0
 RedoWritesItsUndo =
     (s : State) → is_ok (answer_of s Undo) ≡ true

@@ -65,7 +65,7 @@ is_reached env draw node other =
 abbrev pub max_answer_ms : ℕ
 max_answer_ms = 1000
 
--- it comes back in time
+-- the answer of a node that was reached comes back in time
 abbrev pub is_timely : EnvCells → ℕ → ℕ → Bool
 is_timely env node other =
     (other == node)

@@ -108,7 +108,7 @@ abbrev pub fix_value : FaultValue → Option FixValue
 fix_value (Fix ms links) = Some (ms, links)
 fix_value _ = None
 
--- the most cells that the fault may take: one for each link or node that it names, and for a fix
--- one more
+-- the size of the fault, which bounds how often it makes the tables write: one for each link or node
+-- that it names, and for a fix one more
 abbrev pub fault_size : FaultValue → ℕ
 fault_size fault = named_count fault + (if is_some (fix_value fault) then 1 else 0)

@@ -16,7 +16,8 @@ abbrev pub cuts : ℕ → ℕ → FaultValue → Bool
 cuts a b (Cut links) = names_link links a b
 cuts a b _ = false
 
--- the delay of the link from a to b that was this one, where the fault may fix another
+-- the delay of the link from a to b after the fault, but for what it adds: the delay that the fault
+-- fixes, or else this one, which it was before
 abbrev pub delay_after_fault : ℕ → ℕ → ℕ → FaultValue → ℕ
 delay_after_fault a b delay (Fix ms links) = if names_link links a b then ms else delay
 delay_after_fault a b delay _ = delay

@@ -1,4 +1,5 @@
--- What stands for a log's table where none was picked (this project's own).
+-- What stands for a log's table in the code; a call that passes `Brand` picks that of its log (this
+-- project's own).
 use Rattle.std.specs.Prelude.{[]}
 use Rattle.atomic_table.specs.Seated.{TableId}
 
