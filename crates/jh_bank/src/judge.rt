@@ -166,7 +166,7 @@ fn judged(alloc: Global, bank: &Bank, history: &[Op]) -> Result<BankResult, Allo
 ///
 /// Operations of the nemesis are left out, and operations are not paired. A read that is `:ok` has the
 /// first error that applies: a key that is none of the accounts, a balance that is nil, a sum that is not
-/// the bank's total, a balance below 0 where none may be. An account that it does not show is none. Keys
+/// the bank's total, a balance below 0 where none may be. It is no error that it does not show an account. Keys
 /// are equal as EDN says, and sums are exact, also beyond 64 bits.
 ///
 /// Errors: `BadValue` with the place of the first `:ok` read whose value is no map, or has a balance

@@ -34,8 +34,8 @@ pub struct Judging<'a> {
     pub initial: Option<i64>,
     /// How many configurations the judge of a register or a mutex may reach.
     pub budget: u64,
-    /// Whether what is no yes of a register, of a mutex, of transactions or of a first-in-first-out queue is
-    /// explained.
+    /// Whether it is explained why a register, a mutex or transactions are not valid, or why a
+    /// first-in-first-out queue is not valid or unknown.
     pub explain: bool,
     /// The consistency model that transactions are judged by, and strict serializability where it is missing.
     pub model: Option<ConsistencyModel>,

@@ -27,7 +27,7 @@ pub(crate) fn verdict_of_register(judged: &LinVerdict) -> Verdict
     }
 }
 
-/// The same error of another crate.
+/// The error of a checker for one of `jh_linear`.
 fn error_of(error: RegOpsError) -> CheckError
     ensures { result ≡ inside.error_of error }
 {

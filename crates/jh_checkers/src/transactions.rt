@@ -15,7 +15,7 @@ use jh_txn_check::find_transactions;
 use jh_txn_histories::TxnError;
 use std::alloc::Global;
 
-/// The same error of another crate.
+/// The error of a checker for one of `jh_txn_histories`.
 fn error_of(error: TxnError) -> CheckError
     ensures { result ≡ inside.error_of_reading error }
 {

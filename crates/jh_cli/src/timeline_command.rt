@@ -1,5 +1,5 @@
-//! The command `timeline`: reads a history, or all that `run` printed, and writes a page that shows
-//! it. What is written stands in `specs/TimelineText.antt`, why an input is refused in
+//! The command `timeline`: reads a history, or all that `run` or `drive` printed, and writes a page that
+//! shows it. What is written stands in `specs/TimelineText.antt`, why an input is refused in
 //! `specs/TimelineRefusals.antt`.
 
 ghost use Rattle.std.specs.Prelude.{◌≡◌, ◌≢◌, ◌↔◌, All, IfErr, IfOk, IsErrOf, IsTrue};
@@ -59,13 +59,13 @@ struct Shown {
     sections: Vec<Section>,
 }
 
-/// Reads a history as `jh_histories::read_history_and_below` does, or all that `run` printed,
+/// Reads a history as `jh_histories::read_history_and_below` does, also out of what `run` or `drive` printed,
 /// without its unread keys where that is asked for, judges it by the checker of the workload, if
 /// there is one, and writes a page in HTML that shows the
 /// history: what was found in one sentence on top, as `jh_timeline_sections::title_of` says it,
 /// with the line of the checker folded below, and a notice where the input says another verdict;
-/// the history as `jh_timeline_sections::section_of` shows it; and below it what `run` printed
-/// behind the history. Where its keys are independent, each is judged by itself, one after another,
+/// the history as `jh_timeline_sections::section_of` shows it; and below it what was
+/// printed behind the history. Where its keys are independent, each is judged by itself, one after another,
 /// sentence and line are those on all keys, and each has the section that
 /// `jh_timeline_sections::sections_of_keys` makes. The answer is the exit status: 0 where the
 /// history is valid or not judged, 1 where it is not valid, 2 where that is not known. All is read

@@ -79,9 +79,10 @@ fn judge_fit(
 ///
 /// Operations are given in any order, and numbered by their places in the list. Each value is to
 /// be enqueued by one of them at most, and of each dequeue it is to be known that it happened: else
-/// the verdict names two that enqueue one value, or one of which that is not known.
+/// the verdict names two operations that enqueue one value (`Repeated`), or a dequeue that is not known
+/// to have happened (`Unsure`).
 ///
-/// Errors: where there is no memory.
+/// Errors: out of memory.
 ///
 /// Takes time in the order of n log n for n operations, and memory linear in them.
 pub fn judge_fifo(alloc: Global, ops: &[FifoOp]) -> Result<FifoVerdict, AllocError>

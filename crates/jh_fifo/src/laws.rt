@@ -1,4 +1,4 @@
-//! Laws.
+//! Laws of the definitions, the clauses of functions that do nothing.
 
 ghost use Rattle.std.specs.Prelude.{◌≡◌, ◌<◌, ◌⊎◌, ℕ, List, [], true};
 ghost use Rattle.jh_fifo.specs.declared.operations.FifoCall.TheVariants.{Empty};

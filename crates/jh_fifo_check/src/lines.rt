@@ -43,7 +43,7 @@ fn write_order<W: Write>(order: &[usize], writer: &mut W) -> Result<(), EdnError
     put(b"}", writer)
 }
 
-/// Writes the opening of a line that is no yes: why, and which operations are named.
+/// Writes the opening of a line whose verdict is not `true`: why, and which operations are named.
 fn write_named<W: Write>(
     verdict: Verdict,
     because: &str,
@@ -95,7 +95,7 @@ fn write_explained<W: Write>(
     put(b"}", writer)
 }
 
-/// Writes a line that is no yes, with operations if there are any.
+/// Writes a line whose verdict is not `true`, with operations if there are any.
 fn write_why<W: Write>(
     verdict: Verdict,
     because: &str,
@@ -139,8 +139,8 @@ fn write_reason<W: Write>(
     }
 }
 
-/// Writes the one line of a finding, without a line feed: `{:valid? true, :order [0 1]}`, or where it is
-/// no yes `{:valid? false, :because :out-of-order, :named [0 2]}`, with the numbers of the operations that
+/// Writes the one line of a finding, without a line feed: `{:valid? true, :order [0 1]}`, or else
+/// `{:valid? false, :because :out-of-order, :named [0 2]}`, with the numbers of the operations that
 /// are named. `:valid?` is `:unknown` where a value is enqueued twice (`:enqueued-twice`), or where it is
 /// not known what a dequeue did (`:unknown-dequeue`). Behind `:named` stands `:operations [{..} ..]`, if
 /// the finding has operations.

@@ -89,7 +89,7 @@ fn is_of_bytes(error: ReadHistoryError) -> bool
     )
 }
 
-/// The parts of a text that is no history as a whole, for this reason.
+/// The parts of a text that as a whole is no history; `whole` says why it is none.
 fn history_before(
     alloc: Global,
     text: &str,
@@ -111,8 +111,8 @@ fn history_before(
     Ok(HistoryAndBelow { history, below })
 }
 
-/// The history that a text means, and what is below it. Where the whole text is a history, nothing
-/// is. Else, if there is a line that begins with `:active`, as the first of those that `jeprun run`
+/// The history that a text means, and what is below it. Where the whole text is a history, nothing is
+/// below it. Else, if there is a line that begins with `:active`, as the first of those that `jeprun run`
 /// and `jeprun drive` print behind a history, that line and all behind it is below, and what stands
 /// before the first such line is the history: of that, what stands behind the first line `:end`, where
 /// there is one, for `drive` prints the conversation before it.
@@ -128,6 +128,7 @@ pub fn history_and_below(alloc: Global, text: &str) -> Result<HistoryAndBelow, R
         All (λ op. IsWritable op.process) parts.history.items) }
     ensures refused { IfErr result (RefusesHistoryAndBelow text.now) }
 {
+    // This call does nothing: the proof cites its clause.
     spelled_once();
     match history_in(alloc, text) {
         Ok(history) => Ok(HistoryAndBelow {

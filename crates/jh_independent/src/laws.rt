@@ -14,10 +14,10 @@ ghost use Rattle.jh_independent.specs.declared.serial.KeyFinding.{KeyFinding};
 use jh_checkers::findings_agree;
 
 /// Whatever judges the keys of a history, and on however many threads: for checkers other than those of
-/// a register, a mutex and transactions the line is the same, and no key of a register or a mutex is
-/// valid once and not valid another time. One that is not valid is stuck at one completion, where the
-/// same operations are pending. Of transactions it says nothing but that no finding has a place where it
-/// is stuck.
+/// a register, a mutex, a first-in-first-out queue and transactions the line is the same, and no key of a
+/// register, a mutex or a first-in-first-out queue is valid once and not valid another time. One of a
+/// register or a mutex that is not valid is stuck at one completion, where the same operations are
+/// pending. Of transactions it says nothing but that no finding has a place where it is stuck.
 pub fn key_findings_agree()
     ensures line { (asked : KeysQuestion) (a b : List KeyFinding)
         → IsTrue (has_one_line asked.judging.checker)

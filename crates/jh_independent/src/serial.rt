@@ -28,9 +28,9 @@ pub struct KeyFinding {
 /// Each client's operation has a tuple of a key and a value, a vector or a list of two. What is
 /// equal as EDN says is one key. Its history has its operations in order, with their values without
 /// the key; it is judged by the checker of the workload, with the whole budget. Operations of the
-/// nemesis are left out. The findings stand in the normal order of their keys. Indexes in a finding
-/// (in orders, of what is pending, of transactions) are those of the pairs of the key's own
-/// history.
+/// nemesis are left out. The findings stand in the normal order of their keys. The numbers of
+/// operations in a finding (in orders, of what is pending, of transactions) count the pairs of the
+/// key's own history.
 ///
 /// Errors: `BadValue` at the least place of a client's operation that has no tuple; then, in the
 /// normal order of the keys, `Key` with the error of the first whose history is refused, at the

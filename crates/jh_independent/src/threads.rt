@@ -188,8 +188,8 @@ fn judged<Q: Asking + Send + Sync, G: Gate + Sync, R: Threads + Wait + Sync>(
 /// it. All threads have ended when it returns.
 ///
 /// What is found is what `check_keys_serial` may find, whatever the number of threads: for a register, a
-/// mutex and transactions each finding is what the judge promises, and for all others there is one line
-/// (`key_findings_agree`).
+/// mutex, a first-in-first-out queue and transactions each finding is what the judge promises, and for all
+/// others there is one line (`key_findings_agree`).
 ///
 /// May wait, and promises only if it returns. Where there are fewer keys than threads, fewer
 /// threads are made.

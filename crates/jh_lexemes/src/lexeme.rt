@@ -27,7 +27,7 @@ pub enum Bracket {
 /// What a text is made of.
 #[derive(Clone, Copy, Debug, PartialEq, Eq)]
 pub enum Lexeme {
-    /// A run of white space, with commas.
+    /// White space and commas, as far as they go.
     White,
     /// From a semicolon up to the line feed, without it.
     Comment,
@@ -50,8 +50,8 @@ pub enum Lexeme {
     OpenSet,
     /// A bracket that closes.
     Close(Bracket),
-    /// A run of other bytes: a number, a keyword, a symbol, or what is none of them; also a `#` that
-    /// begins nothing else, with the run behind it.
+    /// Other bytes, as far as they go: a number, a keyword, a symbol, or what is none of them; also a `#`
+    /// that begins nothing else, with such bytes behind it.
     Token,
 }
 

@@ -67,7 +67,7 @@ fn elements_in(values: Vec<Value>) -> Vec<Value>
 /// tags around it, of one operation for each element. No values mean the empty history.
 ///
 /// Errors: `Op`, with the first place from 0 at which `op_of` refuses the value, and why;
-/// `OutOfMemory` at a place where it refuses none up to it.
+/// `OutOfMemory` at a place up to which no value is refused.
 pub fn history_of(alloc: Global, values: Vec<Value>) -> Result<Vec<Op>, HistoryError>
     ensures parsed { MatchResult result
         (λ ops. AreParsed (views values.items) (operations ops.items))

@@ -94,10 +94,10 @@ fn plot_of_pairs(
     })
 }
 
-/// The plot of a history, with a shade for the band of each fault, of which an index outside the history
-/// counts as its end: the latency of each call over time, percentiles of
-/// latencies, and how many calls a second ended, as Jepsen's `checker/perf` draws them. A panel for each function
-/// of clients' calls, of which the eighth has all further ones.
+/// The plot of a history: the latency of each call over time, percentiles of latencies, and how many calls a
+/// second ended, as Jepsen's `checker/perf` draws them. Each function of clients' calls has a panel; the eighth
+/// panel has all further functions. Each band has a shade; an index of a band outside the history counts as the
+/// end of the history.
 ///
 /// Times are nanoseconds. One that goes back counts as the one before it, and one below 0 as 0.
 ///

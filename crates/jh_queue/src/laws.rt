@@ -5,8 +5,8 @@ ghost use Rattle.jh_queue.specs.Queue.{EachFinds, EachTakes, IsFirstWithout, Pas
 ghost use Rattle.jh_queue.specs.Queue.{completed_before, completed_upto};
 
 /// Each dequeue finds an enqueue by the counts exactly where each can take one of its own: of its
-/// value, invoked before it completes, and no two the same one. Those before the first that finds
-/// none can, and together with it they cannot.
+/// value, invoked before it completes, and no two the same one. Where a first dequeue finds none, those
+/// before it can each take one, and those up to it, with it, cannot.
 pub fn each_takes_its_own()
     ensures takes { (ins outs : List Passage) → EachFinds ins outs → EachTakes ins outs }
     ensures finds { (ins outs : List Passage) → EachTakes ins outs → EachFinds ins outs }

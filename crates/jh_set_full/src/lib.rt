@@ -1,4 +1,6 @@
-//! The checker of sets over time.
+//! The checker of sets over time (jepsen.checker, `set-full`): which elements all reads show from some time on
+//! (stable), which they lack from some time on though they were known to be there (lost), and which of the
+//! stable ones a read lacked when they were known (stale).
 #![tactic(auto)]
 
 mod lines;

@@ -65,8 +65,8 @@ fn last_with(index: usize, behind: Option<Ahead>) -> usize
     behind.map_or(index, |ahead| ahead.last)
 }
 
-/// What comes behind a record, once one more record of the process was put right behind it, in front of
-/// those that were known.
+/// What comes behind a record of a process whose next record has this kind and this index; `behind` is what
+/// comes behind that next record.
 fn ahead_with(kind: Kind, index: usize, behind: Option<Ahead>) -> Ahead
     ensures { result ≡ inside.ahead_with kind index behind }
 {

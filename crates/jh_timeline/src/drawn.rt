@@ -141,8 +141,8 @@ fn call_end(call: &Call) -> usize
     call.completion.unwrap_or(call.first)
 }
 
-/// Whether a call is drawn that began before the window, where this says whether it takes effect
-/// behind one that begins there.
+/// Whether a call that began before the window is drawn. `behind` says whether it takes effect behind a
+/// call that begins in the window.
 fn reaches_in(window: Window, history: &[Op], behind: bool, call: &Call) -> bool
     ensures { result ≡ inside.reaches_with window (operations history.now) behind call.now }
 {

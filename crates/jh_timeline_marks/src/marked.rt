@@ -21,13 +21,13 @@ use std::alloc::{AllocError, Global};
 /// The marks that a finding has at calls, in the order of the calls: at most one at each. A mark has
 /// the number of its call among those that are given, from 0.
 ///
-/// A register or a mutex: of a yes each call's place in the order. Of a no the call at whose completion the
-/// history is stuck; else a call that is pending there, where the finding is explained, with its
-/// place in the order of what is before, if it has one; else that place. Where nothing is known of
-/// it there are no marks. Unique ids: a call that gave an id that was given more than once. A
-/// counter: a read outside its bounds, with these. Transactions: of a yes the first place of each in
-/// the order, which of a snapshot order is where it starts; of a no the transaction of the bad read, or
-/// each of the cycle with its step to the next one.
+/// A register or a mutex: where it is valid, each call's place in the order. Where it is not valid, that the
+/// history is stuck at the call's completion; else, where the finding is explained, that the call is pending
+/// there, with its place in the order of what is before, if it has one; else that place. Where the verdict is
+/// unknown, there are no marks. Unique ids: a call that gave an id that was given more than once. A
+/// counter: a read outside its bounds, with these. Transactions: where they are valid, the first place of each
+/// in the order, which of a snapshot order is where it starts; where they are not, the transaction of the bad
+/// read, or each of the cycle with its step to the next one.
 ///
 /// A set: a call that acknowledged what is lost, before the last read that happened; behind it where
 /// nobody acknowledged the element before. So what failed to add it, or may have, has no mark. Else a
@@ -36,8 +36,8 @@ use std::alloc::{AllocError, Global};
 ///
 /// A queue: of `total-queue` a call that put in what is lost, that took out what is unexpected or came out
 /// too often, or that tried to put in what is recovered; of `queue` the first dequeue that comes from no
-/// enqueue; of `fifo-queue` of a yes each call's place in the order, else each operation that the verdict
-/// names. A bank: each read that has an error. A set over time: a call that tried to add what is lost,
+/// enqueue; of `fifo-queue`, where it is valid, each call's place in the order, else each operation that the
+/// verdict names. A bank: each read that has an error. A set over time: a call that tried to add what is lost,
 /// or what was stale, and a read that shows an element twice.
 ///
 /// The calls are those of the history, as `jh_timeline::calls_of` has them. A call is known by where

@@ -135,7 +135,7 @@ fn unjudged_shown_keys(alloc: Global, history: &[Op]) -> Result<Vec<ShownKey>, K
     Ok(shown)
 }
 
-/// Where the section of one stands.
+/// Where the section of a shown key stands: the lower, the earlier.
 fn section_rank(one: &ShownKey) -> u8
     ensures { result ≡ rule.section_rank one.now.found }
 {
@@ -205,7 +205,7 @@ fn heading_of(alloc: Global, one: &ShownKey) -> Result<Vec<u8>, AllocError>
     Ok(heading)
 }
 
-/// The section of one.
+/// The section of a shown key.
 fn section_of_shown(alloc: Global, one: ShownKey, choice: Choice) -> Result<Section, AllocError>
     ensures { IfOk result (IsSectionOfShown choice one) }
 {
@@ -213,7 +213,7 @@ fn section_of_shown(alloc: Global, one: ShownKey, choice: Choice) -> Result<Sect
     section_of(alloc, heading, one.history, &[], one.found.as_ref(), choice)
 }
 
-/// The sections of shown, one behind another.
+/// The sections of shown keys, one behind another.
 fn sections_of_shown(
     alloc: Global,
     shown: Vec<ShownKey>,

@@ -1,5 +1,5 @@
-//! What a page of histories shows: which part of a text is a history, which of its records, the
-//! sections that are made of it, and the title.
+//! What a page of histories shows: which records of a history, the sections that are made of it, the title,
+//! and the verdict that the input says.
 #![tactic(auto)]
 
 mod key_sections;

@@ -53,9 +53,9 @@ fn window_in(choice: Choice, total: usize, calls: &[Call], marks: &[Mark]) -> Wi
 }
 
 /// The section of a history, with what was found in it. The records that are chosen are shown.
-/// Where none are chosen, all are, up to 2,000; of more, 1,000 around the index at which the first
-/// call ends that is marked with anything but a place in an order and that it is pending; where none
-/// is so marked, the first 1,000.
+/// Where none are chosen, all are, up to 2,000; of more, 1,000 around the end of the first call with a
+/// mark that points at something (`jh_timeline_pages::first_pointer`: neither a place in an order nor
+/// that it is pending); where there is no such mark, the first 1,000.
 ///
 /// The steps are those of the schedule of what recorded the history, and none where they are not
 /// known: `jh_bands` says which records of the nemesis need them.

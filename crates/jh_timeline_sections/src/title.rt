@@ -417,7 +417,7 @@ fn some_keys(alloc: Global, count: usize, total: usize) -> Result<Vec<u8>, Alloc
     Ok(format!(in alloc; ": {count} of {keys}")?.into_bytes())
 }
 
-/// How many keys are valid, or of how many that are not, or not known to be.
+/// How many keys there are, where all are valid; else how many of them have the verdict of all.
 fn keys_reason(
     alloc: Global,
     verdict: Verdict,

@@ -7,13 +7,13 @@ ghost use Rattle.jh_timeline.specs.Lanes as lanes;
 use jh_timeline::{Call, Mark, Window};
 use jh_timeline_pages::first_pointer;
 
-/// How many records are shown where none are chosen, and all of them.
+/// The most records that are all shown where none are chosen.
 pub const MAX_SHOWN: usize = 2_000;
 
-/// How many records are shown where there are more.
+/// How many records are shown of more than `MAX_SHOWN`, where none are chosen.
 pub const SHOWN_AROUND: usize = 1_000;
 
-/// How many of them stand before the one that they are around.
+/// How many of these stand before the record that they are around.
 pub const BEFORE: usize = 500;
 
 /// The records that are asked for: those from the index `from` on and before the index `to`.

@@ -1,4 +1,6 @@
-//! Transactions over lists: the orders that explain what they read, and what excludes every order.
+//! Transactions over lists (Kingsbury and Alvaro, "Elle", 2020): the orders that explain what they read, and
+//! what excludes every order: a read that none explains, or a cycle of dependencies (Adya, "Weak consistency",
+//! 1999). The heads of `specs/` name the papers of each definition.
 #![tactic(auto)]
 
 mod anomaly;

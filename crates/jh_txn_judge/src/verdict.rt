@@ -32,10 +32,10 @@ pub enum SerialVerdict {
 }
 
 /// Judges transactions: a serial order, which keeps real time where that is asked for, or what excludes
-/// each one. The transactions are numbered, with keys below `keys` and elements below `elements`; those
-/// that were completed were so behind their invocation.
+/// each one. The transactions are numbered, with keys below `keys` and elements below `elements`; a
+/// completion stands behind its invocation.
 ///
-/// Errors: where there is no memory for what the judge takes down.
+/// Errors: out of memory.
 ///
 /// Takes time linear in the keys, the elements, the micro-operations and what reads saw, and with real
 /// time n log n for n transactions.

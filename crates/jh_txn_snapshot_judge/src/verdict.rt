@@ -42,9 +42,9 @@ pub enum SnapshotVerdict {
 /// Judges transactions: a snapshot order, which keeps real time where that is asked for, or what
 /// excludes each one; or nothing, where a key has two writers that must be there, of which no read tells
 /// the order, and a guess of it fails. The transactions are numbered, with keys below `keys` and
-/// elements below `elements`; those that were completed were so behind their invocation.
+/// elements below `elements`; a completion stands behind its invocation.
 ///
-/// Errors: where there is no memory for what the judge takes down.
+/// Errors: out of memory.
 ///
 /// Takes time linear in the keys, the elements, the micro-operations and what reads saw, and n log n for
 /// n transactions.

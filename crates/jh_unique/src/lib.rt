@@ -1,4 +1,11 @@
-//! A judge of linearizability for registers each of whose values is written once at most.
+//! A linearizability checker for a register each of whose values is written once at most (Gibbons and Korach,
+//! "Testing shared memories", SIAM J. Comput. 26, 1997). Compare-and-set and operations of unknown outcome are
+//! this project's own. Of a register that is none such, `check_register` asks `jh_linear`.
+//!
+//! A cluster is the values to which compare-and-sets lead from one beginning, the initial value or one write;
+//! its operations are those that leave one of these values. In each order they stand together, so clusters are
+//! put in an order, and not single operations. `specs/Unique.antt` has the definitions, `judge.rt` the files in the
+//! order in which they are asked.
 #![tactic(auto)]
 
 mod behind;

@@ -10,7 +10,7 @@ use crate::parts::{Opened, Part};
 use jh_lexemes::Bracket;
 use std::alloc::AllocError;
 
-/// How many brackets and discards may be open at once: as many as the reader of EDN takes.
+/// How many brackets and discards may be open at once: `depth_limit` of `jh_edn`, as the reader takes them.
 const DEPTH_LIMIT: usize = 64;
 
 /// Whether the bracket closes this.

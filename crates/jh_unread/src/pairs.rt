@@ -46,7 +46,7 @@ pub(crate) struct Step {
     pub(crate) is_top: bool,
 }
 
-/// What was found in both.
+/// What was found in both: `Faulty` over `Refused` over `Nothing`.
 fn worse(found: Found, other: Found) -> Found
     ensures { result ≡ pairs.worse found other }
 {

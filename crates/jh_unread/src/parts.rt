@@ -15,7 +15,7 @@ pub(crate) enum Found {
     Nothing,
     /// A token that can't be read.
     Refused,
-    /// A character that can't be read, which is no reason to leave its pair out.
+    /// A character that can't be read: its pair stays, and the reader refuses it.
     Faulty,
 }
 
