@@ -39,9 +39,9 @@ use Rattle.jh_arguments.specs.Palettes.{palette_named}
 use Rattle.jh_checkers.specs.Checkers.{checker_name}
 use Rattle.jh_checkers.specs.declared.finding.Judging.{Judging}
 
--- The ranges here are those of the numbers that a command has. Within which `clap` takes the text
--- of an option stands in Line.antt, by limits of the same names, and that of a budget there alone;
--- by clause `asked` of `parse`, arguments which `clap` takes ask for a command with such numbers.
+-- The ranges here are those of the numbers that a command has. The ranges within which `clap` takes the
+-- text of an option stand in Line.antt, by limits of the same names; that of a budget stands there alone.
+-- By clause `asked` of `parse`, arguments which `clap` takes ask for a command with such numbers.
 
 -- the text writes a number of `i64`
 abbrev pub WritesSigned : Text → Type 0

@@ -187,7 +187,7 @@ bad_read_place history = option_map (λ read. read.0) (slice_get (bad_reads hist
 abbrev pub IsBankHistory : List Operation → Type 0
 IsBankHistory history = bad_read_place history ≡ None
 
--- Why there is no result: a read shows no balances. Memory is wanted only where each shows some.
+-- Why there is no result: a read shows no balances. Memory can run out only where each shows some.
 abbrev pub RefusesBank : List Operation → CheckError → Type 0
 RefusesBank history (Pair error) = ⊥
 RefusesBank history (BadValue place) = bad_read_place history ≡ Some place

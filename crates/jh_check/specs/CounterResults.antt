@@ -171,8 +171,8 @@ abbrev pub error_of_pairing : PairError → CheckError
 error_of_pairing pair_errors.OutOfMemory = OutOfMemory
 error_of_pairing error = check_errors.Pair error
 
--- Why there is no result: first for its pairs, then for the first bad value. Memory is wanted where
--- neither is at error, or for the pairs.
+-- Why there is no result: first for its pairs, then for the first bad value. Memory can run out
+-- for the pairs, or where neither is wrong.
 abbrev pub RefusesCounter : List Operation → CheckError → Type 0
 RefusesCounter history (check_errors.Pair error) =
     (error_of_pairing error ≡ check_errors.Pair error) × RefusesPairing history error

@@ -79,8 +79,8 @@ set_result history = result_with history (elements_read history)
 abbrev pub IsJudgeable : List Operation → Type 0
 IsJudgeable history = IfSome (final_read history) (λ read. IsSome (elements_shown read.1.value))
 
--- Why there is no result: the last read shows no elements. Memory is wanted only where it shows
--- some.
+-- Why there is no result: the last read shows no elements. Memory can run out only where it
+-- shows some.
 abbrev pub RefusesSet : List Operation → CheckError → Type 0
 RefusesSet history (Pair error) = ⊥
 RefusesSet history (BadValue place) =

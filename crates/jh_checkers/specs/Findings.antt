@@ -203,7 +203,7 @@ stuck_point_of finding = None
 -- ---- refusals
 
 -- A history of a register or a mutex is refused for its pairs, then for the bad value at the least
--- place. Memory is wanted for the pairs, or where neither is at error.
+-- place. Memory can run out for the pairs, or where neither is wrong.
 abbrev pub RefusesObject : Object → List Operation → CheckError → Type 0
 RefusesObject object history (Pair error) =
     (error_of_pairing error ≡ Pair error) × RefusesPairing history error
@@ -229,8 +229,8 @@ RefusesListAppend history (RepeatedAppend place) =
     × RefusesTransactions history (history_pairs history) (transactions.RepeatedAppend place)
 RefusesListAppend history OutOfMemory = Unit {0}
 
--- A history of a bank is refused for the first read that shows no balances. Memory is wanted for the
--- accounts, too.
+-- A history of a bank is refused for the first read that shows no balances. Memory can run out for
+-- the accounts, too.
 abbrev pub RefusesAccounts : List Operation → CheckError → Type 0
 RefusesAccounts history OutOfMemory = Unit {0}
 RefusesAccounts history error = RefusesBank history error

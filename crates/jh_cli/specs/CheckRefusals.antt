@@ -32,17 +32,18 @@ RefusesByKeys judging threads history e =
     (error : KeysError) × RefusesKeys (keys_question judging history) error
     × (error ≡ KeysErrors.Thread → threads ≢ 1) × (e ≡ keys_error error)
 
+-- the same, by keys or as one
 abbrev pub RefusesBy : Bool → CheckQuestion → List Operation → CliError → Type 0
 RefusesBy true question history e = RefusesByKeys question.judging question.threads history e
 RefusesBy false question history e = RefusesWhole question.judging.checker history e
 
--- why a history is not judged; memory may run out in any
+-- why a history is not judged; memory may run out with any
 abbrev pub RefusesJudging : CheckQuestion → List Operation → CliError → Type 0
 RefusesJudging question history OutOfMemory = Unit {0}
 RefusesJudging question history e =
     RefusesBy question.independent question history e
 
--- Why an input is refused, where for its text then for its first error. A failed read and out of
+-- Why an input is refused: where its text is wrong, for the first error in it. A failed read and out of
 -- memory may come with any input; a failed write comes only where there is something to write.
 abbrev pub RefusesCheck : CheckQuestion → List ℕ → CliError → Type 0
 RefusesCheck question input (Misplaced option) =

@@ -22,7 +22,7 @@ abbrev pub RefusesPlotting : List Operation → CliError → Type 0
 RefusesPlotting history OutOfMemory = Unit {0}
 RefusesPlotting history e = IsUnplottable history e
 
--- Why an input is refused, where for its text then for its first error. A failed read and out of
+-- Why an input is refused: where its text is wrong, for the first error in it. A failed read and out of
 -- memory may come with any input; a failed write comes only where there is something to write.
 abbrev pub RefusesPlot : Bool → List ℕ → CliError → Type 0
 RefusesPlot skips_unread input (Input error) =

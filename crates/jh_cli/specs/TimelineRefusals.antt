@@ -40,7 +40,7 @@ RefusesFinding true (Some judging) history e = RefusesKeysBy judging history e
 RefusesFinding false None history e = ⊥
 RefusesFinding false (Some judging) history e = RefusesWhole judging.checker history e
 
--- the same, where memory may run out at any
+-- the same; memory may run out with any
 abbrev pub RefusesShowing : Bool → Option Judging → List Operation → CliError → Type 0
 RefusesShowing independent judging history OutOfMemory = Unit {0}
 RefusesShowing independent judging history e = RefusesFinding independent judging history e
@@ -49,7 +49,7 @@ RefusesShowing independent judging history e = RefusesFinding independent judgin
 abbrev pub RefusesPage : TimelineQuestion → List Operation → CliError → Type 0
 RefusesPage question history e = RefusesShowing question.independent question.judging history e
 
--- Why an input is refused, where for its text then as its parts are. A failed read and out of
+-- Why an input is refused: where its text is wrong, for the first error in it. A failed read and out of
 -- memory may come with any input; a failed write comes only where there is something to write.
 abbrev pub RefusesTimeline : TimelineQuestion → List Edn → List ℕ → CliError → Type 0
 RefusesTimeline question steps input (Misplaced option) =

@@ -112,8 +112,8 @@ IsPage question steps history below status output =
     × (top.notice.items ≡ notice_of question.judging status (said_verdict below))
     × (output ≡ page_text top sections below)
 
--- for an input, with the exit status: the page of the history in it, which these steps of a schedule name,
--- with what else it has below
+-- for an input, with the exit status: the page of the history in it, whose records of the nemesis are named
+-- by these steps of a schedule, and below it what else the input has
 abbrev pub IsTimelineTextOf : TimelineQuestion → List Edn → List ℕ → ℕ → List ℕ → Type 0
 IsTimelineTextOf question steps input status output =
     (history : List Operation) × (below : List ℕ) × IsHistoryInput question.skips_unread input history below

@@ -129,8 +129,8 @@ abbrev pub IsFifoHistory : List Operation → Type 0
 IsFifoHistory history =
     IsWellFormed history × (first_bad_call history (history_pairs history) ≡ None)
 
--- Why a history is not judged: first for its pairs, then for the first bad call. Memory is wanted where
--- neither is at error, or for the pairs.
+-- Why a history is not judged: first for its pairs, then for the first bad call. Memory can run
+-- out for the pairs, or where neither is wrong.
 abbrev pub RefusesFifo : List Operation → CheckError → Type 0
 RefusesFifo history (check_errors.Pair error) =
     (error_of_pairing error ≡ check_errors.Pair error) × RefusesPairing history error

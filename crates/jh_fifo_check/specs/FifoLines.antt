@@ -25,7 +25,7 @@ reason_name (TooSoon dequeue enqueue) = codes "dequeued-before-enqueued"
 reason_name (Crossed first second) = codes "out-of-order"
 reason_name (NeverEmpty number) = codes "never-empty"
 
--- why a verdict is no yes
+-- why a verdict is not `true`
 abbrev pub because_of : FifoVerdict → List ℕ
 because_of (Valid order) = []
 because_of (Invalid reason) = reason_name reason
@@ -37,13 +37,13 @@ abbrev pub operations_shown : List Op → List (Edn × Edn)
 operations_shown [] = []
 operations_shown (op ∷ ops) = (keyword (codes "operations"), operations_value (op ∷ ops)) ∷ []
 
--- behind the verdict of what is no yes: why, and which operations are named
+-- behind a verdict that is not `true`: why, and which operations are named
 abbrev pub why_pairs : List ℕ → List ℕ → List Op → List (Edn × Edn)
 why_pairs because named ops =
     (keyword (codes "because"), keyword because) ∷ (keyword (codes "named"), numbers_value named)
     ∷ operations_shown ops
 
--- behind the verdict: of a yes the order, else why it is none
+-- behind the verdict: the order, or why there is none or none is sought
 abbrev pub pairs_found : FifoVerdict → List Op → List (Edn × Edn)
 pairs_found (Valid order) ops = (keyword (codes "order"), numbers_value order.items) ∷ []
 pairs_found verdict ops = why_pairs (because_of verdict) (named_by_verdict verdict) ops

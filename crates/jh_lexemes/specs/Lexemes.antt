@@ -104,7 +104,7 @@ pub record Lexed : Type 0 where
   pub spelled : List ℕ
   pub behind : List ℕ
 
--- the lexemes behind the one of so many bytes with which the text begins, and that one
+-- the lexeme that the text begins with, and behind it those of the rest of the text
 abbrev pub lexemes_on : (ℕ → List ℕ → List Lexed) → ℕ → List ℕ → Option (Lexeme × ℕ) → List Lexed
 lexemes_on more at s None = []
 lexemes_on more at s (Some l) =

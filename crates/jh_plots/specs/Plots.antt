@@ -50,8 +50,8 @@ abbrev pub plot_error_of_pairing : PairError → PlotError
 plot_error_of_pairing pair_errors.OutOfMemory = OutOfMemory
 plot_error_of_pairing error = Pair error
 
--- Why there is no plot: first for a time that is missing, then for the pairs. Memory is wanted only
--- where each record has a time.
+-- Why there is no plot: first for a time that is missing, then for the pairs. Memory can run out
+-- only where each record has a time.
 abbrev pub HasNoPlot : List Operation → PlotError → Type 0
 HasNoPlot history (TimeMissing index) = IsFirstTimeless history index
 HasNoPlot history (Pair error) =

@@ -131,8 +131,8 @@ IsQueueResult history result = IsResultOf history (history_pairs history) result
 
 -- ---- refusals
 
--- Why there is no result: its operations do not pair. Memory is wanted where they do, or for the
--- pairs.
+-- Why there is no result: its operations do not pair. Memory can run out for the pairs, or
+-- where they do.
 abbrev pub RefusesQueue : List Operation → CheckError → Type 0
 RefusesQueue history (check_errors.Pair error) =
     (error_of_pairing error ≡ check_errors.Pair error) × RefusesPairing history error

@@ -248,8 +248,8 @@ first_bad_read history =
 abbrev pub AreReadsKnown : List Operation → Type 0
 AreReadsKnown history = IsWellFormed history × (first_bad_read history ≡ None)
 
--- Why there is no result: first for its pairs, then for the first bad read. Memory is wanted where
--- neither is at error, or for the pairs.
+-- Why there is no result: first for its pairs, then for the first bad read. Memory can run out
+-- for the pairs, or where neither is wrong.
 abbrev pub RefusesSetFull : List Operation → CheckError → Type 0
 RefusesSetFull history (check_errors.Pair error) =
     (error_of_pairing error ≡ check_errors.Pair error) × RefusesPairing history error

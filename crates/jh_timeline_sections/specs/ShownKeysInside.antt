@@ -16,14 +16,14 @@ use Rattle.jh_timeline_sections.specs.Sections.{IsSectionOf}
 use Rattle.jh_timeline_sections.specs.declared.key_sections.ShownKey.{ShownKey}
 use Rattle.jh_timeline_sections.specs.declared.window.Choice.{Choice}
 
--- a one without its history
+-- a shown key without its history
 abbrev pub key_and_found : ShownKey → Edn × Option Finding
 key_and_found one = (view one.key, one.found)
 
 abbrev pub keys_and_found : List ShownKey → List (Edn × Option Finding)
 keys_and_found shown = map key_and_found shown
 
--- The one has the history of its key.
+-- The shown key has its own history.
 abbrev pub HasHistory : List Operation → ShownKey → Type 0
 HasHistory history one = operations one.history.items ≡ history_of (view one.key) history
 
@@ -31,14 +31,14 @@ HasHistory history one = operations one.history.items ≡ history_of (view one.k
 abbrev pub IsKeyOf : List Operation → Edn × Option Finding → KeyHistory → Type 0
 IsKeyOf history key own = view_history own ≡ key_with_history history key.0
 
--- The shown are those of all keys, in order.
+-- These are the shown keys of a history, in the order of its keys.
 pub record AreShownKeys (history : List Operation) (findings : Option (List KeyFinding))
     (shown : List ShownKey) : Type 0 where
   pub keys : keys_and_found shown ≡ keys_found history findings
   pub each : All (HasHistory history) shown
   pub tuples : AreTuples history
 
--- The keys that are left stand behind those that have their history, each beside its own.
+-- Some keys have their histories. The keys that are left stand behind these, each beside its own history.
 pub record AreJoined
     (history : List Operation) (keys : List (Edn × Option Finding)) (shown : List ShownKey)
     (left : List (Edn × Option Finding))
@@ -51,13 +51,13 @@ pub record AreJoined
 abbrev pub is_shown_before : ShownKey → ShownKey → Bool
 is_shown_before a b = stands_before (key_and_found a) (key_and_found b)
 
--- The section is that of a one.
+-- The section is that of a shown key.
 abbrev pub IsSectionOfShown : Choice → ShownKey → Section → Type 0
 IsSectionOfShown choice one section =
     IsSectionOf (heading_of (key_and_found one)) (operations one.history.items) [] one.found choice
     section
 
--- Some of the shown have their sections, and these are left.
+-- Some of the shown keys have their sections, and the others are left.
 pub record AreMade (choice : Choice) (shown left : List ShownKey)
     (sections : List Section) : Type 0 where
   pub made : List ShownKey

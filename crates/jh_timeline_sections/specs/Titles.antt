@@ -46,21 +46,21 @@ wrong_elements_text lost unexpected =
     codes ": " ++ (counted_text lost (codes " element is lost") (codes " elements are lost")
     ++ (codes ", " ++ counted_text unexpected (codes " is unexpected") (codes " are unexpected")))
 
--- of a set that is wrong what is, and why it is not known whether one is
+-- a set that is not valid: how many elements are wrong; one of unknown verdict: why that is so
 abbrev pub set_reason : Verdict → Option SetFound → List ℕ
 set_reason Verdict.False (Some found) =
     wrong_elements_text (length found.lost) (length found.unexpected)
 set_reason Verdict.Unknown found = codes ": the set was never read"
 set_reason verdict found = []
 
--- of a counter that is wrong how many reads are
+-- a counter that is not valid: how many reads are outside their bounds
 abbrev pub counter_reason : Verdict → ℕ → List ℕ
 counter_reason Verdict.False errors =
     codes ": " ++ counted_text errors (codes " read is outside its bounds")
     (codes " reads are outside their bounds")
 counter_reason verdict errors = []
 
--- of ids that are wrong how many are
+-- ids that are not valid: how many were given more than once
 abbrev pub ids_reason : Verdict → ℕ → List ℕ
 ids_reason Verdict.False duplicated =
     codes ": " ++ counted_text duplicated (codes " id was given more than once")
@@ -88,7 +88,7 @@ ordered_text operations =
     codes ": " ++ counted_text operations (codes " operation has an order")
     (codes " operations have an order")
 
--- of a register or a mutex how many operations have an order, or that there is none, or why that is not known
+-- a register or a mutex: how many operations have an order, or that there is none, or why that is not known
 abbrev pub register_reason : LinVerdict → Option Explanation → List ℕ
 register_reason (Valid order) explanation = ordered_text (length order)
 register_reason (Invalid stuck) explanation =
@@ -102,19 +102,19 @@ bad_read_text place = codes ": transaction " ++ (decimal place ++ codes " has a 
 abbrev pub cycle_text : ℕ → List ℕ
 cycle_text steps = codes ": a cycle of " ++ counted_text steps (codes " step") (codes " steps")
 
--- of transactions that are wrong what is
+-- transactions that are not valid: the bad read or the cycle; of unknown verdict: why that is so
 abbrev pub transactions_reason : TxnFinding → List ℕ
 transactions_reason (txns.Valid order) = []
 transactions_reason (txns.BadRead place index kind operations) = bad_read_text place
 transactions_reason (txns.Cycle steps operations) = cycle_text (length steps.items)
 transactions_reason txns.Unknown = codes ": the judge gave up"
 
--- of a queue that is wrong how many of its elements are
+-- a total queue that is not valid: how many elements are lost, and how many unexpected
 abbrev pub total_queue_reason : Verdict → (lost unexpected : ℕ) → List ℕ
 total_queue_reason Verdict.False lost unexpected = wrong_elements_text lost unexpected
 total_queue_reason verdict lost unexpected = []
 
--- of a queue that is wrong which dequeue is the first
+-- a queue that is not valid: its first dequeue that comes from no enqueue
 abbrev pub queue_reason : QueueResult → List ℕ
 queue_reason (Dequeued count) = []
 queue_reason (First place completion) =
@@ -132,7 +132,7 @@ order_excluded_text (reasons.Crossed first second) =
 order_excluded_text (reasons.NeverEmpty number) =
     codes ": a dequeue found the queue empty, which it never was"
 
--- of a bank that is wrong how many reads are
+-- a bank that is not valid: how many reads have wrong balances
 abbrev pub bank_reason : Verdict → ℕ → List ℕ
 bank_reason Verdict.False wrong =
     codes ": " ++ counted_text wrong (codes " read has wrong balances")
@@ -147,13 +147,13 @@ timed_elements_text lost stale duplicated =
     ++ (codes ", " ++ counted_text duplicated (codes " is shown twice")
     (codes " are shown twice")))))
 
--- of a set over time that is wrong what is, and why it is not known whether one is
+-- a set over time that is not valid: how many elements are wrong; one of unknown verdict: why that is so
 abbrev pub set_full_reason : Verdict → (lost stale duplicated : ℕ) → List ℕ
 set_full_reason Verdict.False lost stale duplicated = timed_elements_text lost stale duplicated
 set_full_reason Verdict.Unknown lost stale duplicated = codes ": no element is stable"
 set_full_reason Verdict.True lost stale duplicated = []
 
--- of a first-in-first-out queue how many operations have an order, or what excludes every one, or why
+-- a first-in-first-out queue: how many operations have an order, or what excludes every order, or why
 -- none is sought
 abbrev pub fifo_reason : FifoVerdict → List ℕ
 fifo_reason (fifo.Valid order) = ordered_text (length order.items)
@@ -161,6 +161,7 @@ fifo_reason (fifo.Invalid why) = order_excluded_text why
 fifo_reason (fifo.Repeated first second) = codes ": a value is enqueued twice"
 fifo_reason (fifo.Unsure number) = codes ": it is not known what a dequeue did"
 
+-- what is said behind the verdict, by the checker
 abbrev pub reason : Finding → List ℕ
 reason (Set found) = set_reason found.verdict found.found
 reason (Counter found) = counter_reason found.verdict (length found.errors)
@@ -195,7 +196,7 @@ keys_text total = counted_text total (codes " key") (codes " keys")
 abbrev pub some_keys_text : (count total : ℕ) → List ℕ
 some_keys_text count total = codes ": " ++ (decimal count ++ (codes " of " ++ keys_text total))
 
--- how many keys are valid, or of how many that are not, or not known to be
+-- how many keys there are, where all are valid; else how many of them have the verdict of all
 abbrev pub keys_reason : Verdict → List KeyFinding → List ℕ
 keys_reason Verdict.True findings = codes ": " ++ keys_text (length findings)
 keys_reason verdict findings =

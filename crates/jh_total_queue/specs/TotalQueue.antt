@@ -125,7 +125,7 @@ first_bad_drain history = position is_bad_drain history
 abbrev pub AreDrainsKnown : List Operation → Type 0
 AreDrainsKnown history = first_bad_drain history ≡ None
 
--- Why there is no result: first for the first bad drain. Memory is wanted only where there is none.
+-- Why there is no result: first for the first bad drain. Memory can run out only where there is none.
 abbrev pub RefusesTotalQueue : List Operation → CheckError → Type 0
 RefusesTotalQueue history (Pair error) = ⊥
 RefusesTotalQueue history (BadValue place) = first_bad_drain history ≡ Some place

@@ -13,7 +13,7 @@ use Rattle.jh_unread.specs.declared.pairs.Pair.{Pair}
 use Rattle.jh_unread.specs.declared.pairs.Operation.{Operation}
 use Rattle.jh_unread.specs.declared.pairs.Step.{Step}
 
--- what was found in both: a fault above all
+-- what was found in both: Faulty over Refused over Nothing
 abbrev pub worse : Found → Found → Found
 worse Faulty other = Faulty
 worse Refused Faulty = Faulty
