@@ -153,11 +153,12 @@ fn of_test(answer: Result<u8, DriveError>) -> Result<u8, Refusal>
     }
 }
 
-/// Does what the arguments ask for, of which the first is the program's name, over these streams: a
-/// command reads and writes them; a test reads its settings from a file first, and `timeline` those of the run that it
-/// shows, where they are named. The answer is the exit status: that of `do_command`, or that of `drive`.
+/// Does what the arguments ask for, over these streams. The first argument is the program's name. A
+/// command reads and writes the streams. Before that a test reads its settings from a file, and `timeline` reads
+/// those of the run that it shows, where a file is named. The answer is the exit status: that of `do_command`, or
+/// that of `drive`.
 ///
-/// A run on threads, a search and the judgement of keys may wait, and of a test a reader that blocks.
+/// A run on threads, a search and the judgement of keys may wait. A test waits where its reader blocks.
 ///
 /// Errors: `Arguments`, then `Accounts`, then `Schedule`, all before anything is read or written; then, of a command,
 /// `Command` as `do_command` has it, and of a test `Test` as `drive` has it, or where its file could not be read.

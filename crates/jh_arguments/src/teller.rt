@@ -1,5 +1,5 @@
-//! What is told on standard error while a command works. What a terminal is told is no part of any clause, but
-//! that nothing is said to decide what is known.
+//! What is told on standard error while a command works. No clause says what a terminal is told, but for that of
+//! `remedy_of`: where the exit status is not 2, no remedy is told.
 
 ghost use Rattle.std.specs.Prelude.{◌≢◌, IsNone};
 

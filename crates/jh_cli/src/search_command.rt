@@ -64,8 +64,8 @@ pub struct SearchQuestion {
 /// Reads settings in TOML as `jh_settings::settings_of` does, and tries candidates of them, which
 /// `jh_search::candidate` makes: plans with the seed raised by their number, and with random faults
 /// among the entries of the schedule. Each is run serially and judged by the checker of its
-/// workload. It writes what is found of the least that is not valid, whatever the number of
-/// threads. The answer is the exit status:
+/// workload. It writes the settings of the least candidate that is not valid, or a line that says that
+/// there is none. The number of threads does not matter for that. The answer is the exit status:
 ///
 /// | what is written | what is found | status |
 /// |---|---|---|
@@ -74,7 +74,7 @@ pub struct SearchQuestion {
 ///
 /// Where the question names a candidate to show, nothing is run: `schedule = [..]` with the entries of that candidate is
 /// written, as `jh_settings_texts::schedule_to_text` writes it, and the status is 0. Settings of a test of a real database
-/// take it too, so random schedules serve it.
+/// take this schedule too: so such a test can have random faults.
 ///
 /// The settings have all keys, `mode = "serial"`, the seed and the schedule of the candidate, so
 /// `run_run` and `shrink_run` read them, with the comment. The mode that was read means nothing. All

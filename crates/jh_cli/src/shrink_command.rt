@@ -105,8 +105,8 @@ fn shrink_bytes<O: Observer>(
     })
 }
 
-/// What is left of the schedule of a plan, by at most so many runs, whose histories a judge of the
-/// first budget judges.
+/// What is left of the schedule of a plan, by at most `budget` runs. Their histories are judged by a judge
+/// of the budget `judge_budget`.
 fn shrink_plan<O: Observer>(
     alloc: Global,
     plan: &Plan,
@@ -142,8 +142,8 @@ fn answer_of(alloc: Global, plan: &Plan, judge_budget: u64, schedule: &Schedule)
     }
 }
 
-/// Whether the run of a plan fails, and nothing where it is refused or stuck: a smaller schedule is
-/// no answer to that.
+/// Whether the run of a plan fails, and nothing where it is refused or stuck: then there is no verdict by
+/// which it could fail.
 fn fails(alloc: Global, plan: &Plan, judge_budget: u64) -> Option<bool>
     ensures { IfSome result (IsRunFailure plan.now judge_budget) }
 {

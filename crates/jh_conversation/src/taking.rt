@@ -57,7 +57,7 @@ fn ends_step(alloc: Global, step: OpenStep, op: &Op) -> Result<bool, AllocError>
 }
 
 impl Machine {
-    /// Keeps a line that is no reply, if it is the first one; it counts as two stops.
+    /// Keeps a line that is no reply, if it is the first one. Each such line counts as two stops.
     fn refuse(&mut self, why: Complaint)
         ensures { self.new ≡ rule.refuse why self.old }
     {
@@ -298,9 +298,10 @@ impl Machine {
         }
     }
 
-    /// Counts a line that was read; what was said is what is said to it. It waits for nothing.
+    /// Counts a line that was read, to which nothing is said yet. It waits for nothing, unlike `listen` of a
+    /// peer (`jh_lines`).
     ///
-    /// Error: 2^64 - 1 lines were read, which is told as out of memory.
+    /// Error: 2^64 - 1 lines were read before, which is told as out of memory.
     fn listen(&mut self) -> Result<(), AllocError>
         ensures { OnOk result (self.new ≡ rule.listen self.old) }
     {

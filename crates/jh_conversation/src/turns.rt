@@ -1,5 +1,5 @@
-//! A turn: all that can be said at a moment. `specs/Turn.antt` has the rule; a new phase begins there.
-//! That of `jh_lines`, which holds the conversation, is to tell and to listen.
+//! A turn of a test: all that can be said at a moment. `specs/Turn.antt` has the rule; whoever adds a phase
+//! begins there. A turn of `jh_lines`, which holds the conversation, is another thing: to tell and to listen.
 
 ghost use Rattle.std.specs.Prelude.{◌≡◌, ◌<◌, ◌≤◌, ◌^◌, length, true, IfOk, OnOk, None, Some, is_some};
 ghost use Rattle.std.specs.Prelude.{slice_index_or};

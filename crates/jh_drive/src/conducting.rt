@@ -36,9 +36,9 @@ fn judging_of(
     }
 }
 
-/// Why a conversation did not come to its end. Of the last four endings only `InputEnded` comes
-/// here: a test that is over has its own answer (`drive_answer`), and a failed write, and that
-/// memory ran out, were told before (`hold`).
+/// Why a conversation did not come to its end. Of the four endings of the last case only `InputEnded`
+/// comes here: `drive_answer` has an answer of its own for a test that is over, and `hold` returns before
+/// where a write failed or memory ran out.
 fn ended_early(ending: Ending) -> DriveError
     ensures { result ≡ rule.ended_early ending }
 {

@@ -1,4 +1,4 @@
-//! Settings whose values are choices, and which of them may stand of some databases alone.
+//! Settings whose values are choices, and which of them only some workloads may have.
 //! `specs/Parsed.antt` says what each means.
 
 ghost use Rattle.std.specs.Prelude.{◌≡◌, ◌||◌, true, false, Option, Some, MatchResult, option_map};
@@ -49,8 +49,7 @@ pub(crate) fn are_transactions(workload: TestWorkload) -> bool
     matches!(workload, TestWorkload::ListAppend)
 }
 
-/// Judges whether a value may stand under a key, and refuses it where none may. (Settings are
-/// judged by what they may be; histories are, by checkers.)
+/// Refuses a value under a key, unless `may` says that one may stand there.
 pub(crate) fn judge_standing(table: &Table, key: Key, may: bool) -> Result<(), SettingsError>
     ensures { MatchResult result
         (λ _. (may || keys.is_missing (table_view table.now) key) ≡ true)

@@ -67,8 +67,8 @@ pub(crate) fn rate_under(table: &Table) -> Result<Option<u32>, SettingsError>
     optional_number(table, Key::Rate, 1, MAX_RATE)
 }
 
-/// How keys are shared, under one of its two keys: from 1 to the most, or none. Nothing may stand there
-/// of transactions.
+/// How keys are shared, under `threads_per_key` or `ops_per_key`: from 1 to the most, or none. Where
+/// transactions are asked of the database, nothing may stand there.
 pub(crate) fn share_under(
     table: &Table,
     key: Key,
@@ -91,8 +91,8 @@ pub(crate) fn recovery_under(table: &Table) -> Result<u32, SettingsError>
     Ok(recovery as u32)
 }
 
-/// A number by which transactions are made: from 1 to the most, and a default. Nothing may stand under
-/// its key of anything else.
+/// A number by which transactions are made: from 1 to the most, and a default where nothing stands under
+/// its key. Where no transactions are asked of the database, nothing may stand there.
 pub(crate) fn transaction_number(
     table: &Table,
     key: Key,

@@ -7,8 +7,8 @@ use jh_checkers::{Checker, Judging};
 use jh_simnode::Plan;
 
 /// What the history of a run of the plan is judged by, with a budget for a register: the checker of
-/// the plan's workload, from what a register holds at first. Its no is not explained, and what is said
-/// to the checkers of other workloads means nothing, since no cluster runs them.
+/// the plan's workload, from what a register holds at first. A no is not explained. Options
+/// of other checkers are not used, since no cluster runs their workloads.
 pub fn run_judging(plan: &Plan, budget: u64) -> Judging<'static>
     ensures { result ≡ rule.run_judging plan.now budget }
 {

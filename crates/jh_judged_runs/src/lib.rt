@@ -1,5 +1,6 @@
 //! Serial runs of a plan, each judged by the checker of the plan's workload. `specs/JudgedRuns.antt`
-//! has the rule. `run`, `search` and `shrink` judge runs by it, and by nothing else.
+//! has the rule. `run`, `search` and `shrink` judge serial runs by `judge_run` alone. `run` judges a run on
+//! threads by the same `run_judging`.
 #![tactic(auto)]
 
 mod judged;

@@ -14,8 +14,8 @@ ghost use Rattle.jh_laws.specs.Lines.{ReadsBack};
 use jh_edn::print_laws;
 use jh_env::environments_read_back;
 
-/// What is written of an environment that can start can be printed, what is printed of it spells it
-/// alone, and what whoever reads these bytes has is a text of that environment's names and cells.
+/// The value of an environment that can start can be printed. What is printed spells this value alone, and
+/// a value that is read from these bytes is a text of the environment's names and cells.
 /// So two environments that are printed alike have the same names and cells.
 pub fn environment_lines_read_back()
     ensures printable { (env : EnvValue) → CanStart env → IsPrintable depth_limit (edn_of_env env) }

@@ -16,10 +16,10 @@ use crate::lines::lines_read_back;
 use jh_edn::{print_laws, spelled_once};
 use jh_ops::operations_read_back;
 
-/// What is written of an operation that can be printed can be printed, and the lines of a history
+/// Where an operation can be printed, the value that is written of it can be printed. The lines of a history
 /// of such operations spell their values and nothing else. The operation of a value that can be
-/// printed, as any value that was read, can be printed. And one without other keys has no key
-/// twice, and is the operation of what is written of it.
+/// printed, as each value that was read can, can be printed. An operation without other keys has no key
+/// twice, and is parsed from the value that is written of it.
 pub fn operation_lines_read_back()
     ensures printable { (op : Operation) → CanPrint op
         → IsPrintable depth_limit (value_written op) }

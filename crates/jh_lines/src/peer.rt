@@ -8,19 +8,20 @@ use std::io;
 /// One that is told bytes and heard. Its ghost members say which states an event leads from and to:
 /// they order all that is told and heard, which the contracts of a reader and of a writer do not.
 pub trait Peer {
-    /// Being told these bytes leads from one state to another.
+    /// It goes from the first state to the second by being told these bytes.
     ghost told: { Self → List ℕ → Self → Type 0 };
 
-    /// Hearing these bytes from it does.
+    /// It goes from the first state to the second where these bytes are heard from it.
     ghost heard: { Self → List ℕ → Self → Type 0 };
 
-    /// Hearing from it that nothing more comes does.
+    /// It goes from the first state to the second where its input has ended.
     ghost ended: { Self → Self → Type 0 };
 
-    /// A telling that failed with this error, when these bytes had been handed over, does.
+    /// It goes from the first state to the second where telling it fails with this error, when these bytes
+    /// had been handed over.
     ghost tell_failed: { Self → List ℕ → Error → Self → Type 0 };
 
-    /// A listening that failed with this error does.
+    /// It goes from the first state to the second where listening to it fails with this error.
     ghost listen_failed: { Self → Error → Self → Type 0 };
 
     /// Hands it all bytes, and holds none back. An `Err` has handed over some of them.

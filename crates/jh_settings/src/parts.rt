@@ -1,4 +1,5 @@
-//! What settings mean, some keys after others in their order. `specs/Inside.antt` says which keys.
+//! What settings mean, by groups of keys that stand together in their order. `specs/Inside.antt` says which
+//! keys each group has.
 
 use crate::choices::Mode;
 use jh_env::Env;

@@ -50,7 +50,7 @@ fn add_way(line: &mut Vec<u8>, way: &[FormStep<'_>]) -> Result<(), AllocError>
     Ok(())
 }
 
-/// So many bytes of a text as its first characters have.
+/// How many bytes the first `MAX_SHOWN_PART` characters of a text have, or all where there are fewer.
 fn shown_bytes(text: &[u8]) -> usize
     ensures { result ≤ length text.now }
 {

@@ -9,9 +9,9 @@ use jh_edn::Value;
 use jh_gen::MAX_CALLS;
 use jh_settings::MAX_DUE_AT;
 
-/// The latest moment at which an entry of a test is due, in milliseconds: a day. Of the settings
-/// themselves it is `MAX_TIME_MS` of `jh_drive_settings`, a crate that this one does not use. The
-/// day of `MAX_SPREAD_MS` (`jh_arguments`) has another reason: `search` spreads a schedule over it.
+/// The latest moment at which an entry of a test is due, in milliseconds: a day. Who reads the
+/// settings refuses by the same number, `MAX_TIME_MS` of `jh_drive_settings`, a crate that this one does
+/// not use. The day of `MAX_SPREAD_MS` (`jh_arguments`) has another reason: `search` spreads a schedule over it.
 pub(crate) const MAX_MOMENT_MS: u32 = 86_400_000;
 
 /// Whether an integer is from 0 to the most.

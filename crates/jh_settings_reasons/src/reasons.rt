@@ -114,7 +114,7 @@ fn reason_of(
 /// where memory was refused. They are without their line feeds. The bytes are those that were
 /// refused, and are read again.
 ///
-/// Takes time in proportion to the bytes, and of a generator times its depth.
+/// Takes time in proportion to the bytes, and where a generator was refused, times its depth.
 ///
 /// `Err` only where memory was refused.
 pub fn settings_reasons(

@@ -45,7 +45,7 @@ pub(crate) fn is_within(source: &Gen, depth: u32) -> bool
         return false;
     }
     let inside = depth - 1;
-    // A number that is read is known to fit its bits, as a text wants.
+    // That a number fits its bits, which a text of it needs, is known to the prover where the code reads it.
     match source {
         Gen::Nil => true,
         Gen::Once(call) => is_call_within(*call, inside),
@@ -91,7 +91,7 @@ fn shares_are_within(shares: &Shares, depth: u32) -> bool
         ↔ ArePrintable depth (items_of (values_of_shares (share_list shares.now))) }
 {
     for (count, part) in shares.as_slice() {
-        // It fits its bits, as a text wants.
+        // Read so that the prover knows that it fits its bits.
         let _count = *count;
         if !is_within(part, depth) {
             return false;

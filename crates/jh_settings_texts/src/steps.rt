@@ -30,14 +30,14 @@ pub(crate) fn leads_to_others(step: &Step) -> bool
     }
 }
 
-/// Says that a step has a text over these nodes, which is so of each that leads to others: ids have
-/// 32 bits, and faults are right.
+/// Does nothing. Its clause says that a step has a text over these nodes, if its fault names none but
+/// these, and no link of it leads from a node to itself.
 pub(crate) fn step_has_text(nodes: &Nodes, step: &Step)
     requires fits { FitsNodes (length nodes.now) step.now }
     requires others { LeadsToOthers step.now }
     ensures { IsStepOver (length nodes.now) step.now }
 {
-    // What is known of an id and of a fault is known where they are looked at.
+    // That an id has 32 bits, and what holds of a fault, is known to the prover where the code reads them.
     match step {
         Step::Begin(id, fault) => {
             let _id = *id;

@@ -76,8 +76,8 @@ pub trait ScheduleJudge {
 
 /// Who is told how far the work is.
 pub trait Observer {
-    /// The judge is asked for this time, counted from 1, and so many entries are left of the
-    /// smallest schedule that fails.
+    /// The judge is asked next: `calls` is how often that makes, counted from 1. The smallest schedule that
+    /// failed so far, which at first is the given one, has so many entries.
     fn see(&mut self, entries: usize, calls: u64);
 }
 

@@ -34,7 +34,8 @@ pub fn histories_are_judged()
     calls_are_offers();
 }
 
-/// Nor is the history of any key refused where they are, but for a thread or as out of memory.
+/// Where the keys of a test are independent, no checker refuses the history of a key, but as out of memory or
+/// for a thread that could not be had.
 pub fn key_histories_are_judged()
     ensures { KeyHistoriesAreJudged }
 {

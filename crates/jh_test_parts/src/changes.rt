@@ -104,9 +104,9 @@ fn nodes_changed(
 }
 
 impl NamedCells {
-    /// The links and nodes among these that are others in an environment, with what they are there.
-    /// So if these are what some faults named in an environment, and all else has stayed, it is all
-    /// that has changed. Takes time for each of these links and nodes.
+    /// Those of these links and nodes that are not the same in a later environment, each with what it is
+    /// there. If these are the cells that some faults name, as they were before, and every other cell has
+    /// stayed the same, these are all cells that changed. Takes time for each of these links and nodes.
     pub fn changed(&self, alloc: Global, after: &Env) -> Result<ChangedCells, AllocError>
         ensures { (before : EnvValue) (named earlier later : List FaultValue)
             → self.now ≡ cells_named before named

@@ -120,7 +120,7 @@ fn is_memory(error: EdnError) -> bool
     matches!(error, EdnError::OutOfMemory)
 }
 
-/// What the bytes of a line mean, which stand without its line feed.
+/// What a line means, whose bytes stand here without its line feed.
 pub fn line_meaning(alloc: Global, line: &[u8]) -> Result<LineMeaning, AllocError>
     ensures { IfOk result (λ meaning. line_meaning_by meaning ≡ rule.line_meaning line.now) }
 {

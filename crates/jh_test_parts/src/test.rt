@@ -21,8 +21,8 @@ use std::alloc::{AllocError, Global};
 use std::marker::Model;
 use thiserror::Error;
 
-/// The most entries of the schedule of a test. Where settings say it, `MAX_ENTRIES` of
-/// `jh_simnode`, which is the same number, bounds it before.
+/// The most entries of the schedule of a test. Settings with more are refused before a test is made, by
+/// `MAX_ENTRIES` of `jh_simnode`, which is the same number.
 pub const MAX_TEST_ENTRIES: usize = 1_024;
 
 /// What a test is made of.
@@ -69,7 +69,7 @@ pub enum TestError {
     /// The generator does not suit what is tested and the number of clients.
     #[error("bad generator")]
     BadGenerator,
-    /// The generator of the final calls does not.
+    /// The generator of the final calls does not suit them.
     #[error("bad final")]
     BadFinal,
     /// There are more than 1,024 entries, or a fault names a node that is not in the environment.

@@ -15,7 +15,7 @@ use rand_pcg::Lcg128Xsl64;
 use std::alloc::{AllocError, Global};
 use std::marker::Model;
 
-/// How many numbers there are for keys, which a test never comes to.
+/// How many numbers there are for keys, which are integers of a text. No test uses all of them.
 const KEY_NUMBERS: u64 = 1 << 63;
 
 /// The stream of the random numbers of transactions; the calls of a test have stream 0.
@@ -150,8 +150,8 @@ impl TransactionSource {
         self.op_on(alloc, reads, place as usize)
     }
 
-    /// The next transaction: a vector of micro-operations. Where memory is refused, what comes next is
-    /// some transaction.
+    /// The next transaction: a vector of micro-operations. Where memory is refused, it is not known which
+    /// transaction comes next.
     ///
     /// Error: memory was refused.
     pub fn next(&mut self, alloc: Global) -> Result<Value, AllocError>

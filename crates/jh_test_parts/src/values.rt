@@ -65,7 +65,8 @@ fn fits_request(
     }
 }
 
-/// Whether one pair has the same key as another, and what a call with the other's value may have got.
+/// Whether the pair that a call got has the key of the pair that it asked with, and a value that the call
+/// may have got. False where one of them is no pair.
 fn fits_with_key(
     alloc: Global,
     workload: TestWorkload,

@@ -28,7 +28,8 @@ fn inside_first(text: &str) -> Option<usize>
     None
 }
 
-/// The place of an operation of a history, which is the values of a text, or the elements of its only one.
+/// The place of an operation of a history. Its operations are the values of a text or, where the text is one
+/// list or vector, the elements of that.
 fn place_of_operation(alloc: Global, part: &str, number: usize) -> Result<Option<usize>, AllocError>
     ensures { IfOk result (λ place. IfSome place (IsPlaceOfOperation part.now number)) }
 {
@@ -72,8 +73,8 @@ fn counted_part(alloc: Global, text: &str) -> (usize, &str) {
     }
 }
 
-/// The lines for the operation of this number, from 0, in a history: where it begins in the input; and the
-/// functions of the workload that judged it, where it is a client's of another one.
+/// The lines for the operation of this number, from 0, in a history: where it begins in the input and, where
+/// it is a client's and of none of the functions of the workload that judged it, these functions.
 ///
 /// Takes time as reading does. `Err` only where memory was refused.
 pub fn operation_reasons(

@@ -10,7 +10,7 @@ use jh_edn::{EdnError, read_one};
 use jh_lexemes::{Lexeme, lexeme_at};
 use std::alloc::{AllocError, Global};
 
-/// The start of a text, which is a place between characters as each end of one is.
+/// The start of a text. Its clause says that this is a place between characters.
 pub(crate) fn start_of(text: &str) -> usize
     ensures start { result ≡ 0 }
     ensures boundary { IsCharBoundary text.now result }
