@@ -61,8 +61,8 @@ pub record HasNoAccounts (arguments : List Text) (e : CliError) : Type 0 where
 
 -- ---- by which steps a page names records
 
--- A subcommand with its options gives these steps: those of the schedule that some settings have, of the
--- file that it names, and none where it names none. What a file holds no contract knows.
+-- A subcommand with its options gives these steps. Where it names a file, they are those of the schedule
+-- of some settings, for no contract knows what a file holds. Where it names none, there are none.
 abbrev pub GivesSteps : Option (Text × List Row) → List Edn → Type 0
 GivesSteps found steps =
     ((path : Text) × SubcommandHasSchedule found path × ((settings : List ℕ) × AreStepsIn settings steps))

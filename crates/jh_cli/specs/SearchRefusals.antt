@@ -18,9 +18,9 @@ use Rattle.jh_cli.specs.declared.search_command.SearchQuestion.{SearchQuestion}
 abbrev pub WantsThreads : SearchQuestion → Type 0
 WantsThreads question = (question.show ≡ None) × (question.threads ≢ Some 1)
 
--- Why the candidates of the plan that bytes mean are not searched. One whose generator is nested as
--- deep as a text may be, where it is written in another way, can't be written again; threads are asked
--- for only where it can.
+-- Why the candidates of the plan that bytes mean are not searched. A plan can't be written again where
+-- the text of its generator, as it is printed, would be nested deeper than a text may be. Threads are
+-- asked for only where the plan can be written.
 abbrev pub RefusesSearchBytes : SearchQuestion → List ℕ → CliError → Type 0
 RefusesSearchBytes question input (Settings error) =
     IsSettingsError error × settings.RefusesSettings input error
@@ -33,8 +33,9 @@ RefusesSearchBytes question input Thread =
 RefusesSearchBytes question input OutOfMemory = ⊤
 RefusesSearchBytes question input e = ⊥
 
--- No kinds of faults come before all else. A failed read, an input that does not end and out of
--- memory may come with any input; a failed write comes only where there is something to write.
+-- A palette that names no kinds is refused before all else. A failed read, an input that does not end
+-- and out of memory may come with any input; a failed write comes only where there is something to
+-- write.
 abbrev pub RefusesSearch : SearchQuestion → List ℕ → CliError → Type 0
 RefusesSearch question input BadPalette = question.palette ≡ None
 RefusesSearch question input (Input error) = IsInputError error × IsReaderError error

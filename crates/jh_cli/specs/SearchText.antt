@@ -43,7 +43,7 @@ none_line runs unknown =
     codes "# none of " ++ (decimal runs
     ++ (codes " candidates is invalid, " ++ (decimal unknown ++ codes " unknown\n")))
 
--- All of it, where the candidate of a number fails or none does. What is written of a candidate
+-- All that is written where the candidate of a number fails, or none does. What is written of a candidate
 -- means that candidate, to be run serially, and this budget.
 abbrev pub IsFoundText : PlanValue → Options → Option ℕ → ℕ → List ℕ → Type 0
 IsFoundText p options (Some number) unknown output =
@@ -57,7 +57,7 @@ abbrev pub searched_status : Option ℕ → ℕ → ℕ
 searched_status (Some number) unknown = 1
 searched_status None unknown = if unknown == 0 then 0 else 2
 
--- for what is found
+-- all that is written of a search, with the exit status
 abbrev pub IsSearchedText : PlanValue → Options → ℕ → List ℕ → Type 0
 IsSearchedText p options status output =
     (searched : Searched) × IsSearched p options searched
@@ -76,7 +76,7 @@ IsShownText p options show output =
     IsDocument output
     (schedule_document shown.env.names (spread_asked p show.milliseconds) shown.schedule))
 
--- the one or the other
+-- all that is written: of the candidate that is to be shown, or else of the search
 abbrev pub IsAnswerText : Option Show → PlanValue → Options → ℕ → List ℕ → Type 0
 IsAnswerText None p options status output = IsSearchedText p options status output
 IsAnswerText (Some show) p options status output =

@@ -31,7 +31,7 @@ conversation_after c line = record { test = c.test; machine = take_line c.test c
 abbrev pub is_over : ConversationValue → Bool
 is_over c = is_test_over c.machine
 
--- after any lines it is the machine of the laws that has taken these lines
+-- after any lines a conversation has the machine of which the laws speak (`run`), after the same lines
 abbrev pub ConversationIsRun : Type 0
 ConversationIsRun =
     (t : TestValue) (d : Drivers t) (lines : List (List ℕ))

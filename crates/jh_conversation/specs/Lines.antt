@@ -149,7 +149,7 @@ take_in t Stop m = stop m
 take_in t (Bad why) m = refuse why m
 take_in t (Op op time) m = take_operation t op time op.process m
 
--- what was said is what is said to this line
+-- one more line was read, to which nothing is said yet
 abbrev pub listen : Machine → Machine
 listen m = record m { read = m.read + 1; said = [] }
 

@@ -173,8 +173,8 @@ invoke t thread request m =
       callers = set m.callers thread (record { used_numbers = (caller_of m thread).used_numbers; call = Some call });
     })
 
--- what a thread's answer makes of the machine; a generator of clients gives no step of the nemesis, and one
--- would end the calls
+-- what the driver's answer to a thread makes of the machine; a generator of clients gives no step of the
+-- nemesis, and a step would end the calls
 abbrev pub after_answer : TestValue → ℕ → GenAnswer → Machine → Machine
 after_answer t number Pending m = m
 after_answer t number Done m = record m { has_spent = true }
@@ -214,7 +214,7 @@ rounds t (suc n) m =
 abbrev pub calls : TestValue → Machine → Machine
 calls t m = rounds t (suc t.clients) m
 
--- 3. to 6. The next phase, where this one is over.
+-- 3. The next phase, where this one is over.
 
 abbrev pub heal : Machine → Machine
 heal m = record m { phase = Heal }

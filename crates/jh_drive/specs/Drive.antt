@@ -85,8 +85,8 @@ drive_answer None true ending status = Ok status
 drive_answer None false ending status = Err (ended_early ending)
 
 module _ (t : TestValue) (judging : Judging) (input rest before after : Option (List ℕ)) where
-  -- The test was conducted over an input, of which this is left, and an output that had been this before
-  -- and is that after it; its report stands behind the conversation.
+  -- The test was conducted. `rest` is what is left of `input`; the output was `before`, and is `after` now.
+  -- The report stands behind the conversation.
   pub record IsReported (result : Result ℕ DriveError) : Type 0 where
     pub past : List TalkEvent
     pub ending : Ending

@@ -19,11 +19,13 @@ IsFirstPart c text =
     × (text ≡ ((end_if_missing c ++ recorded_lines c.test c.machine)
     ++ active_line c.machine.nemesis.active) ++ environment_line env)
 
+-- why a history has no last line: it is not judged, or memory was refused
 abbrev pub RefusesToJudge : Bool → Judging → List Operation → DriveError → Type 0
 RefusesToJudge by_keys judging history OutOfMemory = Unit {0}
 RefusesToJudge by_keys judging history Mismatch = IsNotJudged by_keys judging history
 RefusesToJudge by_keys judging history _ = ⊥
 
+-- why a report is not written to its end
 abbrev pub RefusesReport : Judging → ConversationValue → DriveError → Type 0
 RefusesReport judging c Write = Unit {0}
 RefusesReport judging c OutOfMemory = Unit {0}

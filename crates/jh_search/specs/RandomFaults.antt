@@ -1,6 +1,6 @@
--- The fault that random numbers make (this project's own). As in Jepsen's nemeses it is about the
--- first of all nodes, which are shuffled (jepsen.nemesis: partition-random-node,
--- partition-random-halves, partition-majorities-ring).
+-- The fault that random numbers make (this project's own). As in Jepsen's nemeses all nodes are shuffled,
+-- and the fault names nodes or links by their places in that order (jepsen.nemesis:
+-- partition-random-node, partition-random-halves, partition-majorities-ring).
 use Rattle.std.specs.Prelude.{ℕ, ◌-◌, ◌/◌, ◌%◌, ◌==◌, ℤ, pos, List, [], ◌∷◌, drop, flat_map}
 use Rattle.std.specs.Prelude.{map, take, if◌then◌else◌, nat_lt, negsuc}
 use Rattle.jh_env.specs.Faults.{FaultValue, kept_links, kept_nodes}

@@ -26,9 +26,9 @@ abbrev pub NeedsEach : (List Entry → Option Bool → Type 0) → List Entry �
 NeedsEach Answers schedule =
     (place : ℕ) → place < length schedule → Answers (remove schedule place) (Some false)
 
--- The schedule is what it is called, by a judge that was asked so often at most. What is minimal was
--- asked for once, and once without each of its entries. The given one is given out unasked only where
--- nothing may be asked.
+-- The schedule is what its name says, by a judge that was asked so often at most. Of a minimal one the
+-- judge was asked once, and once of it without each of its entries, so it has fewer entries than that. The
+-- given one is the answer unasked only where the judge may not be asked at all.
 abbrev pub IsShrunk : (List Entry → Option Bool → Type 0) → ℕ → List Entry → Shrunk → Type 0
 IsShrunk Answers budget given (Minimal schedule) =
     IsFailing Answers given schedule × NeedsEach Answers schedule × (length schedule < budget)
