@@ -12,12 +12,12 @@ const BUFFER_LEN: usize = 65_536;
 
 /// The bytes that the reader gives, up to its end.
 ///
-/// There are at most `turns` reads: the one that finds the end counts too, and so does one that was
-/// interrupted. After an error the reader stands where its last read left it.
+/// A turn is one read, also the one that finds the end and one that was interrupted, and there are
+/// at most `turns`. After an error the reader stands where its last read left it.
 ///
 /// # Errors
 ///
-/// `Read` where a read failed, `TooLong` where the end was not seen in `turns` reads,
+/// `Read` where a read failed, `TooLong` where the end was not seen in the turns allowed,
 /// `OutOfMemory`.
 pub fn read_bytes<R: Read>(alloc: Global, reader: &mut R, turns: u32) -> Result<Vec<u8>, EdnError>
     ensures bytes { IfOk result (λ v. IfSome (R.remaining reader.old) (λ all. v.items ≡ all)) }

@@ -43,7 +43,7 @@ pub enum EdnError {
     TooDeep(u64),
     #[error("not UTF-8")]
     Utf8,
-    /// The reader's end was not seen after as many reads as were allowed.
+    /// The reader's end was not seen after the turns allowed.
     #[error("input too long")]
     TooLong,
     #[error("read failed")]
