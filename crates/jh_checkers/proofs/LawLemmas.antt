@@ -143,21 +143,21 @@ same_end ops initial a b x y =
 somes_same : {X : Type 0} (x y : X) → Some x ≡ Some y → x ≡ y
 somes_same x y e = cc
 
-same_explained : (history : List Operation) (ops : List RegOp) (a b : ℕ) (d e : Option Explanation) → a ≡ b
-    → IsSomeAnd d (Explains history ops a) → IsSomeAnd e (Explains history ops b) → stuck_point d ≡ stuck_point e
-same_explained history ops a b None e same x y = absurd x
-same_explained history ops a b (Some d) None same x y = absurd y
-same_explained history ops a b (Some d) (Some e) same x y =
+same_explained : (history : List Operation) (ops : List RegOp) (initial : Option ℤ) (a b : ℕ) (d e : Option Explanation) → a ≡ b
+    → IsSomeAnd d (Explains history ops initial a) → IsSomeAnd e (Explains history ops initial b) → stuck_point d ≡ stuck_point e
+same_explained history ops initial a b None e same x y = absurd x
+same_explained history ops initial a b (Some d) None same x y = absurd y
+same_explained history ops initial a b (Some d) (Some e) same x y =
     let one : operation d.completion ≡ operation e.completion =
     somes_same (operation d.completion) (operation e.completion) (sym x.completion ∙ ap (slice_get history) same ∙ y.completion) in
     let pending : d.pending.items ≡ e.pending.items = x.pending ∙ ap (numbers_pending ops) same ∙ sym y.pending in
     λ i. Some (one i, pending i)
 
 same_stuck : (explain : Bool) (history : List Operation) (ops : List RegOp) (initial : Option ℤ) (budget : ℕ) (a b : LinVerdict) (d e : Option Explanation)
-    → IsJudged ops initial budget a → IsJudged ops initial budget b → IsExplained explain history ops a d → IsExplained explain history ops b e
+    → IsJudged ops initial budget a → IsJudged ops initial budget b → IsExplained explain history ops initial a d → IsExplained explain history ops initial b e
     → verdict_of_register a ≡ Verdict.False → verdict_of_register b ≡ Verdict.False → stuck_point d ≡ stuck_point e
 same_stuck true history ops initial budget (Invalid a) (Invalid b) d e x y m n no_a no_b =
-    same_explained history ops a.end b.end d e (same_end ops initial a b x.2 y.2) m n
+    same_explained history ops initial a.end b.end d e (same_end ops initial a b x.2 y.2) m n
 same_stuck false history ops initial budget (Invalid a) (Invalid b) d e x y m n no_a no_b = ap stuck_point (m ∙ sym n)
 same_stuck explain history ops initial budget (Invalid a) (Valid order) d e x y m n no_a no_b = absurd cc
 same_stuck explain history ops initial budget (Invalid a) (Unknown reached) d e x y m n no_a no_b = absurd cc
@@ -168,7 +168,7 @@ linear_stuck : (object : Object) (initial : Option ℤ) (judging : Judging) (his
     → IsLinear object initial judging history a d → IsLinear object initial judging history b e
     → verdict_of_register a ≡ Verdict.False → verdict_of_register b ≡ Verdict.False → stuck_point d ≡ stuck_point e
 linear_stuck object initial judging history a b d e x y no_a no_b =
-    let Q : List RegOp → Type 0 = λ ops. IsJudged ops initial judging.budget b × IsExplained judging.explain history ops b e in
+    let Q : List RegOp → Type 0 = λ ops. IsJudged ops initial judging.budget b × IsExplained judging.explain history ops initial b e in
     let also = subst Q (operations_one object history y.0 x.0 y.1 x.1) (y.2, y.3) in
     same_stuck judging.explain history x.0 initial judging.budget a b d e x.2 also.0 x.3 also.1 no_a no_b
 

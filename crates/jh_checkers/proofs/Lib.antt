@@ -2,3 +2,4 @@ pub mod LineLawLemmas
 pub mod LawLemmas
 pub mod StuckLemmas
 pub mod RefusalLemmas
+pub mod BecauseLemmas

@@ -83,7 +83,7 @@ abbrev pub IsLinear : Object → Option ℤ → Judging → List Operation → L
 IsLinear object initial judging history judged explanation =
     (ops : List RegOp) × AreObjectOps object history ops
     × IsJudged ops initial judging.budget judged
-    × IsExplained judging.explain history ops judged explanation
+    × IsExplained judging.explain history ops initial judged explanation
     × (WriteOnce ops initial → 0 < judging.budget → IsDecided judged)
 
 -- what a mutex holds at first, as the register that it is judged as

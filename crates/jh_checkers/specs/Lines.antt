@@ -23,6 +23,8 @@ use Rattle.jh_queue.specs.Lines.{queue_value}
 use Rattle.jh_set_full.specs.Lines.{set_full_value}
 use Rattle.jh_total_queue.specs.Lines.{total_queue_value}
 use Rattle.jh_txn_findings.specs.Lines.{txn_finding_value}
+use Rattle.jh_unique.specs.declared.verdict.UniqueReason.{UniqueReason}
+use Rattle.jh_unique.specs.declared.verdict.UniqueReason.TheVariants.{Nowhere, FromOne, Behind}
 
 -- the numbers of operations, which are places among the pairs, as a vector
 abbrev pub order_value : List ℕ → Edn
@@ -33,14 +35,40 @@ abbrev pub held_value : Option ℤ → Edn
 held_value None = nil
 held_value (Some number) = int number
 
--- Where a history is stuck: at a completion, written as operations are; behind an order, which of a
--- register leads to a value; and what is pending there.
-abbrev pub stuck_pairs : Object → Stuck → Explanation → List (Edn × Edn)
-stuck_pairs Object.Register stuck explanation =
+-- the name of a reason why a register has no order
+abbrev pub reason_name : UniqueReason → List ℕ
+reason_name (Nowhere number) = codes "no-origin"
+reason_name (FromOne first second) = codes "replaced-twice"
+reason_name (Behind first second) = codes "out-of-order"
+
+-- the operations that such a reason names
+abbrev pub named_by_reason : UniqueReason → List ℕ
+named_by_reason (Nowhere number) = number ∷ []
+named_by_reason (FromOne first second) = first ∷ second ∷ []
+named_by_reason (Behind first second) = first ∷ second ∷ []
+
+-- a reason with the operations that it names, where there is one
+abbrev pub because_pairs : Option UniqueReason → List (Edn × Edn)
+because_pairs None = []
+because_pairs (Some reason) =
+    (keyword (codes "because"), keyword (reason_name reason))
+    ∷ (keyword (codes "named"), order_value (named_by_reason reason)) ∷ []
+
+-- Where a register is stuck: at a completion, written as operations are; behind an order, which leads
+-- to a value; what is pending there, and why.
+abbrev pub stuck_register_pairs : Stuck → Explanation → Option UniqueReason → List (Edn × Edn)
+stuck_register_pairs stuck explanation because =
     (keyword (codes "stuck"), value_written (operation explanation.completion))
     ∷ (keyword (codes "order"), order_value stuck.order)
     ∷ (keyword (codes "value"), held_value stuck.value)
-    ∷ (keyword (codes "pending"), order_value explanation.pending.items) ∷ []
+    ∷ (keyword (codes "pending"), order_value explanation.pending.items)
+    ∷ because_pairs because
+
+-- Where an object is stuck. A mutex shows no value. It has no reason either: where it has no order,
+-- what it holds is written twice, or as it is at first.
+abbrev pub stuck_pairs : Object → Stuck → Explanation → List (Edn × Edn)
+stuck_pairs Object.Register stuck explanation =
+    stuck_register_pairs stuck explanation explanation.because
 stuck_pairs Object.Mutex stuck explanation =
     (keyword (codes "stuck"), value_written (operation explanation.completion))
     ∷ (keyword (codes "order"), order_value stuck.order)

@@ -7,7 +7,7 @@ use Rattle.jh_ops.specs.Operation.{operation}
 use Rattle.jh_ops.specs.OperationWritten.{value_written}
 use Rattle.jh_check.specs.Lines.{verdict_value}
 use Rattle.jh_check.specs.declared.verdict.Verdict.{Verdict}
-use Rattle.jh_checkers.specs.Lines.{order_value}
+use Rattle.jh_checkers.specs.Lines.{held_value, order_value}
 use Rattle.jh_checkers.specs.declared.explanation.Explanation.{Explanation}
 use Rattle.jh_linear.specs.declared.verdict.Stuck.{Stuck}
 
@@ -18,7 +18,14 @@ stuck_opening stuck explanation =
     ++ behind_pair_text (codes "stuck") (value_written (operation explanation.completion)))
     ++ behind_pair_text (codes "order") (order_value stuck.order)
 
--- from what is pending on
+-- of a register, up to what is pending
+abbrev pub stuck_register_opening : Stuck → Explanation → List ℕ
+stuck_register_opening stuck explanation =
+    (stuck_opening stuck explanation
+    ++ behind_pair_text (codes "value") (held_value stuck.value))
+    ++ behind_pair_text (codes "pending") (order_value explanation.pending.items)
+
+-- of a mutex, from what is pending on
 abbrev pub stuck_end : Explanation → List ℕ
 stuck_end explanation =
     behind_pair_text (codes "pending") (order_value explanation.pending.items) ++ codes "}"

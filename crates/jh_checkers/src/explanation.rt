@@ -3,14 +3,18 @@
 
 ghost use Rattle.std.specs.Prelude.{◌≡◌, ◌<◌, IfOk, length};
 ghost use Rattle.jh_ops.specs.Operation.{operations};
+ghost use Rattle.jh_linear.specs.Order.{EndAfterInvoked};
 ghost use Rattle.jh_linear.specs.Stuck as stuck;
+ghost use Rattle.jh_linear.specs.Verdict.{HaveNoOrder};
 ghost use Rattle.jh_linear.specs.declared.verdict.LinVerdict.TheVariants.{Invalid};
 ghost use Rattle.jh_linear.specs.declared.verdict.Stuck.{Stuck};
 ghost use Rattle.jh_checkers.specs.Explanations as rule;
-ghost use Rattle.jh_checkers.specs.Explanations.{Explains, IsExplained};
+ghost use Rattle.jh_checkers.specs.Explanations.{Explains, IsBecause, IsExplained};
+ghost use Rattle.jh_checkers.specs.Lines as lines;
 
 use jh_linear::{LinVerdict, Outcome, RegOp, op_end};
 use jh_ops::Op;
+use jh_unique::{UniqueReason, UniqueVerdict, judge_unique};
 use std::alloc::{AllocError, Global};
 
 /// What stands beside the verdict on a history of a register that is not valid, where it is asked
@@ -23,6 +27,22 @@ pub struct Explanation {
     /// it, and none that failed. They ascend, and are places among the pairs, as in orders. Those
     /// of unknown outcome are among them, unlike in a configuration of `jh_linear`.
     pub pending: Vec<usize>,
+    /// Why no order exists, where each value is written once, and none elsewhere. Its operations go
+    /// by their numbers too. A mutex has none, since what it holds repeats.
+    pub because: Option<UniqueReason>,
+}
+
+/// The numbers of the operations that a reason names: one, or two.
+///
+/// Errors: out of memory.
+pub fn named_by_reason(alloc: Global, reason: UniqueReason) -> Result<Vec<usize>, AllocError>
+    ensures { IfOk result (λ named. named.items ≡ lines.named_by_reason reason) }
+{
+    match reason {
+        UniqueReason::Nowhere(number) => Ok(vec![in alloc; number]?),
+        UniqueReason::FromOne(first, second) => Ok(vec![in alloc; first, second]?),
+        UniqueReason::Behind(first, second) => Ok(vec![in alloc; first, second]?),
+    }
 }
 
 /// Whether an operation is still open at a place of the history.
@@ -54,38 +74,65 @@ fn pending_at(alloc: Global, ops: &[RegOp], end: usize) -> Result<Vec<usize>, Al
         .collect(alloc)
 }
 
+/// Why operations that have no order have none: the reason that the judge of values that are written
+/// once names, and none where some value is not.
+fn reason_of(
+    alloc: Global,
+    ops: &[RegOp],
+    initial: Option<i64>,
+) -> Result<Option<UniqueReason>, AllocError>
+    requires ends { EndAfterInvoked ops.now }
+    requires none { HaveNoOrder ops.now initial }
+    ensures { IfOk result (IsBecause ops.now initial) }
+{
+    match judge_unique(alloc, ops, initial)? {
+        UniqueVerdict::Invalid(reason) => Ok(Some(reason)),
+        UniqueVerdict::Valid(_) => Ok(None),
+        UniqueVerdict::Repeated(_, _) => Ok(None),
+        UniqueVerdict::WritesInitial(_) => Ok(None),
+    }
+}
+
 /// The explanation of a history that is stuck at this place.
 fn explanation_at(
     alloc: Global,
     history: &[Op],
     ops: &[RegOp],
+    initial: Option<i64>,
     end: usize,
 ) -> Result<Explanation, AllocError>
-    requires { end < length history.now }
-    ensures { IfOk result (Explains (operations history.now) ops.now end) }
+    requires within { end < length history.now }
+    requires ends { EndAfterInvoked ops.now }
+    requires none { HaveNoOrder ops.now initial }
+    ensures { IfOk result (Explains (operations history.now) ops.now initial end) }
 {
     Ok(Explanation {
         completion: history[end].copy(alloc)?,
         pending: pending_at(alloc, ops, end)?,
+        because: reason_of(alloc, ops, initial)?,
     })
 }
 
 /// The explanation that stands beside a verdict, where one is asked for or not.
 ///
-/// Takes time linear in the operations, and copies one of them.
+/// Takes time in the order of n log n for n operations, and copies one of them.
 pub(crate) fn explained(
     alloc: Global,
     explain: bool,
     history: &[Op],
     ops: &[RegOp],
+    initial: Option<i64>,
     judged: &LinVerdict,
 ) -> Result<Option<Explanation>, AllocError>
-    requires { (stuck : Stuck) → judged.now ≡ Invalid stuck → stuck.end < length history.now }
-    ensures { IfOk result (IsExplained explain (operations history.now) ops.now judged.now) }
+    requires within { (stuck : Stuck) → judged.now ≡ Invalid stuck → stuck.end < length history.now }
+    requires ends { EndAfterInvoked ops.now }
+    requires none { (stuck : Stuck) → judged.now ≡ Invalid stuck → HaveNoOrder ops.now initial }
+    ensures { IfOk result
+        (IsExplained explain (operations history.now) ops.now initial judged.now) }
 {
     match judged {
         LinVerdict::Invalid(stuck) if explain => {
-            Ok(Some(explanation_at(alloc, history, ops, stuck.end)?))
+            Ok(Some(explanation_at(alloc, history, ops, initial, stuck.end)?))
         }
         _ => Ok(None),
     }

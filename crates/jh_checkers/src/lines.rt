@@ -1,6 +1,6 @@
 //! The one line of what is found in a history. `specs/Lines.antt` has the rule.
 
-ghost use Rattle.std.specs.Prelude.{◌≡◌, [], ◌∷◌, IfErr, OnOk, codes};
+ghost use Rattle.std.specs.Prelude.{◌≡◌, [], ◌∷◌, IfErr, OnOk, codes, Some, None};
 ghost use Rattle.std.specs.Io.KnownBytes.{Appends};
 ghost use Rattle.jh_edn.specs.Edn.{keyword};
 ghost use Rattle.jh_edn.specs.Parts.{behind_pair_text};
@@ -8,13 +8,13 @@ ghost use Rattle.jh_edn.specs.Print.{print};
 ghost use Rattle.jh_check.specs.Lines.{map_with_verdict};
 ghost use Rattle.jh_checkers.specs.Lines as rule;
 ghost use Rattle.jh_checkers.specs.Lines.{finding_line, object_value, order_value, others_of};
-ghost use Rattle.jh_checkers.specs.Lines.{stuck_pairs};
+ghost use Rattle.jh_checkers.specs.Lines.{stuck_pairs, stuck_register_pairs};
 ghost use Rattle.jh_checkers.specs.LinesInside as inside;
 
 use crate::explanation::Explanation;
 use crate::finding::Finding;
 use jh_bank::write_bank;
-use jh_check::{Verdict, write_counter, write_ids, write_set, write_verdict};
+use jh_check::{Verdict, write_counter, write_ids, write_keyword, write_set, write_verdict};
 use jh_edn::{EdnError, put, write_part};
 use jh_fifo_check::write_fifo;
 use jh_linear::{LinVerdict, Linearization, Object, Stuck};
@@ -23,6 +23,7 @@ use jh_queue::write_queue;
 use jh_set_full::write_set_full;
 use jh_total_queue::write_total_queue;
 use jh_txn_findings::write_txn_finding;
+use jh_unique::UniqueReason;
 use std::io::Write;
 
 /// Writes what a register holds, behind other pairs.
@@ -65,13 +66,85 @@ fn write_stuck_opening<W: Write>(
     write_part("order", stuck.order.as_slice(), writer)
 }
 
-/// Writes the end of that line, from what is pending on.
+/// Writes the end of the line of a mutex, from what is pending on.
 fn write_stuck_end<W: Write>(explanation: &Explanation, writer: &mut W) -> Result<(), EdnError>
     ensures bytes { OnOk result (Appends (W.contents writer.old) (W.contents writer.new)
         (inside.stuck_end explanation.now)) }
     ensures error { IfErr result (λ e. e ≡ EdnError.Write) }
 {
     write_part("pending", explanation.pending.as_slice(), writer)?;
+    put(b"}", writer)
+}
+
+/// The name of a reason, as the line has it, without its colon.
+fn reason_name(reason: UniqueReason) -> &'static str
+    ensures { result.now ≡ rule.reason_name reason }
+{
+    match reason {
+        UniqueReason::Nowhere(_) => "no-origin",
+        UniqueReason::FromOne(_, _) => "replaced-twice",
+        UniqueReason::Behind(_, _) => "out-of-order",
+    }
+}
+
+/// Writes which operations a reason names, behind other pairs.
+fn write_named<W: Write>(reason: UniqueReason, writer: &mut W) -> Result<(), EdnError>
+    ensures bytes { OnOk result (Appends (W.contents writer.old) (W.contents writer.new)
+        (behind_pair_text (codes "named") (order_value (rule.named_by_reason reason)))) }
+    ensures error { IfErr result (λ e. e ≡ EdnError.Write) }
+{
+    match reason {
+        UniqueReason::Nowhere(number) => write_part("named", &[number], writer),
+        UniqueReason::FromOne(first, second) => write_part("named", &[first, second], writer),
+        UniqueReason::Behind(first, second) => write_part("named", &[first, second], writer),
+    }
+}
+
+/// Writes the opening of the line of a register that has no order, up to what is pending.
+fn write_stuck_register_opening<W: Write>(
+    stuck: &Stuck,
+    explanation: &Explanation,
+    writer: &mut W,
+) -> Result<(), EdnError>
+    ensures bytes { OnOk result (Appends (W.contents writer.old) (W.contents writer.new)
+        (inside.stuck_register_opening stuck.now explanation.now)) }
+    ensures error { IfErr result (λ e. e ≡ EdnError.Write) }
+{
+    write_stuck_opening(stuck, explanation, writer)?;
+    write_held(stuck.value, writer)?;
+    write_part("pending", explanation.pending.as_slice(), writer)
+}
+
+/// Writes the line of a register that has no order, with its explanation but no reason.
+fn write_without_reason<W: Write>(
+    stuck: &Stuck,
+    explanation: &Explanation,
+    writer: &mut W,
+) -> Result<(), EdnError>
+    ensures bytes { OnOk result (Appends (W.contents writer.old) (W.contents writer.new)
+        (print (map_with_verdict Verdict.False
+        (stuck_register_pairs stuck.now explanation.now None)))) }
+    ensures error { IfErr result (λ e. e ≡ EdnError.Write) }
+{
+    write_stuck_register_opening(stuck, explanation, writer)?;
+    put(b"}", writer)
+}
+
+/// Writes the line of a register that has no order, with its explanation and the reason.
+fn write_with_reason<W: Write>(
+    stuck: &Stuck,
+    explanation: &Explanation,
+    reason: UniqueReason,
+    writer: &mut W,
+) -> Result<(), EdnError>
+    ensures bytes { OnOk result (Appends (W.contents writer.old) (W.contents writer.new)
+        (print (map_with_verdict Verdict.False
+        (stuck_register_pairs stuck.now explanation.now (Some reason))))) }
+    ensures error { IfErr result (λ e. e ≡ EdnError.Write) }
+{
+    write_stuck_register_opening(stuck, explanation, writer)?;
+    write_keyword("because", reason_name(reason), writer)?;
+    write_named(reason, writer)?;
     put(b"}", writer)
 }
 
@@ -86,9 +159,10 @@ fn write_stuck_register<W: Write>(
         (stuck_pairs Object.Register stuck.now explanation.now)))) }
     ensures error { IfErr result (λ e. e ≡ EdnError.Write) }
 {
-    write_stuck_opening(stuck, explanation, writer)?;
-    write_held(stuck.value, writer)?;
-    write_stuck_end(explanation, writer)
+    match explanation.because {
+        Some(reason) => write_with_reason(stuck, explanation, reason, writer),
+        None => write_without_reason(stuck, explanation, writer),
+    }
 }
 
 /// Writes the line of a mutex that has no order, with its explanation.
@@ -178,8 +252,11 @@ fn write_object<W: Write>(
 /// is explained:
 /// `{:valid? false, :stuck {..}, :order [..], :value V, :pending [..]}`, with the completion at
 /// which it is stuck, an order of what is before it, the value that this leads to, and what is
-/// pending there. That of a mutex is the same without `:value`. Orders, and what is pending, are the
-/// numbers of operations: their places among the pairs, and not in the history.
+/// pending there. Where each value is written once, `, :because K, :named [..]` stands behind that:
+/// `:no-origin`, `:replaced-twice` or `:out-of-order`, with the operations that show it
+/// (`UniqueReason` says how). That of a mutex is the same without `:value` and a reason. Orders, what is
+/// pending and what is named are the numbers of operations: their places among the pairs, and not in
+/// the history.
 ///
 /// Takes no memory. The writer may have taken a part of the line where it failed.
 ///

@@ -59,7 +59,7 @@ fn judged_object(
         Err(error) => return Err(error_of(error)),
     };
     let judged = jh_unique::check_register(alloc, &ops, initial, judging.budget)?;
-    let explanation = explained(alloc, judging.explain, history, &ops, &judged)?;
+    let explanation = explained(alloc, judging.explain, history, &ops, initial, &judged)?;
     Ok((judged, explanation))
 }
 

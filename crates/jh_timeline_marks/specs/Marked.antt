@@ -17,6 +17,7 @@ use Rattle.jh_check.specs.Distinct.{has_same_value, set_of}
 use Rattle.jh_check.specs.SetResults.{acknowledged_values, elements_shown, final_read}
 use Rattle.jh_check.specs.declared.counter.ReadBounds.{ReadBounds}
 use Rattle.jh_check.specs.declared.set.SetFound.{SetFound}
+use Rattle.jh_checkers.specs.Lines.{named_by_reason}
 use Rattle.jh_checkers.specs.declared.explanation.Explanation.{Explanation}
 use Rattle.jh_checkers.specs.declared.finding.Finding.{Finding}
 use Rattle.jh_checkers.specs.declared.finding.Finding.TheVariants.{Set, Counter, Ids, Register}
@@ -152,11 +153,23 @@ abbrev pub is_pending_call : Option Explanation → List Operation → Call → 
 is_pending_call explanation history call =
     is_some (place_in (pending_numbers_in explanation) history call)
 
--- Of a no: that the history is stuck at its completion, or that it is pending there, with its place
--- in the order of what is before, or its place there.
+-- the numbers of what the reason names why there is no order, where one is given
+abbrev pub named_numbers_in : Option Explanation → List ℕ
+named_numbers_in explanation =
+    option_map_or named_by_reason (option_and_then (λ shown. shown.because) explanation) []
+
+-- it is named by that reason
+abbrev pub is_named_call : Option Explanation → List Operation → Call → Bool
+is_named_call explanation history call =
+    is_some (place_in (named_numbers_in explanation) history call)
+
+-- Of a no: that the history is stuck at its completion, or that the reason names it, or that it is
+-- pending where the history is stuck, with its place in the order of what is before, or its place
+-- there.
 abbrev pub stuck_note : Stuck → Option Explanation → List Operation → Call → Option Note
 stuck_note stuck explanation history call =
     if is_completed_at stuck.end call then Some Note.Stuck
+    else if is_named_call explanation history call then Some Note.Named
     else if is_pending_call explanation history call
     then Some (Note.Pending (option_map (place_along (held_along history stuck.order))
     (place_in stuck.order history call)))

@@ -46,9 +46,11 @@ pair_with Kind.Invoke place next = record { invoke = place; outcome = next } ∷
 pair_with _ place next = []
 
 -- the note of a call where a history is stuck, with this place in the order of what is before
-abbrev pub stuck_note_with : ℕ → Bool → Option Place → Call → Option Note
-stuck_note_with end pending place call =
-    if is_completed_at end call then Some Note.Stuck else if pending then Some (Note.Pending place)
+abbrev pub stuck_note_with : (end : ℕ) → (named pending : Bool) → Option Place → Call → Option Note
+stuck_note_with end named pending place call =
+    if is_completed_at end call then Some Note.Stuck
+    else if named then Some Note.Named
+    else if pending then Some (Note.Pending place)
     else option_map Note.Placed place
 
 -- the bounds of the read that is completed at an index, by the places of ends

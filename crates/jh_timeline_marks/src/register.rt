@@ -11,7 +11,7 @@ use crate::notes::{no_marks, push_note};
 use crate::operations::is_completed_at;
 use crate::orders::{numbers_of, placed, placed_marks};
 use crate::places::{place_through, places_of};
-use jh_checkers::Explanation;
+use jh_checkers::{Explanation, named_by_reason};
 use jh_linear::{LinVerdict, Stuck};
 use jh_ops::Op;
 use jh_timeline::{Call, Mark, Note, Place};
@@ -27,12 +27,33 @@ fn pending_in(explanation: &Option<Explanation>) -> &[usize]
     }
 }
 
+/// The numbers of what the reason names why there is no order, where one is given.
+fn named_in(alloc: Global, explanation: &Option<Explanation>) -> Result<Vec<usize>, AllocError>
+    ensures { IfOk result (λ named. named.items ≡ rule.named_numbers_in explanation.now) }
+{
+    let Some(given) = explanation else {
+        return Ok(Vec::new(alloc));
+    };
+    match given.because {
+        Some(reason) => named_by_reason(alloc, reason),
+        None => Ok(Vec::new(alloc)),
+    }
+}
+
 /// The note of a call where a history is stuck, with this place in the order of what is before.
-fn stuck_note(end: usize, pending: bool, place: Option<Place>, call: &Call) -> Option<Note>
-    ensures { result ≡ inside.stuck_note_with end pending place call.now }
+fn stuck_note(
+    end: usize,
+    named: bool,
+    pending: bool,
+    place: Option<Place>,
+    call: &Call,
+) -> Option<Note>
+    ensures { result ≡ inside.stuck_note_with end named pending place call.now }
 {
     if is_completed_at(end, call) {
         Some(Note::Stuck)
+    } else if named {
+        Some(Note::Named)
     } else if pending {
         Some(Note::Pending(place))
     } else {
@@ -40,8 +61,8 @@ fn stuck_note(end: usize, pending: bool, place: Option<Place>, call: &Call) -> O
     }
 }
 
-/// Marks at the call where the history is stuck, at what is pending there, and at what the order
-/// before it has.
+/// Marks at the call where the history is stuck, at what the reason names, at what is pending there,
+/// and at what the order before it has.
 fn invalid_marks(
     alloc: Global,
     stuck: &Stuck,
@@ -53,14 +74,17 @@ fn invalid_marks(
         ≡ marks_by (rule.stuck_note stuck.now explanation.now (operations history.now)) calls.now) }
 {
     let numbers = numbers_of(alloc, history)?;
+    let named_numbers = named_in(alloc, explanation)?;
+    let named = places_of(alloc, &named_numbers)?;
     let pending = places_of(alloc, pending_in(explanation))?;
     let places = places_of(alloc, stuck.order.as_slice())?;
     let held = held_along(alloc, history, stuck.order.as_slice())?;
     let mut marks = Vec::new(alloc);
     for (number, call) in calls.iter().enumerate() {
+        let is_named = place_through(&numbers, &named, call.first).is_some();
         let is_pending = place_through(&numbers, &pending, call.first).is_some();
         let place = place_along(&held, place_through(&numbers, &places, call.first));
-        let note = stuck_note(stuck.end, is_pending, place, call);
+        let note = stuck_note(stuck.end, is_named, is_pending, place, call);
         push_note(note, number, &mut marks)?;
     }
     Ok(marks)

@@ -14,6 +14,9 @@ loop-number-preserved c =
     let call = get_or c.args.calls.now l.number d in
     let history = operations c.args.history.now in
     let known = invocations_of history in
+    let named = c.is_some-is_named.ensures ∙ ap is_some (c.place_through-in-loop-number.ensures
+    ∙ through c.in_ok-numbers.numbers c.in_ok-named.named known _ call.first c.in_ok-numbers.ensures c.in_ok-named.ensures
+    ∙ ap (λ numbers. option_and_then (place_among numbers) (place_among known call.first)) (c.deref.ensures.value ∙ c.in_ok-named_numbers.ensures)) in
     let pending = c.is_some-is_pending.ensures ∙ ap is_some (c.place_through.ensures
     ∙ through c.in_ok-numbers.numbers c.in_ok-pending.pending known _ call.first c.in_ok-numbers.ensures c.in_ok-pending.ensures
     ∙ ap (λ numbers. option_and_then (place_among numbers) (place_among known call.first)) c.pending_in.ensures) in
@@ -25,4 +28,4 @@ loop-number-preserved c =
     marks_more (stuck_note c.args.stuck.now c.args.explanation.now history) c.args.calls.now l.number d l.marks.items c.push_note.new.marks.items
     c.loop-number-test.true l.invariant
     (c.in_ok-push_note.ensures ∙ ap (λ note. l.marks.items ++ option_to_list (mark_at l.number note))
-    (c.stuck_note-note.ensures ∙ (λ i. stuck_note_with c.args.stuck.now.end (pending i) (place i) call)))
+    (c.stuck_note-note.ensures ∙ (λ i. stuck_note_with c.args.stuck.now.end (named i) (pending i) (place i) call)))
