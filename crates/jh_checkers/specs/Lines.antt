@@ -36,23 +36,23 @@ held_value None = nil
 held_value (Some number) = int number
 
 -- the name of a reason why a register has no order
-abbrev pub reason_name : UniqueReason → List ℕ
-reason_name (Nowhere number) = codes "no-origin"
-reason_name (FromOne first second) = codes "replaced-twice"
-reason_name (Behind first second) = codes "out-of-order"
+abbrev pub unique_reason_name : UniqueReason → List ℕ
+unique_reason_name (Nowhere number) = codes "no-origin"
+unique_reason_name (FromOne first second) = codes "replaced-twice"
+unique_reason_name (Behind first second) = codes "out-of-order"
 
 -- the operations that such a reason names
-abbrev pub named_by_reason : UniqueReason → List ℕ
-named_by_reason (Nowhere number) = number ∷ []
-named_by_reason (FromOne first second) = first ∷ second ∷ []
-named_by_reason (Behind first second) = first ∷ second ∷ []
+abbrev pub named_by_unique_reason : UniqueReason → List ℕ
+named_by_unique_reason (Nowhere number) = number ∷ []
+named_by_unique_reason (FromOne first second) = first ∷ second ∷ []
+named_by_unique_reason (Behind first second) = first ∷ second ∷ []
 
 -- a reason with the operations that it names, where there is one
 abbrev pub because_pairs : Option UniqueReason → List (Edn × Edn)
 because_pairs None = []
 because_pairs (Some reason) =
-    (keyword (codes "because"), keyword (reason_name reason))
-    ∷ (keyword (codes "named"), order_value (named_by_reason reason)) ∷ []
+    (keyword (codes "because"), keyword (unique_reason_name reason))
+    ∷ (keyword (codes "named"), order_value (named_by_unique_reason reason)) ∷ []
 
 -- Where a register is stuck: at a completion, written as operations are; behind an order, which leads
 -- to a value; what is pending there, and why.

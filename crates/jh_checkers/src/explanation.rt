@@ -35,8 +35,8 @@ pub struct Explanation {
 /// The numbers of the operations that a reason names: one, or two.
 ///
 /// Errors: out of memory.
-pub fn named_by_reason(alloc: Global, reason: UniqueReason) -> Result<Vec<usize>, AllocError>
-    ensures { IfOk result (λ named. named.items ≡ lines.named_by_reason reason) }
+pub fn named_by_unique_reason(alloc: Global, reason: UniqueReason) -> Result<Vec<usize>, AllocError>
+    ensures { IfOk result (λ named. named.items ≡ lines.named_by_unique_reason reason) }
 {
     match reason {
         UniqueReason::Nowhere(number) => Ok(vec![in alloc; number]?),

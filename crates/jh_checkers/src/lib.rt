@@ -16,7 +16,7 @@ mod register;
 mod transactions;
 
 pub use checker::Checker;
-pub use explanation::{Explanation, named_by_reason};
+pub use explanation::{Explanation, named_by_unique_reason};
 pub use finding::{Finding, Judging, check_history};
 pub use laws::findings_agree;
 pub use lines::write_finding;

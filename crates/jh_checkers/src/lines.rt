@@ -77,8 +77,8 @@ fn write_stuck_end<W: Write>(explanation: &Explanation, writer: &mut W) -> Resul
 }
 
 /// The name of a reason, as the line has it, without its colon.
-fn reason_name(reason: UniqueReason) -> &'static str
-    ensures { result.now ≡ rule.reason_name reason }
+fn unique_reason_name(reason: UniqueReason) -> &'static str
+    ensures { result.now ≡ rule.unique_reason_name reason }
 {
     match reason {
         UniqueReason::Nowhere(_) => "no-origin",
@@ -90,7 +90,7 @@ fn reason_name(reason: UniqueReason) -> &'static str
 /// Writes which operations a reason names, behind other pairs.
 fn write_named<W: Write>(reason: UniqueReason, writer: &mut W) -> Result<(), EdnError>
     ensures bytes { OnOk result (Appends (W.contents writer.old) (W.contents writer.new)
-        (behind_pair_text (codes "named") (order_value (rule.named_by_reason reason)))) }
+        (behind_pair_text (codes "named") (order_value (rule.named_by_unique_reason reason)))) }
     ensures error { IfErr result (λ e. e ≡ EdnError.Write) }
 {
     match reason {
@@ -143,7 +143,7 @@ fn write_with_reason<W: Write>(
     ensures error { IfErr result (λ e. e ≡ EdnError.Write) }
 {
     write_stuck_register_opening(stuck, explanation, writer)?;
-    write_keyword("because", reason_name(reason), writer)?;
+    write_keyword("because", unique_reason_name(reason), writer)?;
     write_named(reason, writer)?;
     put(b"}", writer)
 }

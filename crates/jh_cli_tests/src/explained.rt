@@ -12,13 +12,13 @@ fn registers_say_where_they_are_stuck(rt: HostRuntime) {
 {:index 1, :type :invoke, :process 1, :f :read, :value nil}
 {:index 2, :type :ok, :process 1, :f :read, :value 5} {:index 3, :type :fail, :process 0, :f :write, :value 5}
 → 1
-{:valid? false, :stuck {:index 2, :type :ok, :process 1, :f :read, :value 5}, :order [], :value 0, :pending [1]}
+{:valid? false, :stuck {:index 2, :type :ok, :process 1, :f :read, :value 5}, :order [], :value 0, :pending [1], :because :no-origin, :named [1]}
 § {:type :invoke, :process 0, :f :cas, :value [7 8]} {:type :info, :process 0, :f :cas, :value [7 8], :error :timeout}
 {:type :invoke, :process 1, :f :write, :value 1} {:type :ok, :process 1, :f :write, :value 1}
 {:type :invoke, :process 1, :f :cas, :value (2 3)} {:type :info, :process :nemesis, :f :start, :value 7}
 #op {:index 6, :time 9, :type :ok, :process 1, :f :cas, :value (2 3), :node "n1", :latency [3 :ms]}
 → 1
-{:valid? false, :stuck {:index 6, :time 9, :type :ok, :process 1, :f :cas, :value (2 3), :node "n1", :latency [3 :ms]}, :order [1], :value 1, :pending [0 2]}
+{:valid? false, :stuck {:index 6, :time 9, :type :ok, :process 1, :f :cas, :value (2 3), :node "n1", :latency [3 :ms]}, :order [1], :value 1, :pending [0 2], :because :no-origin, :named [2]}
 § {:type :invoke, :process 0, :f :read} {:type :ok, :process 0, :f :read, :value 0} → 0
 {:valid? true, :order [0]}
 § {:type :invoke, :process 0, :f :add, :value 1} → 3 operation 0: bad value
@@ -47,8 +47,8 @@ const STALE: &str = r#"
 
 /// Its line behind the completion, with the write and without it.
 const WITH_OR_WITHOUT: [&str; 2] = [
-    ":order [0 2 1], :value 4, :pending [3 5]}",
-    ":order [0 2 1 3], :value 1, :pending [3 5]}",
+    ":order [0 2 1], :value 4, :pending [3 5], :because :out-of-order, :named [5 1]}",
+    ":order [0 2 1 3], :value 1, :pending [3 5], :because :out-of-order, :named [5 1]}",
 ];
 
 fn is_stale_line<T: Threads + Wait + Sync>(rt: &T, alloc: Global, behind: &str) -> Option<bool> {
@@ -84,7 +84,7 @@ const TWO_KEYS: &str = r#"
 fn keys_say_where_they_are_stuck(rt: HostRuntime) {
     let line = "1\n\
         {:valid? false, :keys [[1 {:valid? false, :stuck {:index 4, :type :ok, :process 1, :f :read, :value 9, :node \"n3\"}, \
-        :order [], :value nil, :pending [0]}] [2 {:valid? true, :order [0]}]]}\n";
+        :order [], :value nil, :pending [0], :because :no-origin, :named [0]}] [2 {:valid? true, :order [0]}]]}\n";
     for arguments in [
         "jeprun check --workload register --independent --explain",
         "jeprun check --workload register --independent --explain --threads 2",

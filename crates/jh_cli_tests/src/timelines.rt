@@ -131,9 +131,10 @@ All 4 records.
 {:index 2, :type :invoke, :process 1, :f :read, :value nil} {:index 3, :type :ok, :process 1, :f :read, :value 0}
 → 1
 <h1>Not valid: no order of all operations, stuck at index 3 (process 1: read 0)</h1>
-<pre>{:valid? false, :stuck {:index 3, :type :ok, :process 1, :f :read, :value 0}, :order [0], :value 1, :pending [1]}</pre>
+<pre>{:valid? false, :stuck {:index 3, :type :ok, :process 1, :f :read, :value 0}, :order [0], :value 1, :pending [1], :because :out-of-order, :named [1 0]}</pre>
 <g class="marks">
-<svg class="placed" x="240" y="0"
+<svg class="named" id="found-0-0" x="240" y="0" width="232" height="32">
+>named</text>
 <svg class="stuck" id="found-0-1" x="240" y="32" width="232" height="32">
 >stuck</text>
 !<svg

@@ -28,6 +28,7 @@ ghost use Rattle.jh_queue.specs.contracts.queue.QueueResult as queue;
 ghost use Rattle.jh_set_full.specs.contracts.set_full.SetFullResult as set_full;
 ghost use Rattle.jh_set_full.specs.contracts.stale.Stales as stales;
 ghost use Rattle.jh_total_queue.specs.contracts.total_queue.TotalQueueResult as total_queue;
+ghost use Rattle.jh_unique.specs.contracts.verdict.UniqueReason as unique_reason;
 
 use crate::split::KeyPlaces;
 use jh_check::{CounterResult, IdsResult, SetFound, SetResult, Tally};
@@ -40,6 +41,7 @@ use jh_ops::Op;
 use jh_set_full::{SetFullResult, Stales};
 use jh_total_queue::TotalQueueResult;
 use jh_txn_findings::TxnFinding;
+use jh_unique::UniqueReason;
 
 /// Tells the prover that values of a type can be sent to threads.
 fn can_be_sent<T: Send>()
@@ -133,11 +135,19 @@ fn verdicts_can_be_sent()
     can_be_sent::<LinVerdict>()
 }
 
+/// Why a register has no order.
+fn reasons_of_registers_can_be_sent()
+    ensures { IsSend unique_reason.the_row }
+{
+    can_be_sent::<UniqueReason>()
+}
+
 /// Explanations can be sent.
 fn explanations_can_be_sent()
     ensures { IsSend explanation.the_row }
 {
     operations_can_be_sent();
+    reasons_of_registers_can_be_sent();
     can_be_sent::<Explanation>()
 }
 

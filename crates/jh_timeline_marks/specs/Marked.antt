@@ -17,7 +17,7 @@ use Rattle.jh_check.specs.Distinct.{has_same_value, set_of}
 use Rattle.jh_check.specs.SetResults.{acknowledged_values, elements_shown, final_read}
 use Rattle.jh_check.specs.declared.counter.ReadBounds.{ReadBounds}
 use Rattle.jh_check.specs.declared.set.SetFound.{SetFound}
-use Rattle.jh_checkers.specs.Lines.{named_by_reason}
+use Rattle.jh_checkers.specs.Lines.{named_by_unique_reason}
 use Rattle.jh_checkers.specs.declared.explanation.Explanation.{Explanation}
 use Rattle.jh_checkers.specs.declared.finding.Finding.{Finding}
 use Rattle.jh_checkers.specs.declared.finding.Finding.TheVariants.{Set, Counter, Ids, Register}
@@ -156,7 +156,7 @@ is_pending_call explanation history call =
 -- the numbers of what the reason names why there is no order, where one is given
 abbrev pub named_numbers_in : Option Explanation → List ℕ
 named_numbers_in explanation =
-    option_map_or named_by_reason (option_and_then (λ shown. shown.because) explanation) []
+    option_map_or named_by_unique_reason (option_and_then (λ shown. shown.because) explanation) []
 
 -- it is named by that reason
 abbrev pub is_named_call : Option Explanation → List Operation → Call → Bool

@@ -11,7 +11,7 @@ use crate::notes::{no_marks, push_note};
 use crate::operations::is_completed_at;
 use crate::orders::{numbers_of, placed, placed_marks};
 use crate::places::{place_through, places_of};
-use jh_checkers::{Explanation, named_by_reason};
+use jh_checkers::{Explanation, named_by_unique_reason};
 use jh_linear::{LinVerdict, Stuck};
 use jh_ops::Op;
 use jh_timeline::{Call, Mark, Note, Place};
@@ -35,7 +35,7 @@ fn named_in(alloc: Global, explanation: &Option<Explanation>) -> Result<Vec<usiz
         return Ok(Vec::new(alloc));
     };
     match given.because {
-        Some(reason) => named_by_reason(alloc, reason),
+        Some(reason) => named_by_unique_reason(alloc, reason),
         None => Ok(Vec::new(alloc)),
     }
 }

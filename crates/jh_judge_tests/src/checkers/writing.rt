@@ -5,12 +5,13 @@ use crate::spelled::ops_of;
 use jh_checkers::{Explanation, Finding, write_finding};
 use jh_edn::EdnError;
 use jh_linear::{LinVerdict, Linearization, Stuck};
+use jh_unique::UniqueReason;
 use std::alloc::Global;
 
 /// The line of the finding below.
 const STUCK: &str =
     "{:valid? false, :stuck {:type :ok, :process :nemesis, :f :read, :value 5}, :order [2 0], :value -7, \
-    :pending [1 3]}";
+    :pending [1 3], :because :out-of-order, :named [3 1]}";
 
 /// What is found of a register that is stuck. None: memory was refused.
 fn stuck_finding(alloc: Global) -> Option<Finding> {
@@ -22,6 +23,7 @@ fn stuck_finding(alloc: Global) -> Option<Finding> {
     let explanation = Explanation {
         completion: ops_of(alloc, ":nemesis :ok :read 5")?.pop()?,
         pending: Vec::from_slice(alloc, &[1, 3]).ok()?,
+        because: Some(UniqueReason::Behind(3, 1)),
     };
     Some(Finding::Register {
         judged: LinVerdict::Invalid(stuck),

@@ -21,7 +21,7 @@ fn keys_say_where_they_are_stuck(rt: HostRuntime) -> Result<(), Fail> {
         0 :invoke :write [2 5]; 1 :invoke :read [1 nil]; 0 :ok :write [2 5]; 1 :ok :read [1 9]; 0 :invoke :read [2 nil]; \
         0 :ok :read [2 5] \
         => {:valid? false, :keys [[1 {:valid? false, :stuck {:type :ok, :process 1, :f :read, :value 9}, :order [], :value 0, \
-        :pending [0]}] [2 {:valid? true, :order [0 1]}]]}";
+        :pending [0], :because :no-origin, :named [0]}] [2 {:valid? true, :order [0 1]}]]}";
     ask_all(&rt, rt.alloc(), explained(Checker::Register), rows)
 }
 

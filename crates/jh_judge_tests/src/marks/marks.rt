@@ -21,14 +21,16 @@ fn marks_places(rt: HostRuntime) -> Result<(), Fail> {
     ask_all(rt.alloc(), explained(Checker::Register), rows)
 }
 
-/// The stuck call is pending too, and is marked as stuck alone. What is pending has its place,
-/// where the order has it.
+/// The stuck call is pending too, and is marked as stuck alone. What the reason names has no other
+/// mark. What is pending has its place, where the order has it.
 #[test]
 fn marks_where_it_is_stuck(rt: HostRuntime) -> Result<(), Fail> {
     let rows = "
         0 :invoke :write 5; 1 :invoke :read; 1 :ok :read 5; 0 :fail :write 5 => 1 stuck
-        0 :invoke :write 1; 0 :ok :write 1; 0 :invoke :write 2; 0 :ok :write 2; 1 :invoke :read; 1 :ok :read 1 \
-        => 0 placed 0 1; 1 placed 1 2; 2 stuck
+        0 :invoke :write 1; 0 :ok :write 1; 0 :invoke :read; 1 :invoke :read; 1 :ok :read 0; 0 :ok :read 1 \
+        => 0 named; 1 pending; 2 stuck
+        0 :invoke :write 1; 0 :ok :write 1; 0 :invoke :write 1; 0 :ok :write 1; 1 :invoke :read; 1 :ok :read 0 \
+        => 0 placed 0 1; 1 placed 1 1; 2 stuck
         0 :invoke :write 5; 1 :invoke :read; 1 :ok :read 5; 1 :invoke :read; 1 :ok :read 7 => 0 pending 0 5; 1 placed 1 5; 2 stuck
         0 :invoke :cas [7 8]; 1 :invoke :cas [8 9]; 1 :fail :cas [8 9]; 2 :invoke :read; 2 :ok :read 1; 3 :invoke :read; \
         3 :ok :read 0; 0 :fail :cas [7 8] => 2 stuck";
