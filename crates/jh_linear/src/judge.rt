@@ -6,7 +6,8 @@
 //! that the register then has. An operation that is linearized is said to be placed, and a list of
 //! operations as they are linearized is an order. A move (`moves.rt`) places one operation more.
 //! Each configuration is entered into the cache once (`search.rt`), and is expanded when its rank
-//! is the highest of those that wait (`queue.rt` has the ranks, and any others would do).
+//! is the highest of those that wait (`queue.rt` has the ranks, and any others would do). It is
+//! expanded twice, and at first only by the moves that are likely to lead on (`tried_at_first`).
 //!
 //! These prunings keep the search small. Each has a lemma, in `proofs/`, that it loses no order:
 //!
@@ -165,30 +166,47 @@ fn happened_in(moves: &[Move]) -> usize
     moves.len()
 }
 
-/// The first of two expansions: tries the moves of operations that are known to have happened, and
-/// lets the configuration wait for its second expansion.
+/// How many of the moves the first expansion tries, where this many place an operation that is known
+/// to have happened. Where all do, it is the first of them: mostly that one leads on, and what the
+/// others lead to is never wanted. Else it is this many.
+fn tried_at_first(happened: usize, moves: &[Move]) -> usize
+    requires { happened ≤ length moves.now }
+    ensures { result ≤ length moves.now }
+{
+    if happened == moves.len() {
+        happened.min(1)
+    } else {
+        happened
+    }
+}
+
+/// The first of two expansions: tries some of the moves, and lets the configuration wait for its
+/// second expansion, which may place an operation of unknown outcome or does not.
 fn put_off(
     alloc: Global,
     problem: &Problem,
     search: &mut Search,
     ranked: RankedConfig,
     config: &Config,
-    happened: &[Move],
+    moves: &[Move],
+    is_unsure: bool,
 ) -> Result<ExpansionEnd, AllocError>
     requires problem { IsProblem problem.now }
     requires begun { IsSearchSoFar problem.now search.old }
     requires reached { WasReached search.old ranked.at config.now }
-    requires moves { EachIsMove problem.now config.now happened.now }
+    requires moves { EachIsMove problem.now config.now moves.now }
     requires first { ranked.is_last ≡ false }
     ensures { IfOk result
         (λ end. ComesOfExpansion problem.now search.old search.new ranked end) }
 {
-    search.waiting.push(second_expansion(problem, ranked))?;
-    try_moves(alloc, problem, search, ranked.at, config, happened)
+    search
+        .waiting
+        .push(second_expansion(problem, ranked, is_unsure))?;
+    try_moves(alloc, problem, search, ranked.at, config, moves)
 }
 
-/// Expands a configuration. The first time, only the moves of operations that are known to have
-/// happened are tried, where there are others too, and these wait for the second time.
+/// Expands a configuration. The first time only some of its moves are tried (`tried_at_first`), and
+/// the second time all.
 fn expand(
     alloc: Global,
     problem: &Problem,
@@ -206,10 +224,20 @@ fn expand(
     find_moves(alloc, problem, config, &mut found)?;
     let moves = found.as_slice();
     let happened = happened_in(moves);
-    if ranked.is_last || happened == moves.len() {
+    let first = tried_at_first(happened, moves);
+    if ranked.is_last || first == moves.len() {
         return try_moves(alloc, problem, search, ranked.at, config, moves);
     }
-    put_off(alloc, problem, search, ranked, config, &moves[..happened])
+    let is_unsure = happened < moves.len();
+    put_off(
+        alloc,
+        problem,
+        search,
+        ranked,
+        config,
+        &moves[..first],
+        is_unsure,
+    )
 }
 
 /// A search at its start, with one configuration, in which nothing is placed.

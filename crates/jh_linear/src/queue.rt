@@ -6,7 +6,8 @@
 //! outcome that it has placed costs it the rank of some stages, since a later operation may need
 //! that one. So an order that does without it is looked for first, for as many stages as it costs.
 //! For the same reason a configuration is expanded twice: at first only by operations that are
-//! known to have happened, and then, at a lower rank, by those of unknown outcome too.
+//! known to have happened, and then, at a lower rank, by those of unknown outcome too. Where none of
+//! these can come next, it is expanded at first by one operation alone, and then at the same rank.
 //! docs/performance.md shows how many configurations histories take.
 
 ghost use Rattle.std.specs.Prelude.{◌≡◌, [], IfSome, IfNone, OnOk, true};
@@ -95,14 +96,19 @@ pub(crate) fn rank_of(problem: &Problem, config: &Config) -> usize {
         .saturating_add(config.stage)
 }
 
-/// A configuration that waits for its second expansion. It ranks as if it had placed one operation
-/// of unknown outcome more, which is what comes of that expansion.
-pub(crate) fn second_expansion(problem: &Problem, ranked: RankedConfig) -> RankedConfig
+/// A configuration that waits for its second expansion. Where that may place an operation of unknown
+/// outcome, it ranks as if it had placed one more, which is what comes of it.
+pub(crate) fn second_expansion(
+    problem: &Problem,
+    ranked: RankedConfig,
+    is_unsure: bool,
+) -> RankedConfig
     ensures at { result.at ≡ ranked.at }
     ensures last { result.is_last ≡ true }
 {
+    let cost = if is_unsure { price(&problem.sorted) } else { 0 };
     RankedConfig {
-        rank: ranked.rank.saturating_sub(price(&problem.sorted)),
+        rank: ranked.rank.saturating_sub(cost),
         at: ranked.at,
         is_last: true,
     }

@@ -14,4 +14,4 @@ returns-then-ranked c =
 
 pub put_off-requires-clause-moves : goal.put_off-requires-clause-moves
 put_off-requires-clause-moves c =
-    each_taken c.args.problem.now c.args.config.now c.happened_in-happened.result c.as_slice-moves.result.now (subst (EachIsMove c.args.problem.now c.args.config.now) (sym c.as_slice-moves.ensures.value) c.in_ok-find_moves.ensures.each)
+    each_taken c.args.problem.now c.args.config.now c.tried_at_first-first.result c.as_slice-moves.result.now (subst (EachIsMove c.args.problem.now c.args.config.now) (sym c.as_slice-moves.ensures.value) c.in_ok-find_moves.ensures.each)
