@@ -18,8 +18,8 @@ pub enum FaultKind {
     Bump,
 }
 
-/// All kinds.
-const ALL: [FaultKind; 7] = [
+/// All kinds, in the order in which `specs/Kinds.antt` has them.
+pub const FAULT_KINDS: [FaultKind; 7] = [
     FaultKind::Cut,
     FaultKind::Slow,
     FaultKind::Loss,
@@ -43,7 +43,7 @@ impl FaultKind {
     pub fn named(name: &str) -> Option<FaultKind>
         ensures { result ≡ fault_kind_named name.now }
     {
-        find_kind(&ALL, name).copied()
+        find_kind(&FAULT_KINDS, name).copied()
     }
 
     /// Whether this is its name.

@@ -14,6 +14,14 @@ ghost use Rattle.jh_step_texts.specs.GrudgeLaws.{
   RingIsRing,
   SplitIsComplete,
 };
+ghost use Rattle.jh_step_texts.specs.Kinds.{fault_kinds};
+
+use crate::kinds::FAULT_KINDS;
+
+/// The list of all kinds of faults is that of the definitions.
+pub fn all_kinds()
+    ensures kinds { FAULT_KINDS ≡ fault_kinds }
+{}
 
 /// A named fault cuts the links of its grudge: `[:halves]` those of the complete grudge of the two
 /// halves of all nodes, `[:split-one NODE]` those of the complete grudge of the node and the rest,

@@ -14,8 +14,8 @@ mod steps;
 mod writing;
 
 pub use fault_writing::value_of_fault;
-pub use kinds::FaultKind;
-pub use laws::{named_faults_are_grudges, order_changes_no_fault};
+pub use kinds::{FAULT_KINDS, FaultKind};
+pub use laws::{all_kinds, named_faults_are_grudges, order_changes_no_fault};
 pub use named::ring_order;
 pub use ordering::step_in_order;
 pub use steps::{StepTextError, step_of_value};
