@@ -5,19 +5,8 @@ ghost use Rattle.std.specs.Prelude.{◌≡◌, IfOk};
 ghost use Rattle.jh_search.specs.Kinds as rule;
 ghost use Rattle.jh_search.specs.Kinds.{kinds_drawn};
 
-use jh_step_texts::FaultKind;
+use jh_step_texts::{FAULT_KINDS, FaultKind};
 use std::alloc::{AllocError, Global};
-
-/// All kinds, in the order in which one is chosen.
-const ALL: [FaultKind; 7] = [
-    FaultKind::Cut,
-    FaultKind::Slow,
-    FaultKind::Loss,
-    FaultKind::Fix,
-    FaultKind::Pause,
-    FaultKind::Kill,
-    FaultKind::Bump,
-];
 
 /// Which kinds of faults a random schedule may have.
 #[derive(Clone, Copy, Debug, PartialEq, Eq)]
@@ -89,7 +78,7 @@ pub(crate) fn kinds_of(
     ensures { IfOk result (λ kinds. kinds.items ≡ kinds_drawn palette count) }
 {
     let mut kinds = Vec::new(alloc);
-    for kind in &ALL {
+    for kind in &FAULT_KINDS {
         if is_drawn(palette, count, *kind) {
             kinds.push(*kind)?;
         }
