@@ -231,6 +231,13 @@ impl Plan {
         &self.environment
     }
 
+    /// The database that the nodes keep.
+    pub fn database(&self) -> Database
+        ensures { result ≡ self.now.database }
+    {
+        self.database
+    }
+
     /// How the nodes keep their replicas together.
     pub fn store(&self) -> Store
         ensures { result ≡ self.now.database.store }

@@ -9,7 +9,7 @@ ghost use Rattle.jh_simnode.specs.Reach.{delay_of};
 ghost use Rattle.jh_simnode.specs.Stores.{is_uncut};
 
 use arrayvec::ArrayVec;
-use jh_env::{Env, Life, Link, Node};
+use jh_env::{Env, Life, Link, MAX_LOSS, Node};
 use jh_tables::MAX_NODES;
 
 /// Some of the nodes, in order.
@@ -44,7 +44,7 @@ fn is_carried(link: Option<Link>, draw: u64) -> bool
     ensures { result ≡ carries draw link }
 {
     match link {
-        Some(link) => !link.cut && link.loss as u64 <= draw % 20,
+        Some(link) => !link.cut && link.loss as u64 <= draw % u64::from(MAX_LOSS),
         None => false,
     }
 }

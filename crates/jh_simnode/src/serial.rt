@@ -58,14 +58,7 @@ impl From<AllocError> for RunError {
 pub fn world_of(alloc: Global, plan: &Plan) -> Result<World, AllocError>
     ensures { IfOk result (λ world. (world.journal ≡ []) × (world.setup ≡ setup_of plan.now)) }
 {
-    World::new(
-        alloc,
-        plan.environment().copy(alloc)?,
-        plan.store(),
-        plan.volatile(),
-        plan.workload(),
-        plan.initial(),
-    )
+    World::new(alloc, plan.environment().copy(alloc)?, plan.database())
 }
 
 /// Makes all moves of a run on a world in which nothing happened.

@@ -10,13 +10,13 @@ ghost use Rattle.jh_simnode.specs.Events.{AddsEvent, Refuses, IsLegal, IsNewWorl
 ghost use Rattle.jh_simnode.specs.Limits.{max_events};
 ghost use Rattle.jh_simnode.specs.declared.events.Event.TheVariants as Event;
 
-use crate::database::{Database, Store};
+use crate::database::Database;
 use crate::events::{Event, MAX_EVENTS, WorldError};
 use crate::replicas::{Replica, Reply, first_replicas};
 use crate::stores::{forget, killed_nodes, serve, take_over, tick_replicas};
 use jh_env::{Env, Node};
 use jh_nemesis::{Nemesis, Step, StepAnswer};
-use jh_ops::{Request, Workload};
+use jh_ops::Request;
 use std::alloc::{AllocError, Global};
 use std::marker::Model;
 
@@ -46,30 +46,10 @@ impl Model for World {
 
 impl World {
     /// A world in which nothing has happened, over an environment in which no fault is laid.
-    /// `initial` is what a register holds at first, and matters to no other workload.
-    pub fn new(
-        alloc: Global,
-        env: Env,
-        store: Store,
-        volatile: bool,
-        workload: Workload,
-        initial: Option<i64>,
-    ) -> Result<World, AllocError>
+    pub fn new(alloc: Global, env: Env, database: Database) -> Result<World, AllocError>
         requires { StandsFor env [] }
-        ensures { IfOk result
-            (IsNewWorld env (record {
-              store = store;
-              volatile = volatile;
-              workload = workload;
-              initial = initial;
-            })) }
+        ensures { IfOk result (IsNewWorld env database) }
     {
-        let database = Database {
-            store,
-            volatile,
-            workload,
-            initial,
-        };
         let replicas = first_replicas(alloc, &database, env.nodes().len())?;
         Ok(World {
             alloc,

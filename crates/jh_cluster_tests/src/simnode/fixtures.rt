@@ -192,19 +192,5 @@ pub(crate) fn plan_of(alloc: Global, settings: &str) -> Result<Plan, PlanError> 
 
 /// The world of settings, in which nothing has happened.
 pub(crate) fn world_of(alloc: Global, map: &Value) -> Option<World> {
-    let Database {
-        store,
-        volatile,
-        workload,
-        initial,
-    } = database_of(map);
-    World::new(
-        alloc,
-        env_of(alloc, map)?,
-        store,
-        volatile,
-        workload,
-        initial,
-    )
-    .ok()
+    World::new(alloc, env_of(alloc, map)?, database_of(map)).ok()
 }

@@ -110,13 +110,7 @@ fn database_of(seed: u64) -> Database {
 fn world_of(alloc: Global, env: Env, seed: u64) -> Option<World>
     requires { StandsFor env [] }
 {
-    let Database {
-        store,
-        volatile,
-        workload,
-        initial,
-    } = database_of(seed);
-    World::new(alloc, env, store, volatile, workload, initial).ok()
+    World::new(alloc, env, database_of(seed)).ok()
 }
 
 /// A world of a seed, with the definition beside it.
