@@ -4,7 +4,7 @@ use Rattle.toml.specs.Data.{Members}
 use Rattle.jh_env.specs.Overlay.{EnvValue}
 use Rattle.jh_simnode.specs.declared.schedule.Entry.{Entry}
 use Rattle.jh_settings.specs.Readers.{RefusesValue, RefusesKeyValues}
-use Rattle.jh_settings.specs.Inside.{RefusesDocumentValues, IsParsedCluster, IsParsedLoad, AreParsedLimits, cluster_keys, load_keys, limit_keys}
+use Rattle.jh_settings.specs.Inside.{RefusesDocumentValues, IsParsedCluster, IsParsedLoad, AreParsedNumbers, cluster_keys, load_keys, number_keys}
 use Rattle.jh_settings.specs.Keys.{run_keys}
 use Rattle.jh_settings.specs.Refusals.{IsGood, AreGood, IsFirstBadKey}
 use Rattle.jh_settings.specs.Parsed.{IsParsedStart, IsParsedSchedule}
@@ -12,7 +12,7 @@ use Rattle.jh_settings.specs.declared.error.SettingsError.{SettingsError}
 use Rattle.jh_settings.specs.declared.error.SettingsError.TheVariants.{NotToml, Unknown, Missing, BadValue, OutOfMemory}
 use Rattle.jh_settings.specs.declared.keys.Key.{Key}
 use Rattle.jh_settings.specs.declared.parts.Cluster.{Cluster}
-use Rattle.jh_settings.specs.declared.parts.Limits.{Limits}
+use Rattle.jh_settings.specs.declared.parts.Numbers.{Numbers}
 use Rattle.jh_settings.specs.declared.parts.Load.{Load}
 use Rattle.jh_settings.proofs.StartLemmas.{nodes_once}
 
@@ -64,8 +64,8 @@ module _ {document : Members} where
   pub load_good : {load : Load} → IsParsedLoad document load → AreGood (IsGood document) load_keys
   load_good h = (is_parsed h.by_clients, (is_parsed h.calls, (is_parsed h.in_mode, (is_parsed h.forgets, (is_parsed h.holds, tt)))))
 
-  pub limits_good : {limits : Limits} → AreParsedLimits document limits → AreGood (IsGood document) limit_keys
-  limits_good h = (is_parsed h.ticks, (is_parsed h.of_rows, (is_parsed h.from_seed, (is_parsed h.within, tt))))
+  pub numbers_good : {numbers : Numbers} → AreParsedNumbers document numbers → AreGood (IsGood document) number_keys
+  numbers_good h = (is_parsed h.ticks, (is_parsed h.of_rows, (is_parsed h.from_seed, (is_parsed h.within, tt))))
 
 no_schedule : (document : Members) (env : EnvValue) → IsParsedStart document env → (((entries : List Entry) × IsParsedSchedule env.names document entries) → ⊥) → IsGood document Key.Schedule → ⊥
 no_schedule document env start none good =

@@ -12,7 +12,7 @@ use Rattle.jh_simnode.specs.Plans.{PlanValue, IsFit, RefusesPlan, plan_of_data}
 use Rattle.jh_simnode.specs.declared.plan.PlanData.{PlanData}
 use Rattle.jh_simnode.specs.declared.plan.PlanError.{PlanError}
 use Rattle.jh_simnode.specs.declared.schedule.Entry.{Entry}
-use Rattle.jh_settings.specs.Inside.{RefusesDocumentValues, RefusesWith, IsParsedCluster, IsParsedLoad, AreParsedLimits, data_of_parts, plan_refusal, cluster_keys, load_keys, limit_keys}
+use Rattle.jh_settings.specs.Inside.{RefusesDocumentValues, RefusesWith, IsParsedCluster, IsParsedLoad, AreParsedNumbers, data_of_parts, plan_refusal, cluster_keys, load_keys, number_keys}
 use Rattle.jh_settings.specs.Keys.{HasKnownKeys, run_keys, data_under}
 use Rattle.jh_settings.specs.Kinds.{whole_number_in, needed_value}
 use Rattle.jh_settings.specs.Refusals.{IsGood, AreGood}
@@ -21,10 +21,10 @@ use Rattle.jh_settings.specs.Parsed.{IsParsedSchedule, parsed_clients, parsed_op
 use Rattle.jh_settings.specs.declared.error.SettingsError.{SettingsError}
 use Rattle.jh_settings.specs.declared.keys.Key.{Key}
 use Rattle.jh_settings.specs.declared.parts.Cluster.{Cluster}
-use Rattle.jh_settings.specs.declared.parts.Limits.{Limits}
+use Rattle.jh_settings.specs.declared.parts.Numbers.{Numbers}
 use Rattle.jh_settings.specs.declared.parts.Load.{Load}
 use Rattle.jh_settings.proofs.ElementLemmas.{none_not}
-use Rattle.jh_settings.proofs.OrderLemmas.{cluster_good, load_good, limits_good, good_append}
+use Rattle.jh_settings.proofs.OrderLemmas.{cluster_good, load_good, numbers_good, good_append}
 
 pub whole_is : (least most : ℕ) (value : Data) (n : ℕ) → whole_number_in least most value ≡ Some n → (least ≤ n) × (n ≤ most)
 whole_is least most (integer (pos m)) n e =
@@ -59,19 +59,19 @@ has_ops document workload n parsed e =
     needed_is 1 (max_calls_of workload) (data_under Key.Ops document) n known
 
 -- what a document means under all keys
-pub record AreParsedParts (document : Members) (cluster : Cluster) (load : Load) (limits : Limits) (schedule : List Entry) : Type 0 where
+pub record AreParsedParts (document : Members) (cluster : Cluster) (load : Load) (numbers : Numbers) (schedule : List Entry) : Type 0 where
   pub known : HasKnownKeys run_keys document
   pub of_cluster : IsParsedCluster document cluster
   pub of_load : IsParsedLoad document load
-  pub of_limits : AreParsedLimits document limits
+  pub of_numbers : AreParsedNumbers document numbers
   pub of_schedule : IsParsedSchedule cluster.environment.names document schedule
   pub steps : All (λ entry. FitsNodes (length cluster.environment.names) entry.step) schedule
 
-module _ (document : Members) (cluster : Cluster) (load : Load) (limits : Limits) (schedule : List Entry) (parsed : AreParsedParts document cluster load limits schedule) where
+module _ (document : Members) (cluster : Cluster) (load : Load) (numbers : Numbers) (schedule : List Entry) (parsed : AreParsedParts document cluster load numbers schedule) where
   abbrev pub parts : PlanData
-  parts = data_of_parts cluster load limits schedule
+  parts = data_of_parts cluster load numbers schedule
 
-  planned : IsFit (plan_of_data parts) → AreSettings document (plan_of_data parts) load.mode limits.budget
+  planned : IsFit (plan_of_data parts) → AreSettings document (plan_of_data parts) load.mode numbers.budget
   planned fit = record {
     known = parsed.known;
     start = parsed.of_cluster.start;
@@ -83,10 +83,10 @@ module _ (document : Members) (cluster : Cluster) (load : Load) (limits : Limits
     mode = parsed.of_load.in_mode;
     volatile = parsed.of_load.forgets;
     initial = parsed.of_load.holds;
-    tick_every = parsed.of_limits.ticks;
-    rows = parsed.of_limits.of_rows;
-    seed = parsed.of_limits.from_seed;
-    budget = parsed.of_limits.within;
+    tick_every = parsed.of_numbers.ticks;
+    rows = parsed.of_numbers.of_rows;
+    seed = parsed.of_numbers.from_seed;
+    budget = parsed.of_numbers.within;
     schedule = parsed.of_schedule;
     fit = fit;
   }
@@ -94,23 +94,23 @@ module _ (document : Members) (cluster : Cluster) (load : Load) (limits : Limits
   all_good : AreGood (IsGood document) run_keys
   all_good =
       let last : AreGood (IsGood document) (Key.Schedule ∷ []) = ((cluster.environment, schedule, parsed.of_cluster.start, parsed.of_schedule), tt) in
-      let behind_load = good_append (IsGood document) limit_keys (Key.Schedule ∷ []) (limits_good parsed.of_limits) last in
-      let behind_cluster = good_append (IsGood document) load_keys (limit_keys ++ Key.Schedule ∷ []) (load_good parsed.of_load) behind_load in
-      good_append (IsGood document) cluster_keys (load_keys ++ (limit_keys ++ Key.Schedule ∷ [])) (cluster_good parsed.of_cluster) behind_cluster
+      let behind_load = good_append (IsGood document) number_keys (Key.Schedule ∷ []) (numbers_good parsed.of_numbers) last in
+      let behind_cluster = good_append (IsGood document) load_keys (number_keys ++ Key.Schedule ∷ []) (load_good parsed.of_load) behind_load in
+      good_append (IsGood document) cluster_keys (load_keys ++ (number_keys ++ Key.Schedule ∷ [])) (cluster_good parsed.of_cluster) behind_cluster
 
   -- a plan of good parts is refused for its generator alone
   refused : (error : PlanError) → RefusesPlan (plan_of_data parts) error → RefusesDocumentValues document (plan_refusal error)
   refused PlanError.BadClients h = absurd (h (has_clients document load.clients parsed.of_load.by_clients))
   refused PlanError.BadOps h = absurd (h.1 (has_ops document cluster.workload load.ops parsed.of_cluster.of_workload parsed.of_load.calls))
-  refused PlanError.BadRows h = absurd (h.2 (has_rows document limits.rows parsed.of_limits.of_rows))
+  refused PlanError.BadRows h = absurd (h.2 (has_rows document numbers.rows parsed.of_numbers.of_rows))
   refused PlanError.BadGenerator h =
       inr (refl, (cluster.workload, load.clients, generator_of cluster.generator, all_good, parsed.of_cluster.of_workload, parsed.of_load.by_clients, parsed.of_cluster.source, h.3))
   refused PlanError.BadStep h = absurd (h.4 parsed.steps)
   refused PlanError.OutOfMemory h = tt
 
   -- so a plan of these parts is what the document means
-  pub planned_settings : (plan : PlanValue) → (plan ≡ plan_of_data parts) × IsFit plan → AreSettings document plan load.mode limits.budget
-  planned_settings plan h = subst (λ p. AreSettings document p load.mode limits.budget) (sym h.0) (planned (subst IsFit h.0 h.1))
+  pub planned_settings : (plan : PlanValue) → (plan ≡ plan_of_data parts) × IsFit plan → AreSettings document plan load.mode numbers.budget
+  planned_settings plan h = subst (λ p. AreSettings document p load.mode numbers.budget) (sym h.0) (planned (subst IsFit h.0 h.1))
 
   -- and why it is refused is why the document is
   pub planned_refusal : (e : SettingsError) → RefusesWith (plan_of_data parts) e → RefusesDocumentValues document e

@@ -6,7 +6,7 @@ use Rattle.jh_edn.specs.Spelling.{SpellsAll}
 use Rattle.jh_env.specs.declared.texts.EnvTextError.{EnvTextError}
 use Rattle.jh_settings.specs.declared.keys.Key.{Key}
 use Rattle.jh_settings.specs.declared.parts.Cluster.{Cluster}
-use Rattle.jh_settings.specs.declared.parts.Limits.{Limits}
+use Rattle.jh_settings.specs.declared.parts.Numbers.{Numbers}
 use Rattle.jh_settings.specs.declared.parts.Load.{Load}
 use Rattle.jh_gen.specs.View.{generator_of}
 use Rattle.jh_simnode.specs.declared.schedule.Entry.{Entry}
@@ -55,18 +55,18 @@ pub record IsParsedLoad (document : Members) (load : Load) : Type 0 where
   pub forgets : parsed_volatile document ≡ Some load.volatile
   pub holds : parsed_initial document ≡ Some load.initial
 
-abbrev pub limit_keys : List Key
-limit_keys = Key.TickEvery ∷ Key.Rows ∷ Key.Seed ∷ Key.Budget ∷ []
+abbrev pub number_keys : List Key
+number_keys = Key.TickEvery ∷ Key.Rows ∷ Key.Seed ∷ Key.Budget ∷ []
 
-pub record AreParsedLimits (document : Members) (limits : Limits) : Type 0 where
-  pub ticks : parsed_tick_every document ≡ Some limits.tick_every
-  pub of_rows : parsed_rows document ≡ Some limits.rows
-  pub from_seed : parsed_seed document ≡ Some limits.seed
-  pub within : parsed_budget document ≡ Some limits.budget
+pub record AreParsedNumbers (document : Members) (numbers : Numbers) : Type 0 where
+  pub ticks : parsed_tick_every document ≡ Some numbers.tick_every
+  pub of_rows : parsed_rows document ≡ Some numbers.rows
+  pub from_seed : parsed_seed document ≡ Some numbers.seed
+  pub within : parsed_budget document ≡ Some numbers.budget
 
 -- the data of a plan of these parts
-abbrev pub data_of_parts : Cluster → Load → Limits → List Entry → PlanData
-data_of_parts cluster load limits schedule = record {
+abbrev pub data_of_parts : Cluster → Load → Numbers → List Entry → PlanData
+data_of_parts cluster load numbers schedule = record {
   environment = cluster.environment;
   database = record {
     store = cluster.store;
@@ -78,9 +78,9 @@ data_of_parts cluster load limits schedule = record {
   ops = load.ops;
   generator = cluster.generator;
   schedule = schedule;
-  tick_every = limits.tick_every;
-  rows = limits.rows;
-  seed = limits.seed;
+  tick_every = numbers.tick_every;
+  rows = numbers.rows;
+  seed = numbers.seed;
 }
 
 -- why values are refused

@@ -22,7 +22,8 @@ use Rattle.jh_simnode.specs.declared.schedule.Entry.{Entry}
 use Rattle.jh_settings.specs.declared.keys.Key.{Key}
 use Rattle.jh_settings.specs.declared.choices.Mode.{Mode}
 use Rattle.jh_settings.specs.Keys.{data_under}
-use Rattle.jh_settings.specs.Limits.{max_budget, max_due_at, max_tick_every}
+use Rattle.jh_settings.specs.Limits.{default_budget, default_rows, max_budget, max_due_at}
+use Rattle.jh_settings.specs.Limits.{max_seed, max_tick_every}
 use Rattle.jh_settings.specs.Kinds.{needed_value, value_or_default, choice_in, choice_under}
 use Rattle.jh_settings.specs.Kinds.{whole_number_in, IsElement, HoldsElement}
 
@@ -89,13 +90,13 @@ abbrev pub parsed_tick_every : Members → Option ℕ
 parsed_tick_every document = value_or_default 0 (whole_number_in 0 max_tick_every) Key.TickEvery document
 
 abbrev pub parsed_rows : Members → Option ℕ
-parsed_rows document = value_or_default 4096 (whole_number_in 1 max_rows) Key.Rows document
+parsed_rows document = value_or_default default_rows (whole_number_in 1 max_rows) Key.Rows document
 
 abbrev pub parsed_seed : Members → Option ℕ
-parsed_seed document = value_or_default 0 (whole_number_in 0 9223372036854775807) Key.Seed document
+parsed_seed document = value_or_default 0 (whole_number_in 0 max_seed) Key.Seed document
 
 abbrev pub parsed_budget : Members → Option ℕ
-parsed_budget document = value_or_default 100000 (whole_number_in 0 max_budget) Key.Budget document
+parsed_budget document = value_or_default default_budget (whole_number_in 0 max_budget) Key.Budget document
 
 -- after how many calls a step is due
 abbrev pub due_of : ℤ → Option ℕ

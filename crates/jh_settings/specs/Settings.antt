@@ -20,7 +20,7 @@ use Rattle.jh_settings.specs.Refusals.{RefusesSpelled}
 
 -- a document means this plan, in which mode it is run, and how many configurations the judge of a register reaches at most
 pub record AreSettings (document : Members) (plan : PlanValue) (run_mode : Mode)
-    (limit : ℕ) : Type 0 where
+    (most_configurations : ℕ) : Type 0 where
   pub known : HasKnownKeys run_keys document
   pub start : IsParsedStart document plan.env
   pub store : parsed_store document ≡ Some plan.database.store
@@ -34,14 +34,15 @@ pub record AreSettings (document : Members) (plan : PlanValue) (run_mode : Mode)
   pub tick_every : parsed_tick_every document ≡ Some plan.tick_every
   pub rows : parsed_rows document ≡ Some plan.rows
   pub seed : parsed_seed document ≡ Some plan.seed
-  pub budget : parsed_budget document ≡ Some limit
+  pub budget : parsed_budget document ≡ Some most_configurations
   pub schedule : IsParsedSchedule plan.env.names document plan.schedule
   pub fit : IsFit plan
 
 -- the settings that bytes spell
 abbrev pub AreSettingsOf : List ℕ → PlanValue → Mode → ℕ → Type 0
-AreSettingsOf bytes plan mode limit =
-    (document : Members) × IsDocument bytes document × AreSettings document plan mode limit
+AreSettingsOf bytes plan mode most_configurations =
+    (document : Members) × IsDocument bytes document
+    × AreSettings document plan mode most_configurations
 
 -- each value is good by itself, but the generator does not suit the workload and the number of
 -- clients

@@ -22,7 +22,9 @@ pub use entries::{EntryFormat, entries_under};
 pub use error::{KeyText, SettingsError};
 pub use keys::{Key, drive_keys, is_missing, needed_drive_keys};
 pub use laws::limits;
-pub use numbers::{MAX_TICK_EVERY, budget_under, clients_under, seed_under};
+pub use numbers::{
+    MAX_BUDGET, MAX_TICK_EVERY, MAX_TIME_MS, budget_under, clients_under, seed_under,
+};
 pub use schedule::MAX_DUE_AT;
 pub use settings::{RunSettings, settings_of};
 pub use table::{number_or, number_under, text_under, value_under, whole_in};

@@ -18,8 +18,21 @@ use toml::Table;
 /// After how many of its calls a client thread ticks at most.
 pub const MAX_TICK_EVERY: u32 = 10_000;
 
+/// The rows of the log, where settings do not say how many.
+pub(crate) const DEFAULT_ROWS: u64 = 4_096;
+
+/// The greatest seed: the greatest integer of TOML.
+pub(crate) const MAX_SEED: u64 = i64::MAX as u64;
+
 /// The greatest budget of a judgement.
-pub(crate) const MAX_BUDGET: u64 = 10_000_000;
+pub const MAX_BUDGET: u64 = 10_000_000;
+
+/// The budget of a judgement, where settings have none.
+pub(crate) const DEFAULT_BUDGET: u64 = 100_000;
+
+/// The latest moment of a test, in milliseconds: a day. So is `MAX_SPREAD_MS` of `jh_arguments`,
+/// for another reason: it is the longest time over which `search` spreads a schedule.
+pub const MAX_TIME_MS: u32 = 86_400_000;
 
 /// How many client threads, under `clients`: from 1 to 16.
 ///
@@ -53,7 +66,7 @@ pub(crate) fn tick_every_under(table: &Table) -> Result<u32, SettingsError>
 pub(crate) fn rows_under(table: &Table) -> Result<u32, SettingsError>
     ensures { IsValueParsed result Key.Rows (parsed_rows (table_view table.now)) }
 {
-    let rows = number_or(table, Key::Rows, 4_096, 1, u64::from(MAX_ROWS))?;
+    let rows = number_or(table, Key::Rows, DEFAULT_ROWS, 1, u64::from(MAX_ROWS))?;
     Ok(rows as u32)
 }
 
@@ -63,7 +76,7 @@ pub(crate) fn rows_under(table: &Table) -> Result<u32, SettingsError>
 pub fn seed_under(table: &Table) -> Result<u64, SettingsError>
     ensures { IsValueParsed result Key.Seed (parsed_seed (table_view table.now)) }
 {
-    number_or(table, Key::Seed, 0, 0, i64::MAX as u64)
+    number_or(table, Key::Seed, 0, 0, MAX_SEED)
 }
 
 /// The budget of the judgement, under `budget`: from 0 to 10,000,000, and 100,000 by default.
@@ -72,5 +85,5 @@ pub fn seed_under(table: &Table) -> Result<u64, SettingsError>
 pub fn budget_under(table: &Table) -> Result<u64, SettingsError>
     ensures { IsValueParsed result Key.Budget (parsed_budget (table_view table.now)) }
 {
-    number_or(table, Key::Budget, 100_000, 0, MAX_BUDGET)
+    number_or(table, Key::Budget, DEFAULT_BUDGET, 0, MAX_BUDGET)
 }

@@ -27,10 +27,10 @@ pub(crate) struct Load {
 }
 
 /// Numbers of the settings: after how many of its calls a client thread ticks, how many rows the log
-/// has, the seed of what is random, and the budget of the judgement. The greatest that they may be
-/// are the limits of `specs/Limits.antt`.
+/// has, the seed of what is random, and the budget of the judgement. `specs/Limits.antt` has the
+/// greatest that they may be, and the defaults.
 #[derive(Clone, Copy, Drop)]
-pub(crate) struct Limits {
+pub(crate) struct Numbers {
     pub tick_every: u32,
     pub rows: u32,
     pub seed: u64,

@@ -6,9 +6,9 @@ ghost use Rattle.toml.specs.View.{table_view};
 ghost use Rattle.jh_env.specs.Overlay.{StandsFor};
 ghost use Rattle.jh_simnode.specs.Plans.{IsFit, plan_of_data};
 ghost use Rattle.jh_settings.specs.Inside as rule;
-ghost use Rattle.jh_settings.specs.Inside.{AreParsedLimits, IsParsedCluster, IsParsedLoad};
+ghost use Rattle.jh_settings.specs.Inside.{AreParsedNumbers, IsParsedCluster, IsParsedLoad};
 ghost use Rattle.jh_settings.specs.Inside.{RefusesDocumentValues, RefusesWith};
-ghost use Rattle.jh_settings.specs.Inside.{cluster_keys, limit_keys, load_keys, plan_refusal};
+ghost use Rattle.jh_settings.specs.Inside.{cluster_keys, load_keys, number_keys, plan_refusal};
 ghost use Rattle.jh_settings.specs.Keys as keys;
 ghost use Rattle.jh_settings.specs.Keys.{HasKnownKeys};
 ghost use Rattle.jh_settings.specs.Parsed.{parsed_workload};
@@ -24,7 +24,7 @@ use crate::keys::{Key, needed_run_keys, run_keys};
 use crate::numbers::{
     budget_under, clients_under, ops_under, rows_under, seed_under, tick_every_under,
 };
-use crate::parts::{Cluster, Limits, Load};
+use crate::parts::{Cluster, Load, Numbers};
 use crate::schedule::schedule_under;
 use crate::table::truth_or;
 use jh_ops::Workload;
@@ -108,16 +108,16 @@ fn load_of(table: &Table, workload: Workload) -> Result<Load, SettingsError>
 }
 
 /// What a table means under `tick_every`, `rows`, `seed` and `budget`.
-fn limits_of(table: &Table) -> Result<Limits, SettingsError>
+fn numbers_of(table: &Table) -> Result<Numbers, SettingsError>
     ensures { MatchResult result
-        (AreParsedLimits (table_view table.now))
-        (RefusesKeyValues (IsGood (table_view table.now)) limit_keys) }
+        (AreParsedNumbers (table_view table.now))
+        (RefusesKeyValues (IsGood (table_view table.now)) number_keys) }
 {
     let tick_every = tick_every_under(table)?;
     let rows = rows_under(table)?;
     let seed = seed_under(table)?;
     let budget = budget_under(table)?;
-    Ok(Limits {
+    Ok(Numbers {
         tick_every,
         rows,
         seed,
@@ -126,8 +126,8 @@ fn limits_of(table: &Table) -> Result<Limits, SettingsError>
 }
 
 /// The data of a plan of these parts.
-fn data_of(cluster: Cluster, load: Load, limits: Limits, schedule: Schedule) -> PlanData
-    ensures { result ≡ rule.data_of_parts cluster load limits schedule }
+fn data_of(cluster: Cluster, load: Load, numbers: Numbers, schedule: Schedule) -> PlanData
+    ensures { result ≡ rule.data_of_parts cluster load numbers schedule }
 {
     let Cluster {
         environment,
@@ -147,9 +147,9 @@ fn data_of(cluster: Cluster, load: Load, limits: Limits, schedule: Schedule) -> 
         ops: load.ops,
         generator,
         schedule,
-        tick_every: limits.tick_every,
-        rows: limits.rows,
-        seed: limits.seed,
+        tick_every: numbers.tick_every,
+        rows: numbers.rows,
+        seed: numbers.seed,
     }
 }
 
@@ -162,13 +162,13 @@ fn settings_in(alloc: Global, table: &Table) -> Result<RunSettings, SettingsErro
 {
     let cluster = cluster_of(alloc, table)?;
     let load = load_of(table, cluster.workload)?;
-    let limits = limits_of(table)?;
+    let numbers = numbers_of(table)?;
     let schedule = schedule_under(alloc, table, cluster.environment.nodes())?;
-    let plan = made_plan(alloc, data_of(cluster, load, limits, schedule))?;
+    let plan = made_plan(alloc, data_of(cluster, load, numbers, schedule))?;
     Ok(RunSettings {
         plan,
         mode: load.mode,
-        budget: limits.budget,
+        budget: numbers.budget,
     })
 }
 
