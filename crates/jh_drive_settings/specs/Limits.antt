@@ -1,10 +1,6 @@
--- The limits of the times of a test (this project's own). What else is limited has its limits beside
--- generators and transactions.
+-- The limits of the rate and the recovery of a test (this project's own). The latest moment is a limit of
+-- jh_settings; what else is limited has its limits beside generators and transactions.
 use Rattle.std.specs.Prelude.{ℕ}
-
--- the latest moment of a test, in milliseconds: a day
-abbrev pub max_time_ms : ℕ
-max_time_ms = 86400000
 
 -- the most calls a second
 abbrev pub max_rate : ℕ

@@ -17,13 +17,14 @@ use Rattle.jh_settings.specs.declared.keys.Key.{Key}
 use Rattle.jh_settings.specs.Keys.{data_under, is_missing}
 use Rattle.jh_settings.specs.Kinds.{needed_value, value_or_default, choice_in, choice_under}
 use Rattle.jh_settings.specs.Kinds.{whole_number_in}
+use Rattle.jh_settings.specs.Limits.{max_time_ms}
 use Rattle.jh_settings.specs.Parsed.{IsGeneratorUnder, IsScheduleUnder, initial_of}
 use Rattle.jh_test_parts.specs.Limits.{max_key_appends, max_transaction_keys, max_transaction_ops}
 use Rattle.jh_test_parts.specs.Workloads.{test_workload_named}
 use Rattle.jh_test_parts.specs.declared.parts.TestEntry.{TestEntry}
 use Rattle.jh_test_parts.specs.declared.parts.When.{When}
 use Rattle.jh_test_parts.specs.declared.workload.TestWorkload.{TestWorkload}
-use Rattle.jh_drive_settings.specs.Limits.{max_rate, max_recovery_ms, max_time_ms}
+use Rattle.jh_drive_settings.specs.Limits.{max_rate, max_recovery_ms}
 
 -- what is asked of the database
 abbrev pub parsed_test_workload : Members → Option TestWorkload

@@ -49,20 +49,20 @@ IsFinalAllowed test = (is_some test.keys && is_some test.final_calls) ≡ false
 -- a document means this test, and how its history is judged: from what a register holds at first, by
 -- this model, reaching at most so many configurations
 pub record AreDriveSettings (document : Members) (test : TestValue) (held : Option ℤ)
-    (consistency : ConsistencyModel) (limit : ℕ) : Type 0 where
+    (consistency : ConsistencyModel) (most_configurations : ℕ) : Type 0 where
   pub known : HasKnownKeys drive_keys document
   pub parsed : IsParsedTest document test
   pub initial : parsed_test_initial document ≡ Some held
   pub model : parsed_model document ≡ Some consistency
-  pub budget : parsed_budget document ≡ Some limit
+  pub budget : parsed_budget document ≡ Some most_configurations
   pub fit : IsFitTest test
   pub allowed : IsFinalAllowed test
 
 -- the settings that bytes spell
 abbrev pub AreDriveSettingsOf : List ℕ → TestValue → Option ℤ → ConsistencyModel → ℕ → Type 0
-AreDriveSettingsOf bytes test held consistency limit =
+AreDriveSettingsOf bytes test held consistency most_configurations =
     (document : Members) × IsDocument bytes document
-    × AreDriveSettings document test held consistency limit
+    × AreDriveSettings document test held consistency most_configurations
 
 -- it is the one that is missing of the two keys that say how keys are shared, and the other one is not
 abbrev pub IsShareKeyMissing : Members → Key → Type 0

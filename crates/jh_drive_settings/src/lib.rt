@@ -10,5 +10,5 @@ mod schedule;
 mod settings;
 
 pub use laws::limits;
-pub use numbers::{MAX_RATE, MAX_RECOVERY_MS, MAX_TIME_MS};
+pub use numbers::{MAX_RATE, MAX_RECOVERY_MS};
 pub use settings::{DriveSettings, drive_settings_of};

@@ -11,14 +11,11 @@ ghost use Rattle.jh_drive_settings.specs.Parsed.{parsed_time_limit};
 
 use crate::choices::{are_transactions, judge_standing};
 use jh_gen::MAX_CALLS;
-use jh_settings::{Key, SettingsError, number_or, number_under, value_under, whole_in};
+use jh_settings::{
+    Key, MAX_TIME_MS, SettingsError, number_or, number_under, value_under, whole_in,
+};
 use jh_test_parts::TestWorkload;
 use toml::Table;
-
-/// The latest moment of a test, in milliseconds: a day. So is `MAX_SPREAD_MS` of `jh_arguments`,
-/// for another reason: it is the longest time over which `search` spreads a schedule.
-/// `MAX_MOMENT_MS` of `jh_settings_reasons` is this limit, in a crate that does not use this one.
-pub const MAX_TIME_MS: u32 = 86_400_000;
 
 /// The most calls a second.
 pub const MAX_RATE: u32 = 1_000_000;

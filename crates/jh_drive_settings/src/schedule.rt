@@ -4,11 +4,10 @@ ghost use Rattle.std.specs.Prelude.{◌≡◌};
 ghost use Rattle.jh_edn.specs.View.{view};
 ghost use Rattle.jh_drive_settings.specs.Parsed as rule;
 
-use crate::numbers::MAX_TIME_MS;
 use jh_edn::Value;
 use jh_env::Nodes;
 use jh_gen::MAX_CALLS;
-use jh_settings::EntryFormat;
+use jh_settings::{EntryFormat, MAX_TIME_MS};
 use jh_step_texts::{StepTextError, step_of_value};
 use jh_test_parts::{TestEntry, When};
 use std::alloc::{AllocError, Global};
