@@ -129,9 +129,9 @@ fn is_over(op: &Op, form: Form) -> bool
     ensures { IsTrue result ↔ IsOverBy (operation op.now) form }
 {
     match form {
-        Form::Completes(_, _, _) => op.kind != Kind::Info,
-        Form::Ends(_, _) => true,
-        Form::Asks(_, _) | Form::Begins(_) => false,
+        Form::Completes { .. } => op.kind != Kind::Info,
+        Form::Ends { .. } => true,
+        Form::Asks { .. } | Form::Begins { .. } => false,
     }
 }
 
@@ -175,12 +175,36 @@ fn same_form(one: Form, other: Form) -> bool
     ensures { IsTrue result ↔ (one ≡ other) }
 {
     match (one, other) {
-        (Form::Asks(one, asked), Form::Asks(other, given)) => one == other && asked == given,
-        (Form::Completes(one, asked, event), Form::Completes(other, given, number)) => {
-            one == other && asked == given && event == number
-        }
-        (Form::Begins(one), Form::Begins(other)) => one == other,
-        (Form::Ends(one, event), Form::Ends(other, number)) => one == other && event == number,
+        (
+            Form::Asks {
+                process: one,
+                request: asked,
+            },
+            Form::Asks {
+                process: other,
+                request: given,
+            },
+        ) => one == other && asked == given,
+        (
+            Form::Completes {
+                process: one,
+                request: asked,
+                event,
+            },
+            Form::Completes {
+                process: other,
+                request: given,
+                event: number,
+            },
+        ) => one == other && asked == given && event == number,
+        (Form::Begins { entry: one }, Form::Begins { entry: other }) => one == other,
+        (
+            Form::Ends { entry: one, event },
+            Form::Ends {
+                entry: other,
+                event: number,
+            },
+        ) => one == other && event == number,
         _ => false,
     }
 }
@@ -205,15 +229,15 @@ fn is_paired(history: &[Op], place: usize, form: Form) -> bool
     ensures { IsTrue result ↔ IsPaired (operations history.now) place form }
 {
     match form {
-        Form::Asks(_, _) | Form::Begins(_) => {
+        Form::Asks { .. } | Form::Begins { .. } => {
             may_ask(history, place) && is_gone_on(history, place)
         }
-        Form::Completes(process, request, _) => follows(
-            history,
-            place,
-            Form::Asks(process, request),
-        ),
-        Form::Ends(entry, _) => follows(history, place, Form::Begins(entry)),
+        Form::Completes {
+            process,
+            request,
+            ..
+        } => follows(history, place, Form::Asks { process, request }),
+        Form::Ends { entry, .. } => follows(history, place, Form::Begins { entry }),
     }
 }
 

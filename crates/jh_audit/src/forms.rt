@@ -17,13 +17,25 @@ use jh_ops::{Kind, Op, Process, Request};
 #[derive(Clone, Copy, Debug)]
 pub(crate) enum Form {
     /// A client's process asks.
-    Asks(u64, Request),
+    Asks {
+        process: u64,
+        request: Request,
+    },
     /// A client's process was answered, by the event of this number.
-    Completes(u64, Request, u64),
+    Completes {
+        process: u64,
+        request: Request,
+        event: u64,
+    },
     /// An entry of the schedule begins.
-    Begins(u64),
+    Begins {
+        entry: u64,
+    },
     /// An entry of the schedule has ended, by the event of this number.
-    Ends(u64, u64),
+    Ends {
+        entry: u64,
+        event: u64,
+    },
 }
 
 /// The form of a client's operation with these parts.
@@ -38,14 +50,17 @@ fn client_form(
 {
     match event {
         None => match kind {
-            Kind::Invoke => Some(Form::Asks(process, request_asked(name, value)?)),
+            Kind::Invoke => Some(Form::Asks {
+                process,
+                request: request_asked(name, value)?,
+            }),
             _ => None,
         },
-        Some(number) => Some(Form::Completes(
+        Some(number) => Some(Form::Completes {
             process,
-            completed_request(kind, name, value)?,
-            number,
-        )),
+            request: completed_request(kind, name, value)?,
+            event: number,
+        }),
     }
 }
 
@@ -54,8 +69,13 @@ fn step_form(value: &Value, event: Option<u64>) -> Option<Form>
     ensures { result ≡ rule.step_form (view value.now) event }
 {
     match event {
-        None => Some(Form::Begins(begun_entry(value)?)),
-        Some(number) => Some(Form::Ends(ended_entry_in(value)?, number)),
+        None => Some(Form::Begins {
+            entry: begun_entry(value)?,
+        }),
+        Some(number) => Some(Form::Ends {
+            entry: ended_entry_in(value)?,
+            event: number,
+        }),
     }
 }
 
@@ -134,8 +154,8 @@ impl Form {
         ensures { result ≡ event_in self }
     {
         match self {
-            Form::Completes(_, _, number) | Form::Ends(_, number) => Some(number),
-            Form::Asks(_, _) | Form::Begins(_) => None,
+            Form::Completes { event, .. } | Form::Ends { event, .. } => Some(event),
+            Form::Asks { .. } | Form::Begins { .. } => None,
         }
     }
 }

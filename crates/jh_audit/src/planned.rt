@@ -65,7 +65,13 @@ fn ends_entry(
     if entry >= schedule.len() {
         return false;
     }
-    let Some(Form::Ends(given, number)) = form_at(history, place) else {
+    let Some(
+        Form::Ends {
+            entry: given,
+            event: number,
+        },
+    ) = form_at(history, place)
+    else {
         return false;
     };
     if given != entry as u64 || number >= journal.len() as u64 {
@@ -82,7 +88,7 @@ fn ends_entry(
 }
 
 /// How many calls the clients completed.
-fn answered_calls(history: &[Op]) -> usize
+fn completed_calls(history: &[Op]) -> usize
     ensures { result ≡ count_by rule.is_answered_call (operations history.now) }
 {
     let mut answered = 0;
@@ -157,7 +163,7 @@ pub fn follows_plan(plan: &Plan, journal: &[Event], history: &[Op]) -> bool
     match ended_in_turn(schedule, journal, history) {
         Some(ended) => {
             ended == schedule.len()
-                && answered_calls(history) <= plan.ops() as usize
+                && completed_calls(history) <= plan.ops() as usize
                 && are_turns_kept(plan, journal)
                 && has_its_ticks(plan, journal)
         }

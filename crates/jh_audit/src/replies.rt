@@ -125,11 +125,19 @@ pub(crate) fn is_completion_by(event: &Event, place: usize, op: &Op, form: Form)
                 draw: _,
                 reply,
             },
-            Form::Completes(completer, given, _),
+            Form::Completes {
+                process: completer,
+                request: given,
+                event: _,
+            },
         ) => *process == completer && *request == given && has_reply(op, given, reply),
-        (Event::Step { step: _, answer }, Form::Ends(entry, number)) => {
-            has_answer(op, place, entry, number, *answer)
-        }
+        (
+            Event::Step { step: _, answer },
+            Form::Ends {
+                entry,
+                event: number,
+            },
+        ) => has_answer(op, place, entry, number, *answer),
         _ => false,
     }
 }

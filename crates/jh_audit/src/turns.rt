@@ -26,7 +26,7 @@ fn is_step(event: &Event) -> bool
 }
 
 /// How many calls were answered.
-fn answered_calls(journal: &[Event]) -> usize
+fn calls_in(journal: &[Event]) -> usize
     ensures { result ≡ count.answered_count journal.now }
 {
     let mut answered = 0;
@@ -126,7 +126,7 @@ fn calls_after(journal: &[Event], number: usize, calls: usize) -> usize
 pub(crate) fn are_turns_kept(plan: &Plan, journal: &[Event]) -> bool
     ensures { IsTrue result ↔ AreTurnsKept plan.now journal.now (length journal.now) }
 {
-    let all = answered_calls(journal);
+    let all = calls_in(journal);
     let (mut steps, mut calls) = (0, 0);
     for number in 0..journal.len() {
         if !is_turn_kept(plan, journal, number, steps, calls, all) {

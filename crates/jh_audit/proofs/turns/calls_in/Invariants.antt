@@ -1,7 +1,7 @@
 use Rattle.std.proofs.Common.{◌≡◌, take}
 use Rattle.std.specs.List.{count_by}
 use Rattle.jh_simnode.specs.Counts.{is_call}
-use Rattle.jh_audit.proofs.turns.answered_calls.Given as goal
+use Rattle.jh_audit.proofs.turns.calls_in.Given as goal
 
 -- the calls so far were counted
 abbrev pub invariant-loop-event : goal.invariant-loop-event
