@@ -18,6 +18,7 @@ use jh_search::SearchError;
 use jh_settings::SettingsError;
 use jh_simnode::{RunError, WorldError};
 use jh_step_texts::StepTextError;
+use jh_workers::ThreadsError;
 use std::alloc::{AllocError, AllocFailed};
 use std::error::Error;
 use std::fmt::{self, Display, Formatter};
@@ -259,18 +260,18 @@ impl From<RunError> for CliError {
     }
 }
 
-impl From<jh_workers::RunError> for CliError {
+impl From<ThreadsError> for CliError {
     ghost use Rattle.jh_cli.specs.Status.{threads_error};
 
     ghost from_gives = { λ error e. e ≡ threads_error error };
 
-    fn from(error: jh_workers::RunError) -> CliError {
+    fn from(error: ThreadsError) -> CliError {
         match error {
-            jh_workers::RunError::HistoryFull => CliError::HistoryFull,
-            jh_workers::RunError::World(refusal) => CliError::from(refusal),
-            jh_workers::RunError::Mismatch => CliError::Mismatch,
-            jh_workers::RunError::Thread => CliError::Thread,
-            jh_workers::RunError::OutOfMemory => CliError::OutOfMemory,
+            ThreadsError::HistoryFull => CliError::HistoryFull,
+            ThreadsError::World(refusal) => CliError::from(refusal),
+            ThreadsError::Mismatch => CliError::Mismatch,
+            ThreadsError::Thread => CliError::Thread,
+            ThreadsError::OutOfMemory => CliError::OutOfMemory,
         }
     }
 }

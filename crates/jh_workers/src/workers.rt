@@ -9,14 +9,15 @@ ghost use Rattle.jh_simnode.specs.declared.replicas.Reply.{Reply};
 ghost use Rattle.jh_simnode.specs.Histories as rule;
 ghost use Rattle.jh_simnode.specs.Running as running;
 ghost use Rattle.jh_simnode.specs.Runs.{ticks_at};
-ghost use Rattle.jh_slots.specs.Sizes.{max_claimed};
+ghost use Rattle.jh_slots.specs.Sizes.{max_claimed, row_words};
 ghost use Rattle.jh_workers.specs.RecordsInside as records;
 ghost use Rattle.jh_workers.specs.RecordsInside.{HoldsWords, Publishes, PublishesBoth};
 ghost use Rattle.jh_ops.specs.declared.operation.Op.{Op};
 
 use crate::log_seat::{LogSeat, OfLog};
-use crate::monitor::{Assignment, Monitor, RunError};
+use crate::monitor::{Assignment, Monitor, ThreadsError};
 use crate::ports::{Count, Port};
+use crate::records::MAX_WORDS;
 use jh_env::Node;
 use jh_gen::Ended;
 use jh_nemesis::StepAnswer;
@@ -25,7 +26,7 @@ use jh_simnode::{
     Entry, Got, Plan, Reply, completion, entry_completion, entry_invocation, invocation, node_of,
     reply_ending, ticks_at,
 };
-use jh_slots::{Claim, MAX_CLAIMED, ROW_WORDS, Slots};
+use jh_slots::{Claim, ROW_WORDS, Slots};
 use rand_core::utils::NextWord;
 use rand_pcg::Lcg128Xsl64;
 use std::alloc::{AllocError, Global};
@@ -35,6 +36,12 @@ use std::sync::Wait;
 /// The stream of the random numbers of thread 0. The next thread has the next one, and so on; a
 /// serial run has stream 0.
 const FIRST_THREAD_STREAM: u128 = 1;
+
+/// How many words a record has before its integers.
+const HEADING_WORDS: usize = 3;
+
+/// How many integers the longest record has: those for which a claim has room.
+const MAX_INTEGERS: usize = MAX_WORDS - HEADING_WORDS;
 
 /// What all threads of a run share beside their monitor.
 #[derive(Drop)]
@@ -65,16 +72,16 @@ fn integers_written(request: Request, reply: &Reply) -> usize
     }
 }
 
-/// How many rows the completion of a request takes. A row has `ROW_WORDS` words, and a record has three
-/// words before its integers. A claim has at most `MAX_CLAIMED` rows, which are 1,275 words: for a longer
-/// record that many rows are claimed, and it is refused when it is written.
+/// How many rows the completion of a request takes. For a record that is longer than a claim, as many
+/// rows as a claim may have are claimed, and it is refused when it is written.
 fn rows_written(request: Request, reply: &Reply) -> u32
     ensures within { (1 ≤ result) × (result ≤ max_claimed) }
-    ensures enough { min (3 + records.integers_written request reply.now) 1275 ≤ 5 * result }
-    ensures least { 5 * result < min (3 + records.integers_written request reply.now) 1275 + 5 }
+    ensures enough { min (3 + records.integers_written request reply.now) (max_claimed * row_words)
+        ≤ row_words * result }
+    ensures least { row_words * result
+        < min (3 + records.integers_written request reply.now) (max_claimed * row_words) + row_words }
 {
-    let most = MAX_CLAIMED as usize * ROW_WORDS - 3;
-    let words = 3 + integers_written(request, reply).min(most);
+    let words = HEADING_WORDS + integers_written(request, reply).min(MAX_INTEGERS);
     words.div_ceil(ROW_WORDS) as u32
 }
 
@@ -86,7 +93,7 @@ fn publish<B: OfLog, P: Port>(
     claim: Claim,
     rows: u32,
     made: Result<Op, AllocError>,
-) -> Result<(), RunError>
+) -> Result<(), ThreadsError>
     requires holds { HoldsWords log_seat.old.seat.knows claim.first claim.rows × (claim.rows ≡ rows) }
     requires rows { rows ≤ max_claimed }
     ensures { OnOk result ((op : Op) × (made ≡ Ok op)
@@ -94,10 +101,10 @@ fn publish<B: OfLog, P: Port>(
 {
     let Ok(op) = made else {
         log_seat.void(shared.slots, claim);
-        return Err(RunError::OutOfMemory);
+        return Err(ThreadsError::OutOfMemory);
     };
     let Ok(()) = log_seat.publish(shared.slots, claim, rows, &op) else {
-        return Err(RunError::Mismatch);
+        return Err(ThreadsError::Mismatch);
     };
     Ok(())
 }
@@ -108,7 +115,7 @@ fn record_invocation<B: OfLog, P: Port>(
     log_seat: &mut LogSeat<B>,
     process: u64,
     request: Request,
-) -> Result<(), RunError>
+) -> Result<(), ThreadsError>
     ensures { OnOk result
         (Publishes log_seat.old.seat.knows.seen
         (rule.invocation process request) log_seat.new.seat.knows.seen) }
@@ -126,7 +133,7 @@ fn record_completion<B: OfLog, P: Port>(
     process: u64,
     request: Request,
     reply: &Reply,
-) -> Result<(), RunError>
+) -> Result<(), ThreadsError>
     requires { event_number < 2 ^ 63 }
     ensures { OnOk result (Publishes log_seat.old.seat.knows.seen
         (rule.completion event_number process request reply.now) log_seat.new.seat.knows.seen) }
@@ -142,7 +149,7 @@ fn record_begin<B: OfLog, P: Port>(
     shared: &Shared<'_, B, P>,
     log_seat: &mut LogSeat<B>,
     entry_place: u64,
-) -> Result<(), RunError>
+) -> Result<(), ThreadsError>
     requires { entry_place < 2 ^ 63 }
     ensures { OnOk result
         (Publishes log_seat.old.seat.knows.seen (rule.entry_invocation entry_place)
@@ -160,7 +167,7 @@ fn record_end<B: OfLog, P: Port>(
     event_number: u64,
     entry_place: u64,
     answer: StepAnswer,
-) -> Result<(), RunError>
+) -> Result<(), ThreadsError>
     requires event { event_number < 2 ^ 63 }
     requires entry { entry_place < 2 ^ 63 }
     ensures { OnOk result (Publishes log_seat.old.seat.knows.seen
@@ -187,7 +194,7 @@ fn serve<B: OfLog, P: Port, R: Wait>(
     monitor: &Monitor,
     worker: &mut Worker<B, P::Share>,
     asked: ClientCall,
-) -> Result<Ended, RunError>
+) -> Result<Ended, ThreadsError>
     ensures called { OnOk result (P.Share.total worker.new.share ≡ P.Share.total worker.old.share + 1) }
     ensures recorded { IfOk result
         (λ ended. (reply : Reply) × (number : ℕ) × (ended ≡ running.reply_ending reply)
@@ -223,7 +230,7 @@ fn apply_entry<B: OfLog, P: Port, R: Wait>(
     worker: &mut Worker<B, P::Share>,
     entry_place: u64,
     entry: &Entry,
-) -> Result<(), RunError>
+) -> Result<(), ThreadsError>
     requires { entry_place < 2 ^ 63 }
     ensures called { OnOk result (P.Share.total worker.new.share ≡ P.Share.total worker.old.share + 1) }
     ensures recorded { OnOk result ((answer : StepAnswer) × (event : ℕ)
@@ -243,7 +250,7 @@ fn tick_if_due<B: OfLog, P: Port, R: Wait>(
     shared: &Shared<'_, B, P>,
     worker: &mut Worker<B, P::Share>,
     calls: u32,
-) -> Result<(), RunError>
+) -> Result<(), ThreadsError>
     ensures ticked { OnOk result (P.Share.total worker.new.share
         ≡ P.Share.total worker.old.share + (if ticks_at shared.now.plan.now calls then 1 else 0)) }
 {
@@ -260,7 +267,7 @@ fn work_as_client<B: OfLog, P: Port, R: Wait>(
     monitor: &Monitor,
     thread: u32,
     worker: &mut Worker<B, P::Share>,
-) -> Result<(), RunError> {
+) -> Result<(), ThreadsError> {
     let stream = u128::from(thread) + FIRST_THREAD_STREAM;
     let mut numbers = Lcg128Xsl64::new(u128::from(shared.plan.seed()), stream);
     let mut calls: u32 = 0;
@@ -293,7 +300,7 @@ fn work_on_schedule<B: OfLog, P: Port, R: Wait>(
     shared: &Shared<'_, B, P>,
     monitor: &Monitor,
     worker: &mut Worker<B, P::Share>,
-) -> Result<(), RunError> {
+) -> Result<(), ThreadsError> {
     for (place, entry) in shared.plan.schedule().entries().iter().enumerate() {
         if !monitor.wait_until_due(rt, entry.at) {
             break;
