@@ -8,7 +8,7 @@ use Rattle.std.proofs.lemmas.Bool.{not-true}
 use Rattle.jh_lines.specs.Answering.{after_lines}
 use Rattle.jh_conversation.specs.Laws.{AreTimely, Drivers, IsAtRate, IsBeforeFinal, IsBeforeLimit}
 use Rattle.jh_conversation.specs.Laws.{invocations_in, run, start, took}
-use Rattle.jh_conversation.specs.Lines.{is_test_over, is_end_phase, listen, take_line, stops_after}
+use Rattle.jh_conversation.specs.Lines.{is_test_over, is_end_phase, count_line, take_line, stops_after}
 use Rattle.jh_conversation.specs.Lines.{stops_by, take_in}
 use Rattle.jh_test_parts.specs.LineMeanings.{line_meaning}
 use Rattle.jh_conversation.specs.Machine.{Machine}
@@ -99,7 +99,7 @@ more_stops count m more few (inr stopped) = inr (omega (arith, few, stopped))
 
 main_by_line : (t : TestValue) (n : ℕ) → IsKeptByLine t (HasGivenMain n)
 main_by_line t n = record {
-  listens = λ m h. h;
+  counts_line = λ m h. h;
   clocks = λ m time h. h;
   stops = λ m h. (more_stops 1 m (stops_by m.phase) (omega arith) h.0, h.1);
   refuses = λ m why h. (more_stops 1 m 2 (omega arith) h.0, h.1);
@@ -124,7 +124,7 @@ given_in_turn t n = record {
 
 given_by_line : (t : TestValue) (n : ℕ) → IsKeptByLine t (HasGiven n)
 given_by_line t n = record {
-  listens = λ m h. h;
+  counts_line = λ m h. h;
   clocks = λ m time h. h;
   stops = λ m h. (more_stops 2 m (stops_by m.phase) (omega arith) h.0, h.1);
   refuses = λ m why h. (more_stops 2 m 2 (omega arith) h.0, h.1);
@@ -135,7 +135,7 @@ given_by_line t n = record {
 -- a line gives no call by itself
 same_calls : (t : TestValue) (n : ℕ) → IsKeptByLine t (λ m. invocations_in m.history ≡ n)
 same_calls t n = record {
-  listens = λ m h. h;
+  counts_line = λ m h. h;
   clocks = λ m time h. h;
   stops = λ m h. h;
   refuses = λ m why h. h;
@@ -155,23 +155,23 @@ over_is Final e = absurd (false≢true e)
 over_is Over e = refl
 
 -- what a line is taken in for
-took_same : (t : TestValue) (m : Machine) (line : List ℕ) → invocations_in (take_in t (line_meaning line) (listen m)).history ≡ invocations_in m.history
-took_same t m line = kept_take_in t (λ n. invocations_in n.history ≡ invocations_in m.history) (same_calls t (invocations_in m.history)) (listen m) (line_meaning line) refl
+took_same : (t : TestValue) (m : Machine) (line : List ℕ) → invocations_in (take_in t (line_meaning line) (count_line m)).history ≡ invocations_in m.history
+took_same t m line = kept_take_in t (λ n. invocations_in n.history ≡ invocations_in m.history) (same_calls t (invocations_in m.history)) (count_line m) (line_meaning line) refl
 
 module _ (t : TestValue) (m : Machine) (line : List ℕ) where
-  main_stops : 1 ≤ (take_in t (line_meaning line) (listen m)).stops → HasGivenMain (invocations_in m.history) (take_line t m line)
+  main_stops : 1 ≤ (take_in t (line_meaning line) (count_line m)).stops → HasGivenMain (invocations_in m.history) (take_line t m line)
   main_stops stopped =
-      (elim (is_test_over m) as (λ b. is_test_over m ≡ b → HasGivenMain (invocations_in m.history) (if b then listen m else turn t (take_in t (line_meaning line) (listen m)))) [
+      (elim (is_test_over m) as (λ b. is_test_over m ≡ b → HasGivenMain (invocations_in m.history) (if b then count_line m else turn t (take_in t (line_meaning line) (count_line m)))) [
         | true ↦ λ e. (inl (over_is m.phase e), λ _. refl)
-        | false ↦ λ _. kept_turn t (HasGivenMain (invocations_in m.history)) (main_in_turn t (invocations_in m.history)) (take_in t (line_meaning line) (listen m))
+        | false ↦ λ _. kept_turn t (HasGivenMain (invocations_in m.history)) (main_in_turn t (invocations_in m.history)) (take_in t (line_meaning line) (count_line m))
             (inr stopped, λ _. took_same t m line)
       ]) refl
 
-  all_stop : 2 ≤ (take_in t (line_meaning line) (listen m)).stops → HasGiven (invocations_in m.history) (take_line t m line)
+  all_stop : 2 ≤ (take_in t (line_meaning line) (count_line m)).stops → HasGiven (invocations_in m.history) (take_line t m line)
   all_stop stopped =
-      (elim (is_test_over m) as (λ b. is_test_over m ≡ b → HasGiven (invocations_in m.history) (if b then listen m else turn t (take_in t (line_meaning line) (listen m)))) [
+      (elim (is_test_over m) as (λ b. is_test_over m ≡ b → HasGiven (invocations_in m.history) (if b then count_line m else turn t (take_in t (line_meaning line) (count_line m)))) [
         | true ↦ λ e. (inl (over_is m.phase e), refl)
-        | false ↦ λ _. kept_turn t (HasGiven (invocations_in m.history)) (given_in_turn t (invocations_in m.history)) (take_in t (line_meaning line) (listen m))
+        | false ↦ λ _. kept_turn t (HasGiven (invocations_in m.history)) (given_in_turn t (invocations_in m.history)) (take_in t (line_meaning line) (count_line m))
             (inr stopped, took_same t m line)
       ]) refl
 
@@ -233,7 +233,7 @@ timely_in_turn t = record {
 
 timely_by_line : (t : TestValue) → IsKeptByLine t (IsInTime t)
 timely_by_line t = record {
-  listens = λ m h. h;
+  counts_line = λ m h. h;
   clocks = λ m time h. h;
   stops = λ m h. h;
   refuses = λ m why h. h;

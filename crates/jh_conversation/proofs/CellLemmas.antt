@@ -292,7 +292,7 @@ node_in_turn t start a n there = record {
 
 node_by_line : (t : TestValue) (start : Table) (a : ℕ) (n : NodeCell) → IsKeptByLine t (NodeAddsUp start a n)
 node_by_line t start a n = record {
-  listens = λ m h. h;
+  counts_line = λ m h. h;
   clocks = λ m time h. h;
   stops = λ m h. h;
   refuses = λ m why h. h;
@@ -319,7 +319,7 @@ link_in_turn t start a b l there = record {
 
 link_by_line : (t : TestValue) (start : Table) (a b : ℕ) (l : Link) → IsKeptByLine t (LinkAddsUp start a b l)
 link_by_line t start a b l = record {
-  listens = λ m h. h;
+  counts_line = λ m h. h;
   clocks = λ m time h. h;
   stops = λ m h. h;
   refuses = λ m why h. h;

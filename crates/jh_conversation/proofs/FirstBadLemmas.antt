@@ -12,7 +12,7 @@ use Rattle.jh_conversation.specs.Laws.{complaint_of_end}
 use Rattle.jh_conversation.specs.Laws.{complaint_of_operation, first_bad, first_bad_or, run, start}
 use Rattle.jh_test_parts.specs.LineMeanings.{MeaningValue, Nothing, Clock, Stop, Op, Bad}
 use Rattle.jh_conversation.specs.Lines.{end_step, ends_step, at_first, at_time, first}
-use Rattle.jh_conversation.specs.Lines.{is_test_over, listen, refuse, take_line, take_step_end}
+use Rattle.jh_conversation.specs.Lines.{is_test_over, count_line, refuse, take_line, take_step_end}
 use Rattle.jh_conversation.specs.Lines.{ended_request, take_completion, take_in, take_operation}
 use Rattle.jh_test_parts.specs.LineMeanings.{line_meaning}
 use Rattle.jh_test_parts.specs.Test.{thread_of_process}
@@ -56,7 +56,7 @@ bad_in_turn t found = record {
 
 bad_by_line : (t : TestValue) (found : ℕ × Complaint) → IsKeptByLine t (HasBad found)
 bad_by_line t found = record {
-  listens = λ m h. h;
+  counts_line = λ m h. h;
   clocks = λ m time h. h;
   stops = λ m h. h;
   refuses = λ m why h. ap (λ b. first b (m.read, why)) h;
@@ -102,27 +102,27 @@ finds_take t m (Op op time) none = go op.process
     go Process.Nemesis = finds_step_end m op time none m.step
     go (Process.Client process) = finds_completion t m (thread_of_process t process) op time none (ended_request t m process op (caller_of m (thread_of_process t process)).call)
 
--- a complaint is the same behind a listening
-same_complaint : (t : TestValue) (m : Machine) (line : MeaningValue) → complaint_of t (listen m) line ≡ complaint_of t m line
+-- a complaint is the same once the line is counted
+same_complaint : (t : TestValue) (m : Machine) (line : MeaningValue) → complaint_of t (count_line m) line ≡ complaint_of t m line
 same_complaint t m Nothing = refl
 same_complaint t m (Clock time) = refl
 same_complaint t m Stop = refl
 same_complaint t m (Bad why) = refl
 same_complaint t m (Op op time) = go op.process
   where
-    go : (p : Process) → complaint_of_operation t (listen m) op p ≡ complaint_of_operation t m op p
+    go : (p : Process) → complaint_of_operation t (count_line m) op p ≡ complaint_of_operation t m op p
     go Process.Nemesis = refl
     go (Process.Client process) = refl
 
 finds_line : (t : TestValue) (m : Machine) (line : List ℕ) → m.bad ≡ None
     → FindsBad (bad_of (if is_test_over m then None else complaint_of t m (line_meaning line)) (m.read + 1)) (m.read + 1) (take_line t m line)
 finds_line t m line none =
-    elim (is_test_over m) as (λ b. FindsBad (bad_of (if b then None else complaint_of t m (line_meaning line)) (m.read + 1)) (m.read + 1) (if b then listen m else turn t (take_in t (line_meaning line) (listen m)))) [
+    elim (is_test_over m) as (λ b. FindsBad (bad_of (if b then None else complaint_of t m (line_meaning line)) (m.read + 1)) (m.read + 1) (if b then count_line m else turn t (take_in t (line_meaning line) (count_line m)))) [
       | true ↦ (none, refl)
       | false ↦
           let found = bad_of (complaint_of t m (line_meaning line)) (m.read + 1) in
-          let took = finds_take t (listen m) (line_meaning line) none in
-          kept_turn t (FindsBad found (m.read + 1)) (finds_in_turn t found (m.read + 1)) (take_in t (line_meaning line) (listen m))
+          let took = finds_take t (count_line m) (line_meaning line) none in
+          kept_turn t (FindsBad found (m.read + 1)) (finds_in_turn t found (m.read + 1)) (take_in t (line_meaning line) (count_line m))
           (took.0 ∙ ap (λ c. bad_of c (m.read + 1)) (same_complaint t m (line_meaning line)), took.1)
     ]
 

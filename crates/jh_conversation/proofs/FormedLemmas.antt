@@ -203,7 +203,7 @@ none-some c x e f = cc
 
 pub holds_by_line : (s : TestValue) → IsKeptByLine s (Holds s)
 holds_by_line s = record {
-  listens = λ m h. h;
+  counts_line = λ m h. h;
   clocks = λ m time h. h;
   stops = λ m h. h;
   refuses = λ m why h. h;

@@ -19,7 +19,7 @@ use Rattle.jh_test_parts.specs.LineMeanings.{MeaningValue, Nothing, Clock, Stop,
 use Rattle.jh_lines.specs.Answering.{after_lines}
 use Rattle.jh_nemesis.specs.State.{first_state}
 use Rattle.jh_conversation.specs.Lines.{end_step, ends_step, at_first, at_time, finish}
-use Rattle.jh_conversation.specs.Lines.{is_test_over, listen, refuse, take_line, stop, take_step_end}
+use Rattle.jh_conversation.specs.Lines.{is_test_over, count_line, refuse, take_line, stop, take_step_end}
 use Rattle.jh_conversation.specs.Lines.{ended_call, ended_request, take_completion, take_in, take_operation}
 use Rattle.jh_test_parts.specs.LineMeanings.{line_meaning}
 use Rattle.jh_test_parts.specs.Values.{fits_call}
@@ -76,7 +76,7 @@ pub record IsKeptInTurn (t : TestValue) (P : Machine → Type 0) : Type 0 where
 
 -- and those of a line
 pub record IsKeptByLine (t : TestValue) (P : Machine → Type 0) : Type 0 where
-  pub listens : (m : Machine) → P m → P (listen m)
+  pub counts_line : (m : Machine) → P m → P (count_line m)
   pub clocks : (m : Machine) (time : ℕ) → P m → P (at_time (Some time) m)
   pub stops : (m : Machine) → P m → P (stop m)
   pub refuses : (m : Machine) (why : Complaint) → P m → P (refuse why m)
@@ -217,9 +217,9 @@ module _ (t : TestValue) (P : Machine → Type 0) (l : IsKeptByLine t P) where
 module _ (t : TestValue) (P : Machine → Type 0) (k : IsKeptInTurn t P) (l : IsKeptByLine t P) where
   pub kept_line : (m : Machine) (line : List ℕ) → P m → P (take_line t m line)
   kept_line m line h =
-      cond_both (is_test_over m) (listen m) (turn t (take_in t (line_meaning line) (listen m))) P
-      (λ _. l.listens m h)
-      (λ _. kept_turn t P k (take_in t (line_meaning line) (listen m)) (kept_take_in t P l (listen m) (line_meaning line) (l.listens m h)))
+      cond_both (is_test_over m) (count_line m) (turn t (take_in t (line_meaning line) (count_line m))) P
+      (λ _. l.counts_line m h)
+      (λ _. kept_turn t P k (take_in t (line_meaning line) (count_line m)) (kept_take_in t P l (count_line m) (line_meaning line) (l.counts_line m h)))
 
   pub kept_lines : (lines : List (List ℕ)) (m : Machine) → P m → P (after_lines (take_line t) m lines)
   kept_lines [] m h = h

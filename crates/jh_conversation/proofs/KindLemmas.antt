@@ -7,7 +7,7 @@ use Rattle.jh_ops.specs.declared.operation.Process.{Process}
 use Rattle.jh_conversation.specs.Laws.{Drivers, IsHeard, IsSaid, step_ended_by, clock_at, ended_by}
 use Rattle.jh_conversation.specs.Laws.{heard, heard_from, run}
 use Rattle.jh_test_parts.specs.LineMeanings.{MeaningValue, Nothing, Clock, Stop, Op, Bad}
-use Rattle.jh_conversation.specs.Lines.{ended_request, ends_step, is_test_over, listen, take_line, take_in}
+use Rattle.jh_conversation.specs.Lines.{ended_request, ends_step, is_test_over, count_line, take_line, take_in}
 use Rattle.jh_test_parts.specs.LineMeanings.{kept_pairs, line_meaning}
 use Rattle.jh_test_parts.specs.Test.{thread_of_process}
 use Rattle.jh_conversation.specs.Machine.{Machine, caller_of}
@@ -36,9 +36,9 @@ said_by_turn t = record {
 
 line_said : (t : TestValue) (m : Machine) (line : List ℕ) → AllByRecursion IsSaid (take_line t m line).said
 line_said t m line =
-    elim (is_test_over m) as (λ b. AllByRecursion IsSaid (if b then listen m else turn t (take_in t (line_meaning line) (listen m))).said) [
+    elim (is_test_over m) as (λ b. AllByRecursion IsSaid (if b then count_line m else turn t (take_in t (line_meaning line) (count_line m))).said) [
       | true ↦ tt
-      | false ↦ kept_turn t SaysSaid (said_by_turn t) (take_in t (line_meaning line) (listen m)) (none_said (sym (hears t (listen m) (line_meaning line) refl).1))
+      | false ↦ kept_turn t SaysSaid (said_by_turn t) (take_in t (line_meaning line) (count_line m)) (none_said (sym (hears t (count_line m) (line_meaning line) refl).1))
     ]
   where
     none_said : {l : List Recorded} → [] ≡ l → AllByRecursion IsSaid l

@@ -212,7 +212,7 @@ module _ (asked_answers : AskedAnswers) (end_keeps : EndKeepsGenerator) (t : Tes
 
   offered_by_line : IsKeptByLine t Offered
   offered_by_line = record {
-    listens = λ m h. h;
+    counts_line = λ m h. h;
     clocks = λ m time h. h;
     stops = λ m h. h;
     refuses = λ m why h. h;

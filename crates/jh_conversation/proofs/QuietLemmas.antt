@@ -40,7 +40,7 @@ quiet_in_turn t = record {
 
 quiet_by_line : (t : TestValue) → IsKeptByLine t IsQuietNow
 quiet_by_line t = record {
-  listens = λ m h. h;
+  counts_line = λ m h. h;
   clocks = λ m time h. h;
   stops = λ m h. h;
   refuses = λ m why h. h;

@@ -13,7 +13,7 @@ use Rattle.jh_nemesis.specs.State.{first_state}
 use Rattle.jh_conversation.specs.Laws.{Drivers, Waits, run, start}
 use Rattle.jh_conversation.specs.Laws.Waits.{IsOver, ForCall, ForStep, ForRate, ForRecovery}
 use Rattle.jh_conversation.specs.Laws.Waits.{ForGenerator}
-use Rattle.jh_conversation.specs.Lines.{at_first, is_test_over, listen, take_line, take_in}
+use Rattle.jh_conversation.specs.Lines.{at_first, is_test_over, count_line, take_line, take_in}
 use Rattle.jh_test_parts.specs.LineMeanings.{line_meaning}
 use Rattle.jh_conversation.specs.Machine.{Machine, are_free, has_no_call, no_caller, caller_of}
 use Rattle.jh_test_parts.specs.Test.{TestValue}
@@ -192,9 +192,9 @@ pub turn_law : (t : TestValue) (d : Drivers t) (lines : List (List ℕ)) (line :
     → (last : Machine) × (take_line t (run t d lines) line ≡ round t last)
     × ((round t last).given ≡ last.given) × (move t (round t last) ≡ None)
 turn_law t d lines line goes =
-    let h = turn_settles t (take_in t (line_meaning line) (listen (run t d lines))) (kept_take_in t (Holds t) (holds_by_line t) (listen (run t d lines)) (line_meaning line)
+    let h = turn_settles t (take_in t (line_meaning line) (count_line (run t d lines))) (kept_take_in t (Holds t) (holds_by_line t) (count_line (run t d lines)) (line_meaning line)
     (kept_run t d (Holds t) (holds_in_turn t) (holds_by_line t) lines (holds_at_first t d))) in
-    (h.last, ap (λ b. if b then listen (run t d lines) else turn t (take_in t (line_meaning line) (listen (run t d lines)))) goes ∙ h.is, h.same, h.stays)
+    (h.last, ap (λ b. if b then count_line (run t d lines) else turn t (take_in t (line_meaning line) (count_line (run t d lines)))) goes ∙ h.is, h.same, h.stays)
 
 -- what it waits for
 
@@ -256,9 +256,9 @@ waits_settled t m h = go m.phase refl
 
 waits_line : (t : TestValue) (m : Machine) (line : List ℕ) → Holds t m → Waits t (take_line t m line)
 waits_line t m line h =
-    (elim (is_test_over m) as (λ b. is_test_over m ≡ b → Waits t (if b then listen m else turn t (take_in t (line_meaning line) (listen m)))) [
+    (elim (is_test_over m) as (λ b. is_test_over m ≡ b → Waits t (if b then count_line m else turn t (take_in t (line_meaning line) (count_line m)))) [
       | true ↦ λ e. IsOver (over_is m.phase e)
-      | false ↦ λ _. waits_settled t (turn t (take_in t (line_meaning line) (listen m))) (turn_settles t (take_in t (line_meaning line) (listen m)) (kept_take_in t (Holds t) (holds_by_line t) (listen m) (line_meaning line) h))
+      | false ↦ λ _. waits_settled t (turn t (take_in t (line_meaning line) (count_line m))) (turn_settles t (take_in t (line_meaning line) (count_line m)) (kept_take_in t (Holds t) (holds_by_line t) (count_line m) (line_meaning line) h))
     ]) refl
 
 waits_lines : (t : TestValue) (lines : List (List ℕ)) (m : Machine) → Holds t m → Waits t m → Waits t (after_lines (take_line t) m lines)

@@ -429,7 +429,7 @@ sound_in_turn t fit = record {
 
 pub sound_by_line : (t : TestValue) → IsFitTest t → IsKeptByLine t (IsSoundMachine t)
 sound_by_line t fit = record {
-  listens = λ m h. h;
+  counts_line = λ m h. h;
   clocks = λ m time h. (h.0, h.1, h.2, h.3, h.4, h.5, h.6, record { time = omega arith; entries = h.7.entries; open_step = h.7.open_step; records = h.7.records });
   stops = λ m h. h;
   refuses = λ m why h. h;

@@ -14,7 +14,7 @@ use Rattle.jh_conversation.specs.Laws.{Drivers, step_ended_by, clock_at, ended_b
 use Rattle.jh_conversation.specs.Laws.{run, start, talk, talk_at, talk_from}
 use Rattle.jh_test_parts.specs.LineMeanings.{MeaningValue, Nothing, Clock, Stop, Op, Bad}
 use Rattle.jh_conversation.specs.Lines.{end_step, ends_step, at_first, at_time, clock_after}
-use Rattle.jh_conversation.specs.Lines.{finish, is_test_over, listen, refuse, take_line, take_step_end}
+use Rattle.jh_conversation.specs.Lines.{finish, is_test_over, count_line, refuse, take_line, take_step_end}
 use Rattle.jh_conversation.specs.Lines.{ended_request, take_completion, take_in, take_operation}
 use Rattle.jh_test_parts.specs.LineMeanings.{kept_pairs, line_meaning}
 use Rattle.jh_test_parts.specs.Test.{thread_of_process}
@@ -100,12 +100,12 @@ hears t m (Op op time) none = go op.process
 
 talked : (t : TestValue) (d : Drivers t) (m : Machine) (line : List ℕ) → (take_line t m line).history ≡ talk_at t m line ++ m.history
 talked t d m line =
-    elim (is_test_over m) as (λ b. (if b then listen m else turn t (take_in t (line_meaning line) (listen m))).history
-    ≡ ((if b then listen m else turn t (take_in t (line_meaning line) (listen m))).said ++ (if b then [] else heard t m (line_meaning line))) ++ m.history) [
+    elim (is_test_over m) as (λ b. (if b then count_line m else turn t (take_in t (line_meaning line) (count_line m))).history
+    ≡ ((if b then count_line m else turn t (take_in t (line_meaning line) (count_line m))).said ++ (if b then [] else heard t m (line_meaning line))) ++ m.history) [
       | true ↦ refl
       | false ↦
-          let took = hears t (listen m) (line_meaning line) refl in
-          let next = take_in t (line_meaning line) (listen m) in
+          let took = hears t (count_line m) (line_meaning line) refl in
+          let next = take_in t (line_meaning line) (count_line m) in
           kept_turn t (HasSaid next.history) (said_in_turn t next.history) next (ap (λ l. l ++ next.history) (sym took.1))
           ∙ ap (λ l. (turn t next).said ++ l) took.0
           ∙ sym (append_assoc (turn t next).said (heard t m (line_meaning line)) m.history)

@@ -27,7 +27,7 @@ time_in_turn t = record {
 
 time_by_line : (t : TestValue) → IsKeptByLine t KeepsTime
 time_by_line t = record {
-  listens = λ m h. h;
+  counts_line = λ m h. h;
   clocks = λ m time h. (omega arith, later m.clock (clock_after m.clock time) m.history (omega (arith, h.0)) h.1);
   stops = λ m h. h;
   refuses = λ m why h. h;

@@ -1,7 +1,7 @@
 -- What holds of every test and every list of lines that is read. Each law is proved as the clause of a
 -- function that does nothing. This project's own.
 use Rattle.std.specs.Prelude.{◌≡◌, ℕ, suc, ◌+◌, ◌==◌, ◌<◌, ◌≤◌, true, false, ◌&&◌}
-use Rattle.std.specs.Prelude.{◌*◌, ◌^◌, List, [], ◌∷◌, ◌++◌, Option, Some, None, if◌then◌else◌}
+use Rattle.std.specs.Prelude.{◌*◌, List, [], ◌∷◌, ◌++◌, Option, Some, None, if◌then◌else◌}
 use Rattle.std.specs.Prelude.{Result, Ok, Err}
 use Rattle.std.specs.List.{AllByRecursion}
 use Rattle.jh_edn.specs.Edn.{Edn, is_empty}
@@ -19,12 +19,13 @@ use Rattle.jh_ops.specs.Pairing.{is_invoke}
 use Rattle.jh_test_parts.specs.LineMeanings.{MeaningValue, Op, Bad}
 use Rattle.jh_conversation.specs.Lines.{ends_step, at_first, clock_after, ended_request, is_test_over}
 use Rattle.jh_test_parts.specs.LineMeanings.{kept_pairs, line_meaning}
-use Rattle.jh_conversation.specs.Lines.{listen, take_line, take_in}
+use Rattle.jh_conversation.specs.Lines.{count_line, take_line, take_in}
 use Rattle.jh_test_parts.specs.Values.{fits_call}
 use Rattle.jh_test_parts.specs.Test.{thread_of_process}
 use Rattle.jh_conversation.specs.Machine.{Machine, are_free, caller_of}
 use Rattle.jh_test_parts.specs.Test.{TestValue}
-use Rattle.jh_conversation.specs.Turn.{keeps_rate, may_call, millisecond, move, round, turn}
+use Rattle.jh_conversation.specs.Turn.{all_stopped, keeps_rate, main_stopped, may_call, millisecond}
+use Rattle.jh_conversation.specs.Turn.{move, round, second, turn}
 use Rattle.jh_test_parts.specs.declared.calls.ValuedCall.{ValuedCall}
 use Rattle.jh_conversation.specs.declared.callers.OpenStep.{OpenStep}
 use Rattle.jh_test_parts.specs.declared.complaints.Complaint.{Complaint}
@@ -250,31 +251,31 @@ IsBeforeFinal _ = ⊥
 
 -- the machine that has taken in a line, before its turn
 abbrev pub took : (t : TestValue) → Drivers t → List (List ℕ) → List ℕ → Machine
-took t d lines line = take_in t (line_meaning line) (listen (run t d lines))
+took t d lines line = take_in t (line_meaning line) (count_line (run t d lines))
 
 -- from a line on that stops, there is no call until *final* begins
 abbrev pub StopEndsMainCalls : Type 0
 StopEndsMainCalls =
     (t : TestValue) (d : Drivers t) (lines more : List (List ℕ)) (line : List ℕ)
-    → 1 ≤ (took t d lines line).stops → IsBeforeFinal (run t d (lines ++ line ∷ more)).phase
+    → main_stopped ≤ (took t d lines line).stops → IsBeforeFinal (run t d (lines ++ line ∷ more)).phase
     → invocations_in (run t d (lines ++ line ∷ more)).history ≡ invocations_in (run t d lines).history
 
 -- and from one on that stops a second time, or that is no reply, there is none at all
 abbrev pub TwoStopsEndCalls : Type 0
 TwoStopsEndCalls =
     (t : TestValue) (d : Drivers t) (lines more : List (List ℕ)) (line : List ℕ)
-    → 2 ≤ (took t d lines line).stops
+    → all_stopped ≤ (took t d lines line).stops
     → invocations_in (run t d (lines ++ line ∷ more)).history ≡ invocations_in (run t d lines).history
 
 -- before so many milliseconds, where there is a limit
 abbrev pub IsBeforeLimit : Option ℕ → ℕ → Type 0
 IsBeforeLimit None time = Unit {0}
-IsBeforeLimit (Some most) time = time < most * 10 ^ 6
+IsBeforeLimit (Some most) time = time < most * millisecond
 
 -- the call with this number, from 0, is not before its time at so many calls a second
 abbrev pub IsAtRate : Option ℕ → ℕ → ℕ → Type 0
 IsAtRate None number time = Unit {0}
-IsAtRate (Some rate) number time = number * 10 ^ 9 ≤ time * rate
+IsAtRate (Some rate) number time = number * second ≤ time * rate
 
 -- no call is past the limit or faster than the rate
 abbrev pub AreTimely : TestValue → List Recorded → Type 0

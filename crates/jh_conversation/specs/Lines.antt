@@ -26,7 +26,7 @@ use Rattle.jh_test_parts.specs.Test.{thread_of_process}
 use Rattle.jh_test_parts.specs.Values.{fits_call}
 use Rattle.jh_test_parts.specs.Transactions.{first_source}
 use Rattle.jh_test_parts.specs.Test.{TestValue}
-use Rattle.jh_conversation.specs.Turn.{turn}
+use Rattle.jh_conversation.specs.Turn.{all_stopped, main_stopped, turn}
 use Rattle.jh_test_parts.specs.declared.calls.ValuedCall.{ValuedCall}
 use Rattle.jh_conversation.specs.declared.callers.OpenStep.{OpenStep}
 use Rattle.jh_test_parts.specs.declared.complaints.Complaint.{Complaint}
@@ -47,13 +47,13 @@ abbrev pub first : Option (ℕ × Complaint) → ℕ × Complaint → Option (�
 first None later = Some later
 first (Some earlier) later = Some earlier
 
--- how often a stop was read after so many more of them; twice is all that counts
+-- how far calls are stopped after so many more stops: two of them stop all calls
 abbrev pub stops_after : ℕ → ℕ → ℕ
-stops_after more stops = min 2 (stops + more)
+stops_after more stops = min all_stopped (stops + more)
 
--- A line that is no reply: the first one is kept, and each counts as two stops.
+-- A line that is no reply: the first one is kept, and each stops all calls.
 abbrev pub refuse : Complaint → Machine → Machine
-refuse why m = record m { bad = first m.bad (m.read, why); stops = stops_after 2 m.stops }
+refuse why m = record m { bad = first m.bad (m.read, why); stops = stops_after all_stopped m.stops }
 
 -- the greatest time that was read; an integer of a text is less than 2^63
 abbrev pub clock_after : ℕ → ℕ → ℕ
@@ -63,10 +63,10 @@ abbrev pub at_time : Option ℕ → Machine → Machine
 at_time None m = m
 at_time (Some time) m = record m { clock = clock_after m.clock time }
 
--- once in *main*, twice elsewhere
+-- a stop in *main* stops its calls, one elsewhere all
 abbrev pub stops_by : Phase → ℕ
-stops_by Main = 1
-stops_by _ = 2
+stops_by Main = main_stopped
+stops_by _ = all_stopped
 
 abbrev pub stop : Machine → Machine
 stop m = record m { stops = stops_after (stops_by m.phase) m.stops }
@@ -150,13 +150,13 @@ take_in t (Bad why) m = refuse why m
 take_in t (Op op time) m = take_operation t op time op.process m
 
 -- one more line was read, to which nothing is said yet
-abbrev pub listen : Machine → Machine
-listen m = record m { read = m.read + 1; said = [] }
+abbrev pub count_line : Machine → Machine
+count_line m = record m { read = m.read + 1; said = [] }
 
 -- The machine after a line. Nothing is said or heard behind the end.
 abbrev pub take_line : TestValue → Machine → List ℕ → Machine
 take_line t m line =
-    if is_test_over m then listen m else turn t (take_in t (line_meaning line) (listen m))
+    if is_test_over m then count_line m else turn t (take_in t (line_meaning line) (count_line m))
 
 -- the machine before its first turn
 abbrev pub at_first : TestValue → DriverState → Option DriverState → State → Machine

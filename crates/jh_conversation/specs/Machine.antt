@@ -37,7 +37,7 @@ pub record Machine : Type 0 where
   pub nemesis : State
   pub taken : ℕ
   pub step : Option OpenStep
-  -- how far calls are stopped: 0 not, 1 those of *main*, 2 all
+  -- how far calls are stopped: 0, `main_stopped` or `all_stopped` (Turn)
   pub stops : ℕ
   -- the greatest time that was read, and that at which *rest* began, in nanoseconds
   pub clock : ℕ

@@ -47,6 +47,19 @@ millisecond = 10 ^ 6
 
 -- What may be said.
 
+-- how far calls are stopped: those of *main*, or all; 0 where none are
+abbrev pub main_stopped : ℕ
+main_stopped = 1
+
+abbrev pub all_stopped : ℕ
+all_stopped = 2
+
+abbrev pub are_no_calls_stopped : (stops : ℕ) → Bool
+are_no_calls_stopped stops = stops == 0
+
+abbrev pub are_all_calls_stopped : (stops : ℕ) → Bool
+are_all_calls_stopped stops = nat_le all_stopped stops
+
 -- a limit in milliseconds has come, where there is one
 abbrev pub has_come : Option ℕ → ℕ → Bool
 has_come None now = false
@@ -60,8 +73,8 @@ keeps_rate (Some rate) given now = nat_le (given * second) (now * rate)
 -- a call may be given in a phase, so far as stops, the time limit and the rate go
 abbrev pub may_call_in_phase : Phase → TestValue → (stops given now : ℕ) → Bool
 may_call_in_phase Main t stops given now =
-    stops == 0 && (not (has_come t.time_limit now) && keeps_rate t.rate given now)
-may_call_in_phase Final t stops given now = not (nat_le 2 stops)
+    are_no_calls_stopped stops && (not (has_come t.time_limit now) && keeps_rate t.rate given now)
+may_call_in_phase Final t stops given now = not (are_all_calls_stopped stops)
 may_call_in_phase _ t stops given now = false
 
 -- a call may be given: in *main* none after a stop, past the time limit or faster than the rate; in
@@ -71,8 +84,8 @@ may_call t m = not m.has_spent && may_call_in_phase m.phase t m.stops m.given m.
 
 -- the calls of a phase are stopped: those of *main* by a stop or the time limit, others by a second stop
 abbrev pub are_calls_stopped : Phase → TestValue → (stops now : ℕ) → Bool
-are_calls_stopped Main t stops now = not (stops == 0) || has_come t.time_limit now
-are_calls_stopped _ t stops now = nat_le 2 stops
+are_calls_stopped Main t stops now = not (are_no_calls_stopped stops) || has_come t.time_limit now
+are_calls_stopped _ t stops now = are_all_calls_stopped stops
 
 -- no call is open, and no more may come
 abbrev pub calls_ended : TestValue → Machine → Bool
@@ -91,7 +104,7 @@ if_due m (Some entry) =
 -- after a stop; in *heal* the withdrawal of all faults, where one is active
 abbrev pub due_in_phase : Phase → TestValue → Machine → Option Due
 due_in_phase Main t m =
-    if calls_ended t m || not (m.stops == 0) then None
+    if calls_ended t m || not (are_no_calls_stopped m.stops) then None
     else if_due m (slice_get t.schedule m.taken)
 due_in_phase Heal t m =
     if is_empty m.nemesis.active then None
@@ -250,7 +263,8 @@ has_recovered t m = nat_le (m.rest_began + t.recovery * millisecond) m.clock
 abbrev pub after_rest : TestValue → Option DriverState → Machine → Option Machine
 after_rest t None m = Some (end m)
 after_rest t (Some driver) m =
-    if nat_le 2 m.stops then Some (end m) else when (has_recovered t m) (final t driver m)
+    if are_all_calls_stopped m.stops then Some (end m)
+    else when (has_recovered t m) (final t driver m)
 
 abbrev pub move_from : Phase → TestValue → Machine → Option Machine
 move_from Main t m = when (calls_ended t m) (heal m)

@@ -50,7 +50,7 @@ impl Model for Conversation {
 }
 
 /// A driver of the calls of a generator, before its first call.
-fn driver_of(alloc: Global, test: &Test, generator: &Gen) -> Result<Driver, AllocError>
+fn driver_at_first(alloc: Global, test: &Test, generator: &Gen) -> Result<Driver, AllocError>
     requires { suits_workload test.now.workload test.now.clients (generator_of generator.now) ≡ true }
     ensures { IfOk result (IsDriverAtFirst test.now (generator_of generator.now)) }
 {
@@ -69,7 +69,7 @@ fn first_driver(alloc: Global, test: &Test) -> Result<Driver, AllocError>
 {
     // The answer is not used: this call's contract says that the test can be made.
     let _clients = test.clients();
-    driver_of(alloc, test, test.generator())
+    driver_at_first(alloc, test, test.generator())
 }
 
 /// The driver of the calls of *final*, where there are some.
@@ -80,7 +80,7 @@ fn final_driver(alloc: Global, test: &Test) -> Result<Option<Driver>, AllocError
     let _clients = test.clients();
     match test.final_calls() {
         None => Ok(None),
-        Some(generator) => Ok(Some(driver_of(alloc, test, generator)?)),
+        Some(generator) => Ok(Some(driver_at_first(alloc, test, generator)?)),
     }
 }
 
@@ -158,7 +158,7 @@ impl jh_lines::Machine for Conversation {
     ghost use Rattle.std.proofs.Common.{ap, ◌∙◌};
     ghost use Rattle.jh_conversation.specs.Conversations.{answer_to_line, conversation_after};
     ghost use Rattle.jh_conversation.specs.Conversations.{is_over as is_over_of, opening_of};
-    ghost use Rattle.jh_conversation.specs.Lines.{is_test_over, listen, take_line, take_in};
+    ghost use Rattle.jh_conversation.specs.Lines.{is_test_over, count_line, take_line, take_in};
     ghost use Rattle.jh_test_parts.specs.LineMeanings.{line_meaning};
     ghost use Rattle.jh_conversation.specs.Text.{said_lines};
     ghost use Rattle.jh_conversation.specs.Turn.{turn};
@@ -173,8 +173,8 @@ impl jh_lines::Machine for Conversation {
 
     ghost stays_over = { λ c line over. (
       ap (λ b. if b then [] else said_lines c.test (take_line c.test c.machine line)) over,
-      ap (λ b. is_test_over (if b then listen c.machine
-          else turn c.test (take_in c.test (line_meaning line) (listen c.machine)))) over ∙ over,
+      ap (λ b. is_test_over (if b then count_line c.machine
+          else turn c.test (take_in c.test (line_meaning line) (count_line c.machine)))) over ∙ over,
     ) };
 
     fn open(&self, out: &mut Vec<u8>) -> Result<(), AllocError> {

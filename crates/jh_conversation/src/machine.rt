@@ -16,6 +16,11 @@ use rand_pcg::Lcg128Xsl64;
 use std::alloc::{AllocError, Global};
 use std::marker::Model;
 
+/// Of `stops`: the calls of *main* are stopped, and all calls are.
+pub(crate) const MAIN_STOPPED: u64 = 1;
+
+pub(crate) const ALL_STOPPED: u64 = 2;
+
 /// The machine of a test. What was said to the last line is the newest part of the history.
 ///
 /// It is a state, and does not implement the trait `Machine` of `jh_lines`: a `Conversation` does,
@@ -46,7 +51,7 @@ pub struct Machine {
     pub(crate) taken: usize,
     /// The step that is open: no reply has ended it.
     pub(crate) step: Option<OpenStep>,
-    /// How far calls are stopped: 0 not, 1 those of *main*, 2 all.
+    /// How far calls are stopped: 0 not, or `MAIN_STOPPED`, or `ALL_STOPPED`.
     pub(crate) stops: u64,
     /// The greatest time that was read, and that at which *rest* began, in nanoseconds.
     pub(crate) clock: u64,

@@ -9,7 +9,7 @@ ghost use Rattle.jh_test_parts.specs.Test.{thread_of_process};
 ghost use Rattle.jh_conversation.specs.Sound.{IsSoundMachine};
 
 use crate::callers::{Caller, OpenStep};
-use crate::machine::Machine;
+use crate::machine::{ALL_STOPPED, MAIN_STOPPED, Machine};
 use crate::phase::Phase;
 use jh_edn::Value;
 use jh_gen::{Ended, Thread};
@@ -57,14 +57,14 @@ fn ends_step(alloc: Global, step: OpenStep, op: &Op) -> Result<bool, AllocError>
 }
 
 impl Machine {
-    /// Keeps a line that is no reply, if it is the first one. Each such line counts as two stops.
+    /// Keeps a line that is no reply, if it is the first one. Each such line stops all calls.
     fn refuse(&mut self, why: Complaint)
         ensures { self.new ≡ rule.refuse why self.old }
     {
         if self.bad.is_none() {
             self.bad = Some((self.read, why));
         }
-        self.stops = self.stops.saturating_add(2).min(2);
+        self.stops = self.stops.saturating_add(ALL_STOPPED).min(ALL_STOPPED);
     }
 
     /// Moves the clock on.
@@ -81,10 +81,10 @@ impl Machine {
         ensures { self.new ≡ rule.stop self.old }
     {
         let more = match self.phase {
-            Phase::Main => 1,
-            Phase::Heal | Phase::Rest | Phase::Final | Phase::Over => 2,
+            Phase::Main => MAIN_STOPPED,
+            Phase::Heal | Phase::Rest | Phase::Final | Phase::Over => ALL_STOPPED,
         };
-        self.stops = self.stops.saturating_add(more).min(2);
+        self.stops = self.stops.saturating_add(more).min(ALL_STOPPED);
     }
 
     /// Ends a call of a thread, which made this request.
@@ -166,7 +166,7 @@ impl Machine {
     }
 
     /// Ends a call of a thread, or keeps why none is ended.
-    fn take_ended(
+    fn take_completion_of_thread(
         &mut self,
         alloc: Global,
         test: &Test,
@@ -212,7 +212,7 @@ impl Machine {
             (machine.caller_of self.old (thread_of_process test.now process)).call)) }
     {
         let ended = self.ended_request(alloc, test, process, &op)?;
-        self.take_ended(alloc, test, test.thread_of(process), ended, op, time)
+        self.take_completion_of_thread(alloc, test, test.thread_of(process), ended, op, time)
     }
 
     /// Takes the end of a step.
@@ -298,12 +298,11 @@ impl Machine {
         }
     }
 
-    /// Counts a line that was read, to which nothing is said yet. It waits for nothing, unlike `listen` of a
-    /// peer (`jh_lines`).
+    /// Counts a line that was read, to which nothing is said yet.
     ///
     /// Error: 2^64 - 1 lines were read before, which is told as out of memory.
-    fn listen(&mut self) -> Result<(), AllocError>
-        ensures { OnOk result (self.new ≡ rule.listen self.old) }
+    fn count_line(&mut self) -> Result<(), AllocError>
+        ensures { OnOk result (self.new ≡ rule.count_line self.old) }
     {
         if self.read == u64::MAX {
             return Err(AllocError);
@@ -325,7 +324,7 @@ impl Machine {
     {
         // The answer is not used: this call's contract says that the test can be made.
         let _clients = test.clients();
-        self.listen()?;
+        self.count_line()?;
         if self.is_over() {
             return Ok(());
         }

@@ -13,7 +13,7 @@ ghost use Rattle.jh_conversation.specs.Turn as rule;
 ghost use Rattle.jh_conversation.specs.TurnInside as inside;
 
 use crate::callers::{Caller, OpenStep};
-use crate::machine::{Machine, has_no_call, new_callers};
+use crate::machine::{ALL_STOPPED, Machine, has_no_call, new_callers};
 use crate::phase::Phase;
 use jh_edn::{Value, Values};
 use jh_gen::{Driver, GenAnswer, GenError, Thread};
@@ -92,6 +92,20 @@ fn take_step(
 }
 
 impl Machine {
+    /// Whether no calls are stopped.
+    fn are_no_calls_stopped(&self) -> bool
+        ensures { result ≡ rule.are_no_calls_stopped self.now.stops }
+    {
+        self.stops == 0
+    }
+
+    /// Whether all calls are stopped.
+    fn are_all_calls_stopped(&self) -> bool
+        ensures { result ≡ rule.are_all_calls_stopped self.now.stops }
+    {
+        ALL_STOPPED <= self.stops
+    }
+
     /// Whether a call may be given.
     fn may_call(&self, test: &Test) -> bool
         ensures { result ≡ rule.may_call test.now self.now }
@@ -101,11 +115,11 @@ impl Machine {
         }
         match self.phase {
             Phase::Main => {
-                self.stops == 0
+                self.are_no_calls_stopped()
                     && !has_come(test.time_limit(), self.clock)
                     && keeps_rate(test.rate(), self.given, self.clock)
             }
-            Phase::Final => !(2 <= self.stops),
+            Phase::Final => !self.are_all_calls_stopped(),
             Phase::Heal | Phase::Rest | Phase::Over => false,
         }
     }
@@ -115,8 +129,8 @@ impl Machine {
         ensures { result ≡ rule.are_calls_stopped self.now.phase test.now self.now.stops self.now.clock }
     {
         match self.phase {
-            Phase::Main => !(self.stops == 0) || has_come(test.time_limit(), self.clock),
-            Phase::Heal | Phase::Rest | Phase::Final | Phase::Over => 2 <= self.stops,
+            Phase::Main => !self.are_no_calls_stopped() || has_come(test.time_limit(), self.clock),
+            Phase::Heal | Phase::Rest | Phase::Final | Phase::Over => self.are_all_calls_stopped(),
         }
     }
 
@@ -158,7 +172,7 @@ impl Machine {
     {
         match self.phase {
             Phase::Main => {
-                if self.calls_ended(test) || !(self.stops == 0) {
+                if self.calls_ended(test) || !self.are_no_calls_stopped() {
                     return Ok(None);
                 }
                 match test.schedule().get(self.taken) {
@@ -434,7 +448,7 @@ impl Machine {
         ensures moved { IfOk result
             (λ moved. moved ≡ is_some (rule.after_rest test.now self.old.final_calls self.old)) }
     {
-        if self.final_calls.is_none() || 2 <= self.stops {
+        if self.final_calls.is_none() || self.are_all_calls_stopped() {
             self.phase = Phase::Over;
             return Ok(true);
         }

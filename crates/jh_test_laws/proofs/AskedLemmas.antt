@@ -121,7 +121,7 @@ stands_in_turn t = record {
 
 stands_by_line : (t : TestValue) → IsKeptByLine t (Stands t)
 stands_by_line t = record {
-  listens = λ m h. record { wide = h.wide; counts = h.counts; source = h.source; given = h.given; asked = h.asked };
+  counts_line = λ m h. record { wide = h.wide; counts = h.counts; source = h.source; given = h.given; asked = h.asked };
   clocks = λ m time h. record { wide = h.wide; counts = h.counts; source = h.source; given = h.given; asked = h.asked };
   stops = λ m h. record { wide = h.wide; counts = h.counts; source = h.source; given = h.given; asked = h.asked };
   refuses = λ m why h. record { wide = h.wide; counts = h.counts; source = h.source; given = h.given; asked = h.asked };

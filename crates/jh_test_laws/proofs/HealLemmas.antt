@@ -136,7 +136,7 @@ module _ (t : TestValue) (fit : IsFitTest t) where
 
   stands_by_line : IsKeptByLine t (Stands t)
   stands_by_line = record {
-    listens = λ m h. record { few = h.few; healed = h.healed };
+    counts_line = λ m h. record { few = h.few; healed = h.healed };
     clocks = λ m time h. record { few = h.few; healed = h.healed };
     stops = λ m h. record { few = h.few; healed = h.healed };
     refuses = λ m why h. record { few = h.few; healed = h.healed };

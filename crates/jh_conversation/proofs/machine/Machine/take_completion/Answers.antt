@@ -6,8 +6,8 @@ use Rattle.jh_conversation.specs.Machine.{caller_of, has_no_call}
 use Rattle.jh_conversation.proofs.LineLemmas.{ended_open}
 use Rattle.jh_conversation.proofs.machine.Machine.take_completion.Goals as goal
 
-pub take_ended-requires-clause-open : goal.take_ended-requires-clause-open
-take_ended-requires-clause-open c =
+pub take_completion_of_thread-requires-clause-open : goal.take_completion_of_thread-requires-clause-open
+take_completion_of_thread-requires-clause-open c =
     let t = c.args.test.now in
     let thread = thread_of_process t c.args.process in
     let call = (caller_of c.args.self.now thread).call in
@@ -19,6 +19,6 @@ returns c =
     let t = c.args.test.now in
     let m = c.args.self.now in
     let op = operation c.args.op in
-    subst (λ x. OnOk c.take_ended.result (c.take_ended.new.self ≡ x))
+    subst (λ x. OnOk c.take_completion_of_thread.result (c.take_completion_of_thread.new.self ≡ x))
     (ap₂ (λ n e. take_completion t n op c.args.time m e) c.thread_of.ensures.thread c.in_ok-ended.ensures)
-    c.take_ended.ensures
+    c.take_completion_of_thread.ensures

@@ -9,4 +9,4 @@ pub turn-requires : goal.turn-requires
 turn-requires c =
     let t = c.args.test.now in
     subst (IsSoundMachine t) (sym c.in_ok-take_in.ensures)
-    (kept_take_in t (IsSoundMachine t) (sound_by_line t c.clients-clients.ensures.fit) c.listen.new.self (line_meaning_by c.in_ok-meaning.meaning) (subst (IsSoundMachine t) (sym c.in_ok-listen.ensures) c.requires))
+    (kept_take_in t (IsSoundMachine t) (sound_by_line t c.clients-clients.ensures.fit) c.count_line.new.self (line_meaning_by c.in_ok-meaning.meaning) (subst (IsSoundMachine t) (sym c.in_ok-count_line.ensures) c.requires))
