@@ -387,11 +387,6 @@ impl Test {
     pub fn node_of(&self, thread: u32) -> Node
         ensures { result ≡ rule.node_of_thread self.now thread }
     {
-        let nodes = self.environment.nodes();
-        let place = thread as usize % nodes.len();
-        match nodes.at(place as u8) {
-            Some(node) => node,
-            None => unreachable!(),
-        }
+        self.environment.nodes().of_thread(thread)
     }
 }
