@@ -25,12 +25,12 @@ use crate::commands::{Command, command_of, do_command, run_settings_path_of, tes
 use crate::line::parse;
 use clap::ArgMatches;
 use jh_cli::{CliError, HistoryObserver};
-use jh_drive::{CallObserver, DriveError, drive_observed};
+use jh_drive::{CallObserver, DriveError, drive};
 use jh_edn::Value;
 use jh_lines::Streams;
 use jh_search::SearchObserver;
 use jh_settings_texts::steps_in_settings;
-use jh_shrink::Observer;
+use jh_shrink::ShrinkObserver;
 use std::alloc::Global;
 use std::convert::AsStr;
 use std::fs::{self, Files};
@@ -91,7 +91,7 @@ where
         Err(_) => return Err(DriveError::SettingsRead),
     };
     observer.see_test();
-    drive_observed(rt.alloc(), &settings, streams, observer)
+    drive(rt.alloc(), &settings, streams, observer)
 }
 
 /// The steps of the schedule that the settings in a file have.
@@ -173,7 +173,7 @@ where
     S: AsStr,
     R: Read,
     W: Write,
-    O: CommandObserver + Observer + SearchObserver + HistoryObserver + CallObserver,
+    O: CommandObserver + ShrinkObserver + SearchObserver + HistoryObserver + CallObserver,
     ensures done { IfOk result (λ status. IsCommandDone (map S.text arguments.now)
         (R.remaining streams.old.reader) (W.contents streams.old.writer) (W.contents streams.new.writer) status
         ⊎ IsConductedTo (map S.text arguments.now)

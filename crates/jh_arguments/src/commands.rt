@@ -35,11 +35,11 @@ use clap::ArgMatches;
 use jh_checkers::{Checker, Judging, model_named};
 use jh_cli::{
     CheckQuestion, CliError, HistoryObserver, SearchQuestion, Show, TimelineQuestion, check_run,
-    env_run, plot_run, run_run, search_run, shrink_run_observed, timeline_run,
+    env_run, plot_run, run_run, search_run, shrink_run, timeline_run,
 };
 use jh_edn::Value;
 use jh_search::{Palette, SearchObserver};
-use jh_shrink::Observer;
+use jh_shrink::ShrinkObserver;
 use jh_timeline_sections::Choice;
 use jh_txn::ConsistencyModel;
 use std::alloc::Global;
@@ -399,7 +399,7 @@ where
     T: Threads + Wait + Sync,
     R: Read,
     W: Write,
-    O: Observer + SearchObserver + HistoryObserver,
+    O: ShrinkObserver + SearchObserver + HistoryObserver,
     requires { HasNumbersInRange command }
     ensures written { IfOk result (λ status. WritesOutput (R.remaining reader.old)
         (IsOutputOf command.entry (views steps.now)) status (W.contents writer.old) (W.contents writer.new)) }
@@ -415,7 +415,7 @@ where
         Command::Env => env_run(alloc, reader, writer),
         Command::Check(question) => check_run(rt, alloc, reader, writer, question, observer),
         Command::Run => run_run(rt, alloc, reader, writer),
-        Command::Shrink(budget) => shrink_run_observed(alloc, reader, writer, budget, observer),
+        Command::Shrink(budget) => shrink_run(alloc, reader, writer, budget, observer),
         Command::Search(question) => search_run(rt, alloc, reader, writer, question, observer),
         Command::Timeline(question) => timeline_run(alloc, reader, writer, question, steps),
         Command::Plot(skips_unread) => plot_run(alloc, reader, writer, skips_unread),

@@ -10,7 +10,7 @@ use jh_cli::{HistoryCounts, HistoryObserver};
 use jh_drive::{CallCounts, CallObserver};
 use jh_reports::UNKNOWN;
 use jh_search::SearchObserver;
-use jh_shrink::Observer;
+use jh_shrink::ShrinkObserver;
 use std::cell::Cell;
 use std::time::{Clock, Instant};
 
@@ -129,7 +129,7 @@ impl<P: Eprint + Clock> CommandObserver for Teller<'_, P> {
     }
 }
 
-impl<P: Eprint> Observer for Teller<'_, P> {
+impl<P: Eprint> ShrinkObserver for Teller<'_, P> {
     fn see(&mut self, entries: usize, calls: u64) {
         if self.is_shown() {
             let _ = eprint!(self.rt; "{EMPTY_LINE}run {calls}, {entries} entries left");

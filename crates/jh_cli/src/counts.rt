@@ -9,7 +9,6 @@ ghost use Rattle.jh_cli.specs.Enough.{is_judged as is_judged_of};
 use crate::enough::is_judged;
 use jh_checkers::Checker;
 use jh_ops::{Kind, Op};
-use jh_shrink::Nobody;
 
 /// How many operations of clients a history has, by their invocations.
 #[derive(Clone, Copy, Debug, PartialEq, Eq)]
@@ -24,10 +23,6 @@ pub struct HistoryCounts {
 pub trait HistoryObserver {
     /// A history with so many operations is judged next.
     fn see_history(&mut self, counts: HistoryCounts);
-}
-
-impl HistoryObserver for Nobody {
-    fn see_history(&mut self, _counts: HistoryCounts) {}
 }
 
 /// Whether a record is a client's invocation of a function that the checker does not judge.

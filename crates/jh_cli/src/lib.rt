@@ -29,5 +29,5 @@ pub use judging_option::JudgingOption;
 pub use plot_command::plot_run;
 pub use run_command::run_run;
 pub use search_command::{SearchQuestion, Show, search_run};
-pub use shrink_command::{shrink_run, shrink_run_observed};
+pub use shrink_command::shrink_run;
 pub use timeline_command::{TimelineQuestion, timeline_run};

@@ -20,9 +20,7 @@ use crate::error::CliError;
 use crate::output::{MAX_READS, finish};
 use jh_edn::read_bytes;
 use jh_reports::{DONE, INVALID, Output, UNKNOWN};
-use jh_search::{
-    Options, Palette, SearchError, SearchObserver, Searched, candidate, search_observed,
-};
+use jh_search::{Options, Palette, SearchError, SearchObserver, Searched, candidate, search};
 use jh_settings::settings_of;
 use jh_settings_texts::{Spread, can_be_written, schedule_to_text, settings_behind};
 use jh_simnode::Plan;
@@ -250,7 +248,7 @@ fn search_plan<T: Threads + Wait + Sync, O: SearchObserver>(
         (λ output. IsSearchedText plan.now options.now output.status output.text.items) }
     ensures wanted { IsErrOf result SearchError.Thread → threads ≢ 1 }
 {
-    let searched = search_observed(rt, alloc, plan, options, threads, observer)?;
+    let searched = search(rt, alloc, plan, options, threads, observer)?;
     Ok(Output {
         status: status_of(searched),
         text: text_of(alloc, plan, options, searched)?,

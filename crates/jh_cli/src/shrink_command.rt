@@ -22,7 +22,7 @@ use jh_judged_runs::judge_run;
 use jh_reports::{DONE, INVALID, Output, UNKNOWN, write_line};
 use jh_settings::settings_of;
 use jh_settings_texts::value_of_entry;
-use jh_shrink::{Nobody, Observer, Shrunk, shrink_observed};
+use jh_shrink::{ShrinkObserver, Shrunk, shrink};
 use jh_simnode::{Entry, Plan, Schedule};
 use std::alloc::{AllocError, Global};
 use std::io::{Read, Write};
@@ -41,31 +41,12 @@ use std::io::{Read, Write};
 ///
 /// The mode of the settings means nothing. The same input gives the same runs each time
 /// (`jh_run_laws::same_settings_same_run`), and the same bytes, as tests show. All is read and done
-/// before the first byte is written.
+/// before the first byte is written. It tells an observer before each run how many entries are left and which run it is.
 ///
 /// Errors: an error of reading (`Input`, `Read`); `Settings`; `OutOfMemory`, also where a run is
 /// refused or its history can't be judged; `Write`. Nothing is written before any of them but
 /// `Write`.
-pub fn shrink_run<R: Read, W: Write>(
-    alloc: Global,
-    reader: &mut R,
-    writer: &mut W,
-    budget: u64,
-) -> Result<u8, CliError>
-    ensures written { IfOk result (λ status. WritesOutput (R.remaining reader.old)
-        (IsShrinkTextOf budget) status (W.contents writer.old) (W.contents writer.new)) }
-    ensures refused { IfErr result (λ e. OnInput (R.remaining reader.old)
-        (λ input. RefusesShrinking budget input e)) }
-    ensures unwritten { IfErr result (λ e. e ≢ CliError.Write → writer.new ≡ writer.old) }
-{
-    shrink_run_observed(alloc, reader, writer, budget, &mut Nobody)
-}
-
-/// [`shrink_run`], which tells an observer before each run how many entries are left and which run
-/// it is.
-///
-/// Errors: those of `shrink_run`.
-pub fn shrink_run_observed<R: Read, W: Write, O: Observer>(
+pub fn shrink_run<R: Read, W: Write, O: ShrinkObserver>(
     alloc: Global,
     reader: &mut R,
     writer: &mut W,
@@ -84,7 +65,7 @@ pub fn shrink_run_observed<R: Read, W: Write, O: Observer>(
 }
 
 /// All that is written for these bytes.
-fn shrink_bytes<O: Observer>(
+fn shrink_bytes<O: ShrinkObserver>(
     alloc: Global,
     input: &[u8],
     budget: u64,
@@ -107,7 +88,7 @@ fn shrink_bytes<O: Observer>(
 
 /// What is left of the schedule of a plan, by at most `budget` runs. Their histories are judged by a judge
 /// of the budget `judge_budget`.
-fn shrink_plan<O: Observer>(
+fn shrink_plan<O: ShrinkObserver>(
     alloc: Global,
     plan: &Plan,
     judge_budget: u64,
@@ -123,7 +104,7 @@ fn shrink_plan<O: Observer>(
     let judge = |schedule: &Schedule| -> Option<bool>
         ensures { RunAnswers plan.entry.now judge_budget schedule.now result }
     { answer_of(alloc, plan, judge_budget, schedule) };
-    match shrink_observed(alloc, given, judge, budget, observer) {
+    match shrink(alloc, given, judge, budget, observer) {
         Ok(shrunk) => Ok(shrunk),
         Err(_) => Err(AllocError),
     }

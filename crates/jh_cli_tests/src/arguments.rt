@@ -6,7 +6,7 @@ use jh_arguments::{
     answer, command_of, parse, status_of_refusal,
 };
 use jh_search::SearchObserver;
-use jh_shrink::Observer;
+use jh_shrink::ShrinkObserver;
 use std::alloc::Global;
 use std::fs::Files;
 use std::io::Write;
@@ -469,8 +469,8 @@ impl CommandObserver for Seen {
     fn see_test(&mut self) {}
 }
 
-impl Observer for Seen {
-    fn see(&mut self, _entries: usize, _calls: u64) {}
+impl ShrinkObserver for Seen {
+    fn see(&mut self, _entries: usize, _asked: u64) {}
 }
 
 impl SearchObserver for Seen {

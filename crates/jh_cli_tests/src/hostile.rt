@@ -1,10 +1,10 @@
 //! Inputs that are cut anywhere or too long, readers that give one byte at a time, and writers that take one, or none from some byte
 //! on.
 
+use crate::nobody::Nobody;
 use crate::rows::{answer_once, command, with_status};
 use jh_arguments::do_command;
 use jh_cli::CliError;
-use jh_shrink::Nobody;
 use std::alloc::Global;
 use std::io::{self, Read, Write};
 use std::sync::Wait;

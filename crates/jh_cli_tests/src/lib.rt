@@ -23,6 +23,8 @@ mod histories;
 #[cfg(test)]
 mod hostile;
 #[cfg(test)]
+mod nobody;
+#[cfg(test)]
 mod options;
 #[cfg(test)]
 mod plots;

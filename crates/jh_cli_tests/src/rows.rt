@@ -10,9 +10,9 @@ ghost use Rattle.jh_arguments.specs.Commands.{HasNumbersInRange};
 
 use crate::arguments::asked_once;
 use crate::errors::named_once;
+use crate::nobody::Nobody;
 use jh_arguments::{Command, command_of, do_command, parse};
 use jh_cli::CliError;
-use jh_shrink::Nobody;
 use std::alloc::Global;
 use std::io::{Read, Write};
 use std::sync::Wait;

@@ -1,8 +1,9 @@
 //! Worked examples of the command `shrink`: settings, with a comment at their head; and who is told how far it is.
 
+use crate::nobody::Nobody;
 use crate::rows::{Texts, first_wrong};
-use jh_cli::{shrink_run, shrink_run_observed};
-use jh_shrink::Observer;
+use jh_cli::shrink_run;
+use jh_shrink::ShrinkObserver;
 use std::alloc::Global;
 
 /// A node is paused, the two that took the write are killed and lose it, and the read that follows is stale. That the nodes are
@@ -118,13 +119,13 @@ schedule = [
 #[derive(Drop)]
 struct Seen {
     entries: usize,
-    calls: u64,
+    asked: u64,
 }
 
-impl Observer for Seen {
-    fn see(&mut self, entries: usize, calls: u64) {
+impl ShrinkObserver for Seen {
+    fn see(&mut self, entries: usize, asked: u64) {
         self.entries = entries;
-        self.calls = calls;
+        self.asked = asked;
     }
 }
 
@@ -132,29 +133,29 @@ impl Observer for Seen {
 fn seen_once(alloc: Global) -> Option<(usize, u64, Vec<u8>)> {
     let mut seen = Seen {
         entries: 0,
-        calls: 0,
+        asked: 0,
     };
     let mut output = Vec::new(alloc);
     let mut input = STALE_READ.as_bytes();
-    shrink_run_observed(alloc, &mut input, &mut output, 3, &mut seen).ok()?;
-    Some((seen.entries, seen.calls, output))
+    shrink_run(alloc, &mut input, &mut output, 3, &mut seen).ok()?;
+    Some((seen.entries, seen.asked, output))
 }
 
 /// The last of three runs is that of the first half alone, when all four entries are still left.
 #[test]
 fn an_observer_is_told(rt: HostRuntime) {
-    let Some((entries, calls, output)) = seen_once(rt.alloc()).or_else(|| seen_once(rt.alloc()))
+    let Some((entries, asked, output)) = seen_once(rt.alloc()).or_else(|| seen_once(rt.alloc()))
     else {
         panic!(rt; "no answer")
     };
-    assert_eq!(rt; (entries, calls), (4, 3));
+    assert_eq!(rt; (entries, asked), (4, 3));
     assert!(rt; output.as_slice().starts_with(b":budget\n"));
 }
 
 fn shrunk_once(alloc: Global) -> Option<Vec<u8>> {
     let mut output = Vec::new(alloc);
     let mut input = STALE_READ.as_bytes();
-    shrink_run(alloc, &mut input, &mut output, 10_000).ok()?;
+    shrink_run(alloc, &mut input, &mut output, 10_000, &mut Nobody).ok()?;
     Some(output)
 }
 

@@ -1,9 +1,9 @@
 //! Streams that fail, and inputs that are long.
 
+use crate::nobody::Nobody;
 use crate::rows::{answer_once, command, is_answer};
 use jh_arguments::do_command;
 use jh_cli::CliError;
-use jh_shrink::Nobody;
 use std::alloc::Global;
 use std::io::{self, Read, Write};
 use std::sync::Wait;

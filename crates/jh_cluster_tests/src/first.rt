@@ -4,7 +4,7 @@ use jh_audit::{audit, follows_plan};
 use jh_nemesis::Step;
 use jh_ops::Op;
 use jh_settings::settings_of;
-use jh_shrink::{Shrunk, shrink};
+use jh_shrink::{ShrinkObserver, Shrunk, shrink};
 use jh_simnode::{Entry, Event, Plan, Schedule, run_serial};
 use std::alloc::Global;
 
@@ -61,10 +61,18 @@ fn a_run_is_audited(rt: HostRuntime) {
     assert_eq!(rt; answer, Some(true));
 }
 
+/// Nobody is told how far the work is.
+#[derive(Drop)]
+pub(crate) struct Nobody;
+
+impl ShrinkObserver for Nobody {
+    fn see(&mut self, _entries: usize, _asked: u64) {}
+}
+
 /// What is left of a schedule that fails as long as it has an entry.
 fn shrunk(alloc: Global, schedule: Schedule) -> Option<Shrunk> {
     let judge = |left: &Schedule| Some(!left.entries().is_empty());
-    shrink(alloc, schedule, judge, 100).ok()
+    shrink(alloc, schedule, judge, 100, &mut Nobody).ok()
 }
 
 /// An entry that is due at a number.

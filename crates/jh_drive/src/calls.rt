@@ -24,14 +24,6 @@ pub trait CallObserver {
     fn see_calls(&mut self, calls: CallCounts);
 }
 
-/// Nobody is told.
-#[derive(Drop)]
-pub(crate) struct NoCallObserver;
-
-impl CallObserver for NoCallObserver {
-    fn see_calls(&mut self, _calls: CallCounts) {}
-}
-
 /// How many operations of clients are of this kind.
 fn count_of_kind(kind: Kind, history: &[Op]) -> usize
     ensures { result ≡ rule.count_of_kind kind (operations history.now) }

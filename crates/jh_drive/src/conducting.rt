@@ -8,7 +8,7 @@ ghost use Rattle.jh_test_parts.specs.Test.{TestValue};
 ghost use Rattle.jh_settings.specs.declared.error.SettingsError.{SettingsError};
 ghost use Rattle.jh_drive.specs.declared.error.DriveError.TheVariants as DriveErrors;
 
-use crate::calls::{CallObserver, NoCallObserver};
+use crate::calls::CallObserver;
 use crate::error::DriveError;
 use crate::report::report;
 use jh_checkers::Judging;
@@ -115,7 +115,7 @@ fn conduct<R: Read, W: Write, O: CallObserver>(
 /// Conducts the test of a real database that settings in TOML set: tells the writer all that is due
 /// before it reads on, hears the reader until the test is over or the input ends, and writes the report
 /// behind it. The answer is the exit status of the verdict: 0 where the history is valid, 1 where it is
-/// not, 2 where that is not known.
+/// not, 2 where that is not known. It tells an observer how the calls ended, once the conversation is over.
 ///
 /// A reader that blocks may keep it waiting. It takes memory in proportion to the history, and to the
 /// longest line; an answer to a line takes time in proportion to the clients and to what is told.
@@ -124,24 +124,7 @@ fn conduct<R: Read, W: Write, O: CallObserver>(
 /// the first line that was no reply, `RepliesEnded` where the input ended before the test did, `Read` and
 /// `TooManyTurns` where nothing more could be heard; `Mismatch` where the history can't be judged, with all of
 /// the report written but its last line; `Write`; `OutOfMemory`. Never `SettingsRead`.
-pub fn drive<R: Read, W: Write>(
-    alloc: Global,
-    settings: &[u8],
-    streams: &mut Streams<R, W>,
-) -> Result<u8, DriveError>
-    ensures driven { IsDriven settings.now
-        (R.remaining streams.old.reader) (R.remaining streams.new.reader)
-        (W.contents streams.old.writer) (W.contents streams.new.writer) result }
-    ensures unread { (error : SettingsError) → IfErr result
-        (λ e. e ≡ DriveErrors.Settings error → streams.new ≡ streams.old) }
-{
-    drive_observed(alloc, settings, streams, &mut NoCallObserver)
-}
-
-/// [`drive`], which tells an observer how the calls ended, once the conversation is over.
-///
-/// Errors: those of `drive`.
-pub fn drive_observed<R: Read, W: Write, O: CallObserver>(
+pub fn drive<R: Read, W: Write, O: CallObserver>(
     alloc: Global,
     settings: &[u8],
     streams: &mut Streams<R, W>,

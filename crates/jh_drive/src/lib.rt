@@ -8,5 +8,5 @@ mod error;
 mod report;
 
 pub use calls::{CallCounts, CallObserver};
-pub use conducting::{drive, drive_observed};
+pub use conducting::drive;
 pub use error::DriveError;

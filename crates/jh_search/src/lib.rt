@@ -15,4 +15,4 @@ pub use candidates::candidate;
 pub use kinds::Palette;
 pub use options::Options;
 pub use serial::{Searched, search_serial};
-pub use threads::{SearchError, SearchObserver, search, search_observed};
+pub use threads::{SearchError, SearchObserver, search};

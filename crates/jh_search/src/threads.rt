@@ -13,7 +13,6 @@ use crate::options::Options;
 use crate::serial::Searched;
 use crate::verdicts::verdict_at;
 use jh_check::Verdict;
-use jh_shrink::Nobody;
 use jh_simnode::Plan;
 use jh_tasks::{Task, TaskAnswers, answer_tasks};
 use std::alloc::{AllocError, Global};
@@ -30,10 +29,6 @@ const MAX_BLOCK: u64 = 1_024;
 pub trait SearchObserver {
     /// `tried` candidates were tried and do not fail; of these, the verdict on `unknown` is unknown.
     fn see_tried(&mut self, tried: u64, unknown: u64);
-}
-
-impl SearchObserver for Nobody {
-    fn see_tried(&mut self, _tried: u64, _unknown: u64) {}
 }
 
 /// Why a search ends without an answer.
@@ -229,32 +224,14 @@ fn after_block(
 /// Tries candidates on so many threads, this one among them: what is found is what `search_serial`
 /// may find, the least candidate that fails, whatever the number of threads. A thread that is free
 /// takes the next candidate, and none above one that fails is begun. All threads have ended when
-/// it returns.
+/// it returns. It tells an observer after each 1,024 candidates how many were tried.
 ///
 /// May wait, and promises only if it returns. Takes the time of each run and of its judge, and
 /// memory for one at a time for each thread, and 2 bytes for each candidate of 1,024 at once.
 ///
 /// Errors: at the first candidate that was not tried, `Thread` where a thread could not be had, so
 /// never with one thread; `OutOfMemory`.
-pub fn search<R: Threads + Wait + Sync>(
-    rt: &R,
-    alloc: Global,
-    plan: &Plan,
-    options: &Options,
-    threads: u32,
-) -> Result<Searched, SearchError>
-    requires range { options.now.from + options.now.runs < 2 ^ 64 }
-    requires threads { IsThreadCount threads }
-    ensures found { IfOk result (IsSearched plan.now options.now) }
-    ensures alone { threads ≡ 1 → IsErrOf result SearchError.Thread → ⊥ }
-{
-    search_observed(rt, alloc, plan, options, threads, &mut Nobody)
-}
-
-/// [`search`], which tells an observer after each 1,024 candidates how many were tried.
-///
-/// Errors: those of `search`.
-pub fn search_observed<R: Threads + Wait + Sync, O: SearchObserver>(
+pub fn search<R: Threads + Wait + Sync, O: SearchObserver>(
     rt: &R,
     alloc: Global,
     plan: &Plan,

@@ -8,6 +8,4 @@ mod shrinking;
 
 pub use editor::{EditError, Editor, InsertError, MAX_EDITS, NothingToRedo, NothingToUndo};
 pub use laws::limits;
-pub use shrinking::{
-    Nobody, Observer, ScheduleJudge, ShrinkError, Shrunk, shrink, shrink_by, shrink_observed,
-};
+pub use shrinking::{ScheduleJudge, ShrinkError, ShrinkObserver, Shrunk, shrink, shrink_by};

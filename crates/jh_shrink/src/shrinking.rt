@@ -75,25 +75,17 @@ pub trait ScheduleJudge {
 }
 
 /// Who is told how far the work is.
-pub trait Observer {
-    /// The judge is asked next: `calls` is how often that makes, counted from 1. The smallest schedule that
+pub trait ShrinkObserver {
+    /// The judge is asked next: `asked` is how often that makes, counted from 1. The smallest schedule that
     /// failed so far, which at first is the given one, has so many entries.
-    fn see(&mut self, entries: usize, calls: u64);
-}
-
-/// Nobody is told.
-#[derive(Drop)]
-pub struct Nobody;
-
-impl Observer for Nobody {
-    fn see(&mut self, _entries: usize, _calls: u64) {}
+    fn see(&mut self, entries: usize, asked: u64);
 }
 
 /// A judge that is a function, with how often it was asked.
 #[derive(Drop)]
 struct Counted<F> {
     judge: F,
-    calls: u64,
+    times_asked: u64,
 }
 
 impl<F: Fn(&Schedule) -> Option<bool>> ScheduleJudge for Counted<F> {
@@ -103,7 +95,7 @@ impl<F: Fn(&Schedule) -> Option<bool>> ScheduleJudge for Counted<F> {
 
     ghost has_answered = { λ c. FnReturnsAt F.Fn c.judge };
 
-    ghost asked = { λ c. c.calls };
+    ghost asked = { λ c. c.times_asked };
 
     ghost becomes = { λ one next. next.judge ≡ one.judge };
 
@@ -114,7 +106,7 @@ impl<F: Fn(&Schedule) -> Option<bool>> ScheduleJudge for Counted<F> {
     ghost keeps = { λ one next schedule answer later said. rw later said };
 
     fn judge(&mut self, schedule: &Schedule) -> Option<bool> {
-        self.calls += 1;
+        self.times_asked += 1;
         (self.judge)(schedule)
     }
 }
@@ -149,7 +141,7 @@ struct Meter<'a, O> {
 }
 
 /// Whether a schedule fails, where so many entries are left of the smallest one that does.
-fn ask<J: ScheduleJudge, O: Observer>(
+fn ask<J: ScheduleJudge, O: ShrinkObserver>(
     judge: &mut J,
     meter: &mut Meter<'_, O>,
     schedule: &Schedule,
@@ -180,7 +172,7 @@ fn ask<J: ScheduleJudge, O: Observer>(
 
 /// Takes out the entries from a place on and below another, if the schedule fails without them.
 /// Says whether it did.
-fn spare<J: ScheduleJudge, O: Observer>(
+fn spare<J: ScheduleJudge, O: ShrinkObserver>(
     alloc: Global,
     judge: &mut J,
     meter: &mut Meter<'_, O>,
@@ -213,7 +205,7 @@ fn spare<J: ScheduleJudge, O: Observer>(
 
 /// Takes out each part of so many entries without which the schedule fails, from the first part on.
 /// Says whether it took one out.
-fn pass<J: ScheduleJudge, O: Observer>(
+fn pass<J: ScheduleJudge, O: ShrinkObserver>(
     alloc: Global,
     judge: &mut J,
     meter: &mut Meter<'_, O>,
@@ -252,7 +244,7 @@ fn pass<J: ScheduleJudge, O: Observer>(
 }
 
 /// Takes entries out, large parts first, until the schedule passes without any one of them.
-fn reduce<J: ScheduleJudge, O: Observer>(
+fn reduce<J: ScheduleJudge, O: ShrinkObserver>(
     alloc: Global,
     judge: &mut J,
     meter: &mut Meter<'_, O>,
@@ -288,7 +280,7 @@ fn reduce<J: ScheduleJudge, O: Observer>(
 /// often.
 ///
 /// Errors: `Judge` where the judge had no answer; `OutOfMemory`.
-pub fn shrink_by<J: ScheduleJudge, O: Observer>(
+pub fn shrink_by<J: ScheduleJudge, O: ShrinkObserver>(
     alloc: Global,
     schedule: Schedule,
     judge: &mut J,
@@ -329,7 +321,7 @@ pub fn shrink_by<J: ScheduleJudge, O: Observer>(
 /// Makes a schedule that fails small: [`shrink_by`] with a judge that is a function.
 ///
 /// Errors: `Judge` where the judge had no answer; `OutOfMemory`.
-pub fn shrink_observed<F: Fn(&Schedule) -> Option<bool>, O: Observer>(
+pub fn shrink<F: Fn(&Schedule) -> Option<bool>, O: ShrinkObserver>(
     alloc: Global,
     schedule: Schedule,
     judge: F,
@@ -341,23 +333,9 @@ pub fn shrink_observed<F: Fn(&Schedule) -> Option<bool>, O: Observer>(
         (IsShrunk (FnReturnsAt F.Fn judge) budget schedule)
         (RefusesShrink (FnReturnsAt F.Fn judge) schedule) }
 {
-    let mut counted = Counted { judge, calls: 0 };
+    let mut counted = Counted {
+        judge,
+        times_asked: 0,
+    };
     shrink_by(alloc, schedule, &mut counted, budget, observer)
-}
-
-/// Makes a schedule that fails small: [`shrink_observed`] with nobody to tell.
-///
-/// Errors: `Judge` where the judge had no answer; `OutOfMemory`.
-pub fn shrink<F: Fn(&Schedule) -> Option<bool>>(
-    alloc: Global,
-    schedule: Schedule,
-    judge: F,
-    budget: u64,
-) -> Result<Shrunk, ShrinkError>
-    requires { F.IsAlwaysCallable judge }
-    ensures { MatchResult result
-        (IsShrunk (FnReturnsAt F.Fn judge) budget schedule)
-        (RefusesShrink (FnReturnsAt F.Fn judge) schedule) }
-{
-    shrink_observed(alloc, schedule, judge, budget, &mut Nobody)
 }

@@ -2,8 +2,9 @@
 //!
 //! None is answered where memory was refused.
 
+use crate::first::Nobody;
 use crate::shrink::entries::{dues, schedule};
-use jh_shrink::{Nobody, ScheduleJudge, ShrinkError, Shrunk, shrink, shrink_by};
+use jh_shrink::{ScheduleJudge, ShrinkError, Shrunk, shrink, shrink_by};
 use jh_simnode::{Entry, Schedule};
 use jh_test_kit::Random;
 use std::alloc::Global;
@@ -32,7 +33,7 @@ fn given(alloc: Global, shrunk: &Shrunk) -> Option<String> {
 /// What becomes of so many entries by a judge to whom those fail that have all that is needed.
 fn shrunk(alloc: Global, count: u32, needed: &[u32], budget: u64) -> Option<String> {
     let judge = |schedule: &Schedule| Some(has_all(schedule, needed));
-    let shrunk = shrink(alloc, schedule(alloc, count)?, judge, budget).ok()?;
+    let shrunk = shrink(alloc, schedule(alloc, count)?, judge, budget, &mut Nobody).ok()?;
     given(alloc, &shrunk)
 }
 
@@ -132,7 +133,7 @@ fn a_budget_is_a_number_of_asks(rt: HostRuntime) {
 fn a_judge_may_have_no_answer(rt: HostRuntime) {
     let silent = |_: &Schedule| None;
     if let Some(schedule) = schedule(rt.alloc(), 3) {
-        let answer = shrink(rt.alloc(), schedule, silent, 9);
+        let answer = shrink(rt.alloc(), schedule, silent, 9, &mut Nobody);
         assert!(rt; matches!(answer, Err(ShrinkError::Judge)));
     }
 }
@@ -173,7 +174,7 @@ fn is_right(alloc: Global, seed: u64) -> Option<bool> {
     let mut random = Random::new(seed);
     let count = u32::try_from(random.below(24)).ok()?;
     let judge = |schedule: &Schedule| Some(fails(schedule, seed));
-    match shrink(alloc, schedule(alloc, count)?, judge, 10_000).ok()? {
+    match shrink(alloc, schedule(alloc, count)?, judge, 10_000, &mut Nobody).ok()? {
         Shrunk::Minimal(schedule) => Some(
             are_in_order(schedule.entries()) && is_minimal(alloc, &schedule, seed)?,
         ),

@@ -1,6 +1,6 @@
 //! What an observer is told of the calls of a test.
 
-use jh_drive::{CallCounts, CallObserver, drive_observed};
+use jh_drive::{CallCounts, CallObserver, drive};
 use jh_lines::Streams;
 use std::alloc::Global;
 
@@ -37,7 +37,7 @@ fn told_once(alloc: Global) -> Option<CallCounts> {
         writer: Vec::new(alloc),
     };
     let mut keeper = Keeper { calls: None };
-    let _ = drive_observed(alloc, SETTINGS.as_bytes(), &mut streams, &mut keeper);
+    let _ = drive(alloc, SETTINGS.as_bytes(), &mut streams, &mut keeper);
     keeper.calls
 }
 

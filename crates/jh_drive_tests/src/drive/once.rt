@@ -1,9 +1,17 @@
 //! A test that is conducted over bytes, with its end.
 
-use jh_drive::{DriveError, drive};
+use jh_drive::{CallCounts, CallObserver, DriveError, drive};
 use jh_lines::Streams;
 use std::alloc::Global;
 use std::io::{Read, Write};
+
+/// Nobody is told how the calls ended.
+#[derive(Drop)]
+pub(crate) struct Nobody;
+
+impl CallObserver for Nobody {
+    fn see_calls(&mut self, _calls: CallCounts) {}
+}
 
 /// All that a test writes to these replies, and behind it the message and the status. None: memory was refused.
 pub(crate) fn driven_once<R: Read + Drop>(
@@ -15,7 +23,7 @@ pub(crate) fn driven_once<R: Read + Drop>(
         reader: replies,
         writer: Vec::new(alloc),
     };
-    let ended = drive(alloc, settings.as_bytes(), &mut streams);
+    let ended = drive(alloc, settings.as_bytes(), &mut streams, &mut Nobody);
     let mut text = streams.writer;
     match ended {
         Ok(status) => writeln!(text, "status {status}").ok()?,

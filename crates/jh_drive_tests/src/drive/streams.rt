@@ -1,6 +1,6 @@
 //! Streams that fail.
 
-use crate::drive::once::driven_once;
+use crate::drive::once::{Nobody, driven_once};
 use jh_drive::{DriveError, drive};
 use jh_lines::Streams;
 use std::alloc::Global;
@@ -63,7 +63,7 @@ fn fails_once(alloc: Global) -> Option<bool> {
         reader: b"".as_slice(),
         writer: Full,
     };
-    match drive(alloc, SETTINGS.as_bytes(), &mut streams) {
+    match drive(alloc, SETTINGS.as_bytes(), &mut streams, &mut Nobody) {
         Err(DriveError::OutOfMemory) => None,
         ended => Some(matches!(ended, Err(DriveError::Write))),
     }

@@ -4,7 +4,7 @@
 ghost use Rattle.std.specs.Prelude.{◌≤◌, IfSome};
 
 use crate::search::fixtures::{QUORUM, THREE, options_of, plan_of};
-use jh_search::{Options, Searched, search, search_serial};
+use jh_search::{Options, SearchObserver, Searched, search, search_serial};
 use jh_simnode::Plan;
 use std::alloc::Global;
 use std::sync::Wait;
@@ -40,6 +40,14 @@ fn options_in(case: &Case) -> Option<Options>
     Some(options)
 }
 
+/// Nobody is told how far the search is.
+#[derive(Drop)]
+struct Nobody;
+
+impl SearchObserver for Nobody {
+    fn see_tried(&mut self, _tried: u64, _unknown: u64) {}
+}
+
 /// What is found on so many threads, and where that is 0 by the serial call. None: memory was refused.
 fn found_in<R: Threads + Wait + Sync>(
     rt: &R,
@@ -51,7 +59,7 @@ fn found_in<R: Threads + Wait + Sync>(
     requires { (options.now.from ≤ 1000) × (options.now.runs ≤ 1000) }
 {
     match threads {
-        1..=16 => search(rt, alloc, plan, options, threads).ok(),
+        1..=16 => search(rt, alloc, plan, options, threads, &mut Nobody).ok(),
         _ => search_serial(alloc, plan, options).ok(),
     }
 }

@@ -35,11 +35,11 @@ returns-in-Run-clause-reader_kept g c =
 
 pub returns-in-Shrink-clause-options : goal.returns-in-Shrink-clause-options
 returns-in-Shrink-clause-options g c =
-    subst (λ (command : Command). (e : CliError) → IsOfOptions command e → IsErrOf c.shrink_run_observed.result e ↔ RefusesOptions command e) (sym c.in-Shrink.is) (λ e of. absurd of)
+    subst (λ (command : Command). (e : CliError) → IsOfOptions command e → IsErrOf c.shrink_run.result e ↔ RefusesOptions command e) (sym c.in-Shrink.is) (λ e of. absurd of)
 
 pub returns-in-Shrink-clause-reader_kept : goal.returns-in-Shrink-clause-reader_kept
 returns-in-Shrink-clause-reader_kept g c =
-    subst (λ (command : Command). IfErr c.shrink_run_observed.result (λ e. IsOfOptions command e → c.shrink_run_observed.new.reader ≡ c.args.reader.now)) (sym c.in-Shrink.is) (for_each_error (λ e. ⊥ → c.shrink_run_observed.new.reader ≡ c.args.reader.now) c.shrink_run_observed.result (λ e of. absurd of))
+    subst (λ (command : Command). IfErr c.shrink_run.result (λ e. IsOfOptions command e → c.shrink_run.new.reader ≡ c.args.reader.now)) (sym c.in-Shrink.is) (for_each_error (λ e. ⊥ → c.shrink_run.new.reader ≡ c.args.reader.now) c.shrink_run.result (λ e of. absurd of))
 
 pub returns-in-Plot-clause-options : goal.returns-in-Plot-clause-options
 returns-in-Plot-clause-options g c =

@@ -3,7 +3,7 @@ use Rattle.std.specs.Prelude.{IfSome}
 use Rattle.jh_cli.specs.ShrinkRefusals.{RefusesShrinking}
 use Rattle.jh_cli.specs.ShrinkText.{IsShrinkTextOf}
 use Rattle.jh_cli.proofs.WritingLemmas.{on_input, output_refused, output_written}
-use Rattle.jh_cli.proofs.shrink_command.shrink_run_observed.Goals as goal
+use Rattle.jh_cli.proofs.shrink_command.shrink_run.Goals as goal
 
 pub returns-clause-written : goal.returns-clause-written
 returns-clause-written g c =

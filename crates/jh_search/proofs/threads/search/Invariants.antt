@@ -1,6 +1,6 @@
 use Rattle.std.proofs.Common.{◌-◌, ◌≤◌}
 use Rattle.jh_search.specs.SearchInside.{HasTried}
-use Rattle.jh_search.proofs.threads.search_observed.Given as goal
+use Rattle.jh_search.proofs.threads.search.Given as goal
 
 abbrev pub invariant-loop-progress : goal.invariant-loop-progress
 invariant-loop-progress g l = record {

@@ -1,6 +1,6 @@
 use Rattle.std.proofs.Common.{inr, subst}
 use Rattle.jh_drive.specs.Drive.{IsAnswered}
-use Rattle.jh_drive.proofs.conducting.drive_observed.Goals as goal
+use Rattle.jh_drive.proofs.conducting.drive.Goals as goal
 
 pub returns-clause-driven : goal.returns-clause-driven
 returns-clause-driven g c =
