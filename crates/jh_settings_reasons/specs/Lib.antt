@@ -1,6 +1,6 @@
 pub mod Limits
 pub mod Takes
-pub mod Faults
+pub mod TextErrors
 pub mod Moments
 pub mod Entries
 pub mod Generators

@@ -10,16 +10,16 @@ use Rattle.jh_settings.specs.declared.error.SettingsError.{SettingsError}
 use Rattle.jh_settings.specs.declared.error.SettingsError.TheVariants.{NotToml, Unknown, Missing}
 use Rattle.jh_settings.specs.declared.error.SettingsError.TheVariants.{BadValue, OutOfMemory}
 use Rattle.jh_settings.specs.declared.keys.Key.{Key}
-use Rattle.jh_settings_reasons.specs.Entries.{entry_fault_text}
+use Rattle.jh_settings_reasons.specs.Entries.{entry_error_text}
 use Rattle.jh_settings_reasons.specs.Takes.{known_keys_text, key_takes}
 use Rattle.jh_settings_reasons.specs.declared.key_texts.SettingsKind.{SettingsKind}
-use Rattle.jh_settings_reasons.specs.declared.schedule.EntryFault.{EntryFault}
+use Rattle.jh_settings_reasons.specs.declared.schedule.EntryError.{EntryError}
 
 -- The line says that the entry at this place, from 0, is none, and why; the text of an error of EDN or
 -- of a step is that error's, which no clause knows.
-abbrev pub NamesEntry : ℕ → EntryFault → List ℕ → Type 0
-NamesEntry place fault line =
-    IfSome (entry_fault_text fault)
+abbrev pub NamesEntry : ℕ → EntryError → List ℕ → Type 0
+NamesEntry place error line =
+    IfSome (entry_error_text error)
     (λ text. line ≡ codes "entry " ++ (decimal place ++ (codes ": " ++ text)))
 
 -- Why what stands under a key is refused. Of a start, a generator and a schedule it depends on texts of

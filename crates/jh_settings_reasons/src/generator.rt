@@ -7,7 +7,7 @@ ghost use Rattle.jh_settings_reasons.specs.Generators as rule;
 ghost use Rattle.jh_settings_reasons.specs.Generators.{form_step_text, way_text};
 
 use crate::line::{add, add_shown, line_of};
-use crate::text::{element_in, fault_line};
+use crate::text::{element_in, error_line_of_text};
 use jh_edn::{Value, write};
 use jh_gen::{FormStep, bad_part};
 use jh_settings::Key;
@@ -114,6 +114,6 @@ pub(crate) fn generator_line(
 ) -> Result<Vec<u8>, AllocError> {
     match element_in(alloc, value)? {
         Ok(element) => part_line(alloc, key, &element),
-        Err(fault) => fault_line(alloc, fault),
+        Err(error) => error_line_of_text(alloc, error),
     }
 }

@@ -13,7 +13,7 @@ use crate::generator::generator_line;
 use crate::key_texts::{SettingsKind, key_takes, known_keys_text};
 use crate::line::{add_shown, line_of};
 use crate::schedule::schedule_line;
-use crate::text::{element_in, fault_line};
+use crate::text::{element_in, error_line_of_text};
 use crate::toml_text::toml_line;
 use jh_edn::Value;
 use jh_env::{EnvTextError, env_of_value};
@@ -46,7 +46,7 @@ fn start_line(
 ) -> Result<Vec<u8>, AllocError> {
     match element_in(alloc, value)? {
         Ok(element) => environment_line(alloc, kind, &element),
-        Err(fault) => fault_line(alloc, fault),
+        Err(error) => error_line_of_text(alloc, error),
     }
 }
 

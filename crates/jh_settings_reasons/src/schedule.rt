@@ -9,7 +9,7 @@ ghost use Rattle.jh_settings_reasons.specs.Reasons as reasons;
 use crate::key_texts::{SettingsKind, key_takes};
 use crate::line::{add, add_shown, line_of};
 use crate::moments::is_moment;
-use crate::text::{TextFault, element_in};
+use crate::text::{TextError, element_in};
 use crate::unknown_nodes::unknown_node;
 use jh_edn::Value;
 use jh_env::Nodes;
@@ -26,9 +26,9 @@ pub(crate) const MAX_SHOWN_NAME: usize = 64;
 
 /// Why a value is no entry.
 #[derive(Clone, Copy, Debug, PartialEq, Eq)]
-pub(crate) enum EntryFault {
+pub(crate) enum EntryError {
     /// It is no text of one element.
-    Text(TextFault),
+    Text(TextError),
     /// The element is not `[AT STEP]`.
     NoPair,
     /// AT is no moment of such settings.
@@ -37,87 +37,87 @@ pub(crate) enum EntryFault {
     Step(StepTextError),
 }
 
-impl Display for EntryFault {
-    ghost use Rattle.jh_settings_reasons.specs.Entries.{entry_fault_text};
+impl Display for EntryError {
+    ghost use Rattle.jh_settings_reasons.specs.Entries.{entry_error_text};
 
-    ghost output = { entry_fault_text };
+    ghost output = { entry_error_text };
 
     fn fmt<W: Write>(&self, f: &mut Formatter<W>) -> fmt::Result {
         match self {
-            EntryFault::Text(fault) => write!(f, "{fault}"),
-            EntryFault::NoPair => f.write_str("not [AT STEP]"),
-            EntryFault::Moment(SettingsKind::Run) => {
+            EntryError::Text(error) => write!(f, "{error}"),
+            EntryError::NoPair => f.write_str("not [AT STEP]"),
+            EntryError::Moment(SettingsKind::Run) => {
                 f.write_str("AT is no number from 0 to 10000")
             }
-            EntryFault::Moment(SettingsKind::Test) => f.write_str(
+            EntryError::Moment(SettingsKind::Test) => f.write_str(
                 "AT is no number from 0 to 1000000, and no [:ms T] with T from 0 to 86400000",
             ),
-            EntryFault::Step(error) => write!(f, "{error}"),
+            EntryError::Step(error) => write!(f, "{error}"),
         }
     }
 }
 
 /// Why an element is no entry, if it is none.
-fn element_fault(
+fn element_error(
     alloc: Global,
     kind: SettingsKind,
     nodes: &Nodes,
     element: &Value,
-) -> Result<Option<EntryFault>, AllocError>
-    ensures { IfOk result (λ fault. fault ≡ rule.element_fault kind nodes.now (view element.now)) }
+) -> Result<Option<EntryError>, AllocError>
+    ensures { IfOk result (λ error. error ≡ rule.element_error kind nodes.now (view element.now)) }
 {
     let Some([at, step]) = element.elements() else {
-        return Ok(Some(EntryFault::NoPair));
+        return Ok(Some(EntryError::NoPair));
     };
     if !is_moment(kind, at) {
-        return Ok(Some(EntryFault::Moment(kind)));
+        return Ok(Some(EntryError::Moment(kind)));
     }
     match step_of_value(alloc, nodes, step) {
         Ok(_) => Ok(None),
         Err(StepTextError::OutOfMemory) => Err(AllocError),
-        Err(error) => Ok(Some(EntryFault::Step(error))),
+        Err(error) => Ok(Some(EntryError::Step(error))),
     }
 }
 
 /// Why a value is no entry, if it is none.
-fn entry_fault(
+fn entry_error(
     alloc: Global,
     kind: SettingsKind,
     nodes: &Nodes,
     value: &toml::Value,
-) -> Result<Option<EntryFault>, AllocError>
-    ensures { IfOk result (rule.IsEntryFault kind nodes.now (toml.view value.now)) }
+) -> Result<Option<EntryError>, AllocError>
+    ensures { IfOk result (rule.IsEntryError kind nodes.now (toml.view value.now)) }
 {
     match element_in(alloc, value)? {
-        Ok(element) => element_fault(alloc, kind, nodes, &element),
-        Err(fault) => Ok(Some(EntryFault::Text(fault))),
+        Ok(element) => element_error(alloc, kind, nodes, &element),
+        Err(error) => Ok(Some(EntryError::Text(error))),
     }
 }
 
 /// The first of these values that is no entry, with its place from 0, and why.
-fn first_fault(
+fn first_error(
     alloc: Global,
     kind: SettingsKind,
     nodes: &Nodes,
     values: &[toml::Value],
-) -> Result<Option<(usize, EntryFault)>, AllocError> {
+) -> Result<Option<(usize, EntryError)>, AllocError> {
     for (place, value) in values.iter().enumerate() {
-        if let Some(fault) = entry_fault(alloc, kind, nodes, value)? {
-            return Ok(Some((place, fault)));
+        if let Some(error) = entry_error(alloc, kind, nodes, value)? {
+            return Ok(Some((place, error)));
         }
     }
     Ok(None)
 }
 
 /// The line that names an entry, by its place from 0, and why it is none, without its line feed.
-fn entry_line(alloc: Global, place: usize, fault: EntryFault) -> Result<Vec<u8>, AllocError>
-    ensures { IfOk result (λ line. reasons.NamesEntry place fault line.items) }
+fn entry_line(alloc: Global, place: usize, error: EntryError) -> Result<Vec<u8>, AllocError>
+    ensures { IfOk result (λ line. reasons.NamesEntry place error line.items) }
 {
     let mut line = Vec::new(alloc);
     add(&mut line, "entry ")?;
     add_shown(&mut line, &place)?;
     add(&mut line, ": ")?;
-    add_shown(&mut line, &fault)?;
+    add_shown(&mut line, &error)?;
     Ok(line)
 }
 
@@ -125,11 +125,11 @@ fn entry_line(alloc: Global, place: usize, fault: EntryFault) -> Result<Vec<u8>,
 fn add_unknown_node(
     alloc: Global,
     nodes: &Nodes,
-    fault: EntryFault,
+    error: EntryError,
     value: Option<&toml::Value>,
     line: &mut Vec<u8>,
 ) -> Result<(), AllocError> {
-    let (EntryFault::Step(StepTextError::UnknownNode), Some(value)) = (fault, value) else {
+    let (EntryError::Step(StepTextError::UnknownNode), Some(value)) = (error, value) else {
         return Ok(());
     };
     let Ok(element) = element_in(alloc, value)? else {
@@ -150,10 +150,10 @@ fn entries_line(
     nodes: &Nodes,
     values: &[toml::Value],
 ) -> Result<Vec<u8>, AllocError> {
-    match first_fault(alloc, kind, nodes, values)? {
-        Some((place, fault)) => {
-            let mut line = entry_line(alloc, place, fault)?;
-            add_unknown_node(alloc, nodes, fault, values.get(place), &mut line)?;
+    match first_error(alloc, kind, nodes, values)? {
+        Some((place, error)) => {
+            let mut line = entry_line(alloc, place, error)?;
+            add_unknown_node(alloc, nodes, error, values.get(place), &mut line)?;
             Ok(line)
         }
         None => line_of(alloc, key_takes(kind, Key::Schedule)),
