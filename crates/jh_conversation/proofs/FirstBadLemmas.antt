@@ -19,20 +19,25 @@ use Rattle.jh_test_parts.specs.Test.{thread_of_process}
 use Rattle.jh_conversation.specs.Machine.{Machine, caller_of}
 use Rattle.jh_test_parts.specs.Test.{TestValue}
 use Rattle.jh_conversation.specs.Turn.{turn}
+use Rattle.jh_conversation.specs.declared.callers.BadLine.{BadLine}
 use Rattle.jh_conversation.specs.declared.callers.OpenStep.{OpenStep}
 use Rattle.jh_test_parts.specs.declared.complaints.Complaint.{Complaint}
 use Rattle.jh_test_parts.specs.declared.complaints.Complaint.TheVariants as complaint
 use Rattle.jh_conversation.proofs.KeptLemmas.{IsKeptByLine, IsKeptInTurn, by_answers, kept_lines}
 use Rattle.jh_conversation.proofs.KeptLemmas.{kept_turn}
 
+-- the line with this number, of which this is wrong
+abbrev bad_line : ℕ → Complaint → BadLine
+bad_line number why = record { number = number; why = why }
+
 -- which line was found to be no reply, and how many lines were read
-abbrev FindsBad : Option (ℕ × Complaint) → ℕ → Machine → Type 0
+abbrev FindsBad : Option BadLine → ℕ → Machine → Type 0
 FindsBad bad read m = (m.bad ≡ bad) × (m.read ≡ read)
 
-abbrev HasBad : ℕ × Complaint → Machine → Type 0
+abbrev HasBad : BadLine → Machine → Type 0
 HasBad found m = m.bad ≡ Some found
 
-finds_in_turn : (t : TestValue) (bad : Option (ℕ × Complaint)) (read : ℕ) → IsKeptInTurn t (FindsBad bad read)
+finds_in_turn : (t : TestValue) (bad : Option BadLine) (read : ℕ) → IsKeptInTurn t (FindsBad bad read)
 finds_in_turn t bad read = record {
   calls = by_answers _ _ (record { asks = λ m d w h. h; spends = λ m h. h; invokes = λ m thread request w i y h. h });
   begins = λ m due w d h. h;
@@ -43,7 +48,7 @@ finds_in_turn t bad read = record {
   ends_final = λ m is e h. h;
 }
 
-bad_in_turn : (t : TestValue) (found : ℕ × Complaint) → IsKeptInTurn t (HasBad found)
+bad_in_turn : (t : TestValue) (found : BadLine) → IsKeptInTurn t (HasBad found)
 bad_in_turn t found = record {
   calls = by_answers _ _ (record { asks = λ m d w h. h; spends = λ m h. h; invokes = λ m thread request w i y h. h });
   begins = λ m due w d h. h;
@@ -54,23 +59,23 @@ bad_in_turn t found = record {
   ends_final = λ m is e h. h;
 }
 
-bad_by_line : (t : TestValue) (found : ℕ × Complaint) → IsKeptByLine t (HasBad found)
+bad_by_line : (t : TestValue) (found : BadLine) → IsKeptByLine t (HasBad found)
 bad_by_line t found = record {
   counts_line = λ m h. h;
   clocks = λ m time h. h;
   stops = λ m h. h;
-  refuses = λ m why h. ap (λ b. first b (m.read, why)) h;
+  refuses = λ m why h. ap (λ b. first b (bad_line m.read why)) h;
   step_ends = λ m w op e h. h;
   finishes = λ m thread c op e no fits h. h;
 }
 
 -- what is found of a line with this complaint
-abbrev pub bad_of : Option Complaint → ℕ → Option (ℕ × Complaint)
+abbrev pub bad_of : Option Complaint → ℕ → Option BadLine
 bad_of None read = None
-bad_of (Some why) read = Some (read, why)
+bad_of (Some why) read = Some (bad_line read why)
 
-refused : (m : Machine) (why : Complaint) → m.bad ≡ None → FindsBad (Some (m.read, why)) m.read (refuse why m)
-refused m why none = (ap (λ b. first b (m.read, why)) none, refl)
+refused : (m : Machine) (why : Complaint) → m.bad ≡ None → FindsBad (Some (bad_line m.read why)) m.read (refuse why m)
+refused m why none = (ap (λ b. first b (bad_line m.read why)) none, refl)
 
 timed : (m : Machine) (time : Option ℕ) → m.bad ≡ None → FindsBad None m.read (at_time time m)
 timed m None none = (none, refl)
@@ -138,7 +143,7 @@ finds_all t d (line ∷ lines) m n h =
         → ((take_line t m line).bad ≡ None → (after_lines (take_line t) (take_line t m line) lines).bad ≡ first_bad t (take_line t m line) (n + 1) lines)
         → (after_lines (take_line t) (take_line t m line) lines).bad ≡ first_bad_or t c (n + 1) (first_bad t (take_line t m line) (n + 1) lines)
     go None e later = later e
-    go (Some why) e later = kept_lines t (HasBad (n + 1, why)) (bad_in_turn t (n + 1, why)) (bad_by_line t (n + 1, why)) lines (take_line t m line) e
+    go (Some why) e later = kept_lines t (HasBad (bad_line (n + 1) why)) (bad_in_turn t (bad_line (n + 1) why)) (bad_by_line t (bad_line (n + 1) why)) lines (take_line t m line) e
 
 pub first_bad_kept : (t : TestValue) (d : Drivers t) (lines : List (List ℕ)) → (run t d lines).bad ≡ first_bad t (start t d) 0 lines
 first_bad_kept t d lines =

@@ -27,6 +27,7 @@ use Rattle.jh_test_parts.specs.Test.{TestValue}
 use Rattle.jh_conversation.specs.Turn.{all_stopped, keeps_rate, main_stopped, may_call, millisecond}
 use Rattle.jh_conversation.specs.Turn.{move, round, second, turn}
 use Rattle.jh_test_parts.specs.declared.calls.ValuedCall.{ValuedCall}
+use Rattle.jh_conversation.specs.declared.callers.BadLine.{BadLine}
 use Rattle.jh_conversation.specs.declared.callers.OpenStep.{OpenStep}
 use Rattle.jh_test_parts.specs.declared.complaints.Complaint.{Complaint}
 use Rattle.jh_test_parts.specs.declared.complaints.Complaint.TheVariants as complaint
@@ -313,13 +314,11 @@ complaint_of t m _ = None
 
 -- the first line that is no reply with its number, counted on from n; what is read behind the end is not
 -- looked at
-abbrev pub first_bad_or : (t : TestValue) → Option Complaint → ℕ → Option (ℕ × Complaint)
-    → Option (ℕ × Complaint)
+abbrev pub first_bad_or : (t : TestValue) → Option Complaint → ℕ → Option BadLine → Option BadLine
 first_bad_or t None number later = later
-first_bad_or t (Some why) number later = Some (number, why)
+first_bad_or t (Some why) number later = Some (record { number = number; why = why })
 
-abbrev pub first_bad : TestValue → Machine → ℕ → List (List ℕ)
-    → Option (ℕ × Complaint)
+abbrev pub first_bad : TestValue → Machine → ℕ → List (List ℕ) → Option BadLine
 first_bad t m n [] = None
 first_bad t m n (line ∷ lines) =
     first_bad_or t (if is_test_over m then None else complaint_of t m (line_meaning line)) (n + 1)

@@ -28,6 +28,7 @@ use Rattle.jh_test_parts.specs.Transactions.{first_source}
 use Rattle.jh_test_parts.specs.Test.{TestValue}
 use Rattle.jh_conversation.specs.Turn.{all_stopped, main_stopped, turn}
 use Rattle.jh_test_parts.specs.declared.calls.ValuedCall.{ValuedCall}
+use Rattle.jh_conversation.specs.declared.callers.BadLine.{BadLine}
 use Rattle.jh_conversation.specs.declared.callers.OpenStep.{OpenStep}
 use Rattle.jh_test_parts.specs.declared.complaints.Complaint.{Complaint}
 use Rattle.jh_test_parts.specs.declared.complaints.Complaint.TheVariants as complaint
@@ -42,8 +43,8 @@ is_end_phase _ = false
 abbrev pub is_test_over : Machine → Bool
 is_test_over m = is_end_phase m.phase
 
--- the first of these numbers is kept
-abbrev pub first : Option (ℕ × Complaint) → ℕ × Complaint → Option (ℕ × Complaint)
+-- the first of these lines is kept
+abbrev pub first : Option BadLine → BadLine → Option BadLine
 first None later = Some later
 first (Some earlier) later = Some earlier
 
@@ -53,7 +54,10 @@ stops_after more stops = min all_stopped (stops + more)
 
 -- A line that is no reply: the first one is kept, and each stops all calls.
 abbrev pub refuse : Complaint → Machine → Machine
-refuse why m = record m { bad = first m.bad (m.read, why); stops = stops_after all_stopped m.stops }
+refuse why m = record m {
+  bad = first m.bad (record { number = m.read; why = why });
+  stops = stops_after all_stopped m.stops;
+}
 
 -- the greatest time that was read; an integer of a text is less than 2^63
 abbrev pub clock_after : ℕ → ℕ → ℕ

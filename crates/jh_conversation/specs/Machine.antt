@@ -9,9 +9,9 @@ use Rattle.jh_nemesis.specs.State.{State}
 use Rattle.jh_test_parts.specs.Test.{TestValue}
 use Rattle.jh_test_parts.specs.Transactions.{TransactionSource}
 use Rattle.jh_test_parts.specs.declared.calls.ValuedCall.{ValuedCall}
+use Rattle.jh_conversation.specs.declared.callers.BadLine.{BadLine}
 use Rattle.jh_conversation.specs.declared.callers.Caller.{Caller}
 use Rattle.jh_conversation.specs.declared.callers.OpenStep.{OpenStep}
-use Rattle.jh_test_parts.specs.declared.complaints.Complaint.{Complaint}
 use Rattle.jh_conversation.specs.declared.phase.Phase.{Phase}
 use Rattle.jh_test_parts.specs.declared.records.Recorded.{Recorded}
 
@@ -44,7 +44,7 @@ pub record Machine : Type 0 where
   pub rest_began : ℕ
   -- how many lines were read, and the first one that is no reply
   pub read : ℕ
-  pub bad : Option (ℕ × Complaint)
+  pub bad : Option BadLine
   pub history : List Recorded
   pub said : List Recorded
 

@@ -1,6 +1,7 @@
-//! The threads of a test, and the step that is open. `specs/Machine.antt` says what is known of them.
+//! The threads of a test, the step that is open, and the first line that is no reply. `specs/Machine.antt` says
+//! what is known of them.
 
-use jh_test_parts::ValuedCall;
+use jh_test_parts::{Complaint, ValuedCall};
 
 /// A thread: how many numbers of processes it has used up, and the call that it has open. A crash uses
 /// up one, and in *final* each thread begins with as many as processes have crashed in *main*.
@@ -16,4 +17,11 @@ pub struct Caller {
 pub struct OpenStep {
     pub entry: u64,
     pub code: u64,
+}
+
+/// A line that is no reply, by its number from 1, and what is wrong with it.
+#[derive(Clone, Copy, Debug, PartialEq, Eq)]
+pub struct BadLine {
+    pub number: u64,
+    pub why: Complaint,
 }

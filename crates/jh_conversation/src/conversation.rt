@@ -12,11 +12,12 @@ ghost use Rattle.jh_conversation.specs.Text.{recorded_lines, recorded_history};
 ghost use Rattle.jh_ops.specs.Operation.{operations};
 ghost use Rattle.jh_test_parts.specs.Test.{suits_workload};
 
+use crate::callers::BadLine;
 use crate::machine::Machine;
 use jh_gen::{Driver, DriverError, Gen, Inner};
 use jh_nemesis::Nemesis;
 use jh_ops::Op;
-use jh_test_parts::{Complaint, Test};
+use jh_test_parts::Test;
 use std::alloc::{AllocError, Global};
 use std::marker::Model;
 
@@ -105,8 +106,8 @@ impl Conversation {
         })
     }
 
-    /// The first line that was no reply, by its number from 1, and why it is none.
-    pub fn bad(&self) -> Option<(u64, Complaint)>
+    /// The first line that was no reply.
+    pub fn bad(&self) -> Option<BadLine>
         ensures { result ≡ self.now.machine.bad }
     {
         self.machine.bad

@@ -11,6 +11,7 @@ mod taking;
 mod text;
 mod turns;
 
+pub use callers::BadLine;
 pub use conversation::Conversation;
 pub use laws::{
     calls_are_bounded, calls_are_offers, cells_are_environment, conversation_is_run,

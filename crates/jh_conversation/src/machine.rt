@@ -7,11 +7,11 @@ ghost use Rattle.jh_conversation.specs.Lines.{at_first};
 ghost use Rattle.jh_conversation.specs.Machine as rule;
 ghost use Rattle.jh_conversation.specs.Sound.{HasSmallCounts};
 
-use crate::callers::{Caller, OpenStep};
+use crate::callers::{BadLine, Caller, OpenStep};
 use crate::phase::Phase;
 use jh_gen::Driver;
 use jh_nemesis::Nemesis;
-use jh_test_parts::{Complaint, Recorded, Test, TransactionSource, ValuedCall};
+use jh_test_parts::{Recorded, Test, TransactionSource, ValuedCall};
 use rand_pcg::Lcg128Xsl64;
 use std::alloc::{AllocError, Global};
 use std::marker::Model;
@@ -58,8 +58,8 @@ pub struct Machine {
     pub(crate) rest_began: u64,
     /// How many lines were read.
     pub(crate) read: u64,
-    /// The first line that is no reply, by its number from 1, with what is wrong with it.
-    pub(crate) bad: Option<(u64, Complaint)>,
+    /// The first line that is no reply.
+    pub(crate) bad: Option<BadLine>,
     pub(crate) history: Vec<Recorded>,
     /// How many records at the end of the history were said to the last line.
     pub(crate) said: usize,

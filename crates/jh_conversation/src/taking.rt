@@ -8,7 +8,7 @@ ghost use Rattle.jh_conversation.specs.Machine as machine;
 ghost use Rattle.jh_test_parts.specs.Test.{thread_of_process};
 ghost use Rattle.jh_conversation.specs.Sound.{IsSoundMachine};
 
-use crate::callers::{Caller, OpenStep};
+use crate::callers::{BadLine, Caller, OpenStep};
 use crate::machine::{ALL_STOPPED, MAIN_STOPPED, Machine};
 use crate::phase::Phase;
 use jh_edn::Value;
@@ -62,7 +62,10 @@ impl Machine {
         ensures { self.new ≡ rule.refuse why self.old }
     {
         if self.bad.is_none() {
-            self.bad = Some((self.read, why));
+            self.bad = Some(BadLine {
+                number: self.read,
+                why,
+            });
         }
         self.stops = self.stops.saturating_add(ALL_STOPPED).min(ALL_STOPPED);
     }

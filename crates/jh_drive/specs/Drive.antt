@@ -23,7 +23,7 @@ use Rattle.jh_reports.specs.Judged.{IsTextBy, RefusesLine}
 use Rattle.jh_reports.specs.Reports.{IsReport}
 use Rattle.jh_test_parts.specs.Test.{TestValue}
 use Rattle.jh_test_parts.specs.Workloads.{test_checker}
-use Rattle.jh_test_parts.specs.declared.complaints.Complaint.{Complaint}
+use Rattle.jh_conversation.specs.declared.callers.BadLine.{BadLine}
 use Rattle.jh_drive_settings.specs.Settings.{AreDriveSettingsOf, RefusesDriveSettings}
 use Rattle.jh_settings.specs.declared.error.SettingsError.{SettingsError}
 use Rattle.jh_drive.specs.DriveErrors.{drive_settings_error}
@@ -79,8 +79,8 @@ ended_early _ = RepliesEnded
 
 -- The answer of a test whose report is written: the first line that was no reply is its error; else, if it came
 -- to its end, the exit status of its verdict.
-abbrev pub drive_answer : Option (ℕ × Complaint) → Bool → Ending → ℕ → Result ℕ DriveError
-drive_answer (Some bad) over ending status = Err (Reply bad.0 bad.1)
+abbrev pub drive_answer : Option BadLine → Bool → Ending → ℕ → Result ℕ DriveError
+drive_answer (Some bad) over ending status = Err (Reply bad.number bad.why)
 drive_answer None true ending status = Ok status
 drive_answer None false ending status = Err (ended_early ending)
 

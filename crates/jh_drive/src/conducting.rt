@@ -12,10 +12,10 @@ use crate::calls::CallObserver;
 use crate::error::DriveError;
 use crate::report::report;
 use jh_checkers::Judging;
-use jh_conversation::Conversation;
+use jh_conversation::{BadLine, Conversation};
 use jh_drive_settings::{DriveSettings, drive_settings_of};
 use jh_lines::{Ending, Machine, Streams, converse_over};
-use jh_test_parts::{Complaint, Test};
+use jh_test_parts::Test;
 use jh_txn::ConsistencyModel;
 use std::alloc::Global;
 use std::io::{Read, Write};
@@ -53,14 +53,14 @@ fn ended_early(ending: Ending) -> DriveError
 
 /// The answer of a test whose report is written.
 fn drive_answer(
-    bad: Option<(u64, Complaint)>,
+    bad: Option<BadLine>,
     is_over: bool,
     ending: Ending,
     status: u8,
 ) -> Result<u8, DriveError>
     ensures { result ≡ rule.drive_answer bad is_over ending status }
 {
-    if let Some((number, why)) = bad {
+    if let Some(BadLine { number, why }) = bad {
         return Err(DriveError::Reply { number, why });
     }
     if is_over {
