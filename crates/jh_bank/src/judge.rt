@@ -13,7 +13,7 @@ use crate::erring::{
 };
 use crate::errors::BankError;
 use crate::reads::{bad_read_place, count_reads};
-use jh_check::{CheckError, Verdict};
+use jh_check::{CheckError, Verdict, op_at};
 use jh_ops::Op;
 use std::alloc::{AllocError, Global};
 
@@ -64,14 +64,6 @@ fn verdict_of(wrong: usize) -> Verdict
     } else {
         Verdict::False
     }
-}
-
-/// The operation at a place, if there is one.
-fn op_at(history: &[Op], place: usize) -> Option<&Op>
-    ensures { option_map (λ op. operation op.now) result
-        ≡ slice_get (operations history.now) place }
-{
-    history.get(place)
 }
 
 /// A copy of the operation at a place, if there is one.

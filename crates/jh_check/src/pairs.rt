@@ -14,7 +14,7 @@ use jh_edn::Value;
 use jh_ops::{Kind, Op, Pair};
 
 /// The record at a place, if there is one.
-fn op_at(history: &[Op], place: usize) -> Option<&Op>
+pub fn op_at(history: &[Op], place: usize) -> Option<&Op>
     ensures { option_map (λ op. operation op.now) result
         ≡ slice_get (operations history.now) place }
 {
