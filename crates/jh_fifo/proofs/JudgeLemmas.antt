@@ -6,7 +6,7 @@ use Rattle.std.specs.declared.collections.btree_map.BTreeMap.{BTreeMap}
 use Rattle.jh_fifo.specs.declared.operations.FifoOp.{FifoOp}
 use Rattle.jh_fifo.specs.declared.tables.Side.TheVariants.{In, Out}
 use Rattle.jh_fifo.specs.declared.verdict.FifoReason.{FifoReason}
-use Rattle.jh_fifo.specs.declared.verdict.FifoReason.TheVariants.{EndsTooSoon, Nowhere, Twice, TooSoon, Crossed, NeverEmpty}
+use Rattle.jh_fifo.specs.declared.verdict.FifoReason.TheVariants.{EndedBeforeInvoked, NeverEnqueued, DequeuedTwice, DequeuedBeforeEnqueued, OutOfOrder, NeverEmpty}
 use Rattle.jh_fifo.specs.declared.verdict.FifoVerdict.TheVariants.{Invalid}
 use Rattle.jh_fifo.specs.Order.{fifo_op_at}
 use Rattle.jh_fifo.specs.Reasons as reasons
@@ -19,11 +19,11 @@ use Rattle.jh_fifo.proofs.LayoutLemmas.{some_same, enqueue_inside, dequeue_insid
 
 module _ (ops : List FifoOp) where
   pub no_order : AreJudgedOps ops → (reason : FifoReason) → IsFifoReason ops reason → HasNoOrder ops
-  no_order fit (EndsTooSoon p) h = λ order orders. too_soon ops order orders p h
-  no_order fit (Nowhere p) h = λ order orders. nowhere ops order orders fit.dequeues p h
-  no_order fit (Twice p q) h = λ order orders. of_one ops order orders fit.once fit.dequeues p q h
-  no_order fit (TooSoon p q) h = λ order orders. early ops order orders fit.once fit.dequeues p q h
-  no_order fit (Crossed p q) h = λ order orders. crossed ops order orders fit.once fit.dequeues h.0 h.1 h.4
+  no_order fit (EndedBeforeInvoked p) h = λ order orders. too_soon ops order orders p h
+  no_order fit (NeverEnqueued p) h = λ order orders. nowhere ops order orders fit.dequeues p h
+  no_order fit (DequeuedTwice p q) h = λ order orders. of_one ops order orders fit.once fit.dequeues p q h
+  no_order fit (DequeuedBeforeEnqueued p q) h = λ order orders. early ops order orders fit.once fit.dequeues p q h
+  no_order fit (OutOfOrder p q) h = λ order orders. crossed ops order orders fit.once fit.dequeues h.0 h.1 h.4
   no_order fit (NeverEmpty p) h = λ order orders. never_empty ops order orders fit.once fit.dequeues p h
 
   pub invalid : AreJudgedOps ops → (reason : FifoReason) → IsFifoReason ops reason → IsFifoVerdict ops (Invalid reason)

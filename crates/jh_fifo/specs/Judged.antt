@@ -4,7 +4,7 @@ use Rattle.jh_fifo.specs.declared.operations.FifoOp.{FifoOp}
 use Rattle.jh_fifo.specs.declared.verdict.FifoReason.{FifoReason}
 use Rattle.jh_fifo.specs.declared.verdict.FifoReason.TheVariants as reason
 use Rattle.jh_fifo.specs.declared.verdict.FifoVerdict.{FifoVerdict}
-use Rattle.jh_fifo.specs.declared.verdict.FifoVerdict.TheVariants.{Valid, Invalid, Repeated, Unsure}
+use Rattle.jh_fifo.specs.declared.verdict.FifoVerdict.TheVariants.{Valid, Invalid, EnqueuedTwice, UnknownDequeue}
 use Rattle.jh_fifo.specs.Order.{fifo_op_at, PrecedesOp, IsFifoOrder}
 use Rattle.jh_fifo.specs.Reasons.{Enqueues, Dequeues, EnqueuedOnce, DequeuesAreDone, TakenOnce, EndsTooSoon, ComesFromNowhere, AreOfOne, ComesTooSoon, AreCrossedAt, IsNeverEmpty}
 use Rattle.jh_fifo.specs.Moments.{EmptiesAreDone}
@@ -23,11 +23,11 @@ pub record AreJudgedOps (ops : List FifoOp) : Type 0 where
 
 -- the reason applies
 abbrev pub IsFifoReason : List FifoOp → FifoReason → Type 0
-IsFifoReason ops (reason.EndsTooSoon place) = EndsTooSoon ops place
-IsFifoReason ops (reason.Nowhere place) = ComesFromNowhere ops place
-IsFifoReason ops (reason.Twice first second) = AreOfOne ops first second
-IsFifoReason ops (reason.TooSoon dequeue enqueue) = ComesTooSoon ops dequeue enqueue
-IsFifoReason ops (reason.Crossed first second) = AreCrossedAt ops first second
+IsFifoReason ops (reason.EndedBeforeInvoked place) = EndsTooSoon ops place
+IsFifoReason ops (reason.NeverEnqueued place) = ComesFromNowhere ops place
+IsFifoReason ops (reason.DequeuedTwice first second) = AreOfOne ops first second
+IsFifoReason ops (reason.DequeuedBeforeEnqueued dequeue enqueue) = ComesTooSoon ops dequeue enqueue
+IsFifoReason ops (reason.OutOfOrder first second) = AreCrossedAt ops first second
 IsFifoReason ops (reason.NeverEmpty place) = IsNeverEmpty ops place
 
 -- no list is an order
@@ -38,9 +38,9 @@ HasNoOrder ops = (order : List ℕ) → IsFifoOrder ops order → ⊥
 abbrev pub IsFifoVerdict : List FifoOp → FifoVerdict → Type 0
 IsFifoVerdict ops (Valid order) = AreJudgedOps ops × IsFifoOrder ops order.items
 IsFifoVerdict ops (Invalid why) = AreJudgedOps ops × IsFifoReason ops why × HasNoOrder ops
-IsFifoVerdict ops (Repeated first second) = (first ≢ second)
+IsFifoVerdict ops (EnqueuedTwice first second) = (first ≢ second)
     × ((value : ℕ) × Enqueues ops value first × Enqueues ops value second)
-IsFifoVerdict ops (Unsure place) = (place < length ops) × IsUnsure ops place
+IsFifoVerdict ops (UnknownDequeue place) = (place < length ops) × IsUnsure ops place
 
 -- Where it dequeues a value, something enqueues that, and it did not end before.
 abbrev pub IsTimelyAt : List FifoOp → ℕ → Type 0

@@ -6,7 +6,6 @@ ghost use Rattle.jh_fifo.specs.Spans.{AreSpans};
 ghost use Rattle.jh_fifo.specs.Tables.{IsTable};
 ghost use Rattle.jh_fifo.specs.declared.tables.Side.TheVariants.{In, Out};
 
-use crate::faults::{find_backwards, find_early, find_unsure};
 use crate::layout::{order_of, span_of};
 use crate::moments::{Emptied, with_empties};
 use crate::operations::FifoOp;
@@ -15,6 +14,7 @@ use crate::tables::{Side, Table, table_of};
 use crate::turn::{Turn, in_turn};
 use crate::values::values_of;
 use crate::verdict::{FifoReason, FifoVerdict};
+use crate::wrong::{find_backwards, find_early, find_unsure};
 use std::alloc::{AllocError, Global};
 use std::collections::BTreeMap;
 
@@ -28,7 +28,7 @@ fn judge_spans(alloc: Global, ops: &[FifoOp], spans: &[Span]) -> Result<FifoVerd
         Turn::Crossed(first, second) => {
             let one = span_of(spans, first).place;
             let other = span_of(spans, second).place;
-            Ok(FifoVerdict::Invalid(FifoReason::Crossed(one, other)))
+            Ok(FifoVerdict::Invalid(FifoReason::OutOfOrder(one, other)))
         }
         Turn::All(turn) => Ok(FifoVerdict::Valid(order_of(alloc, ops, &turn)?)),
     }
@@ -62,14 +62,14 @@ fn judge_fit(
     ensures { IfOk result (IsFifoVerdict ops.now) }
 {
     if let Some(place) = find_backwards(ops) {
-        return Ok(FifoVerdict::Invalid(FifoReason::EndsTooSoon(place)));
+        return Ok(FifoVerdict::Invalid(FifoReason::EndedBeforeInvoked(place)));
     }
     if let Some(reason) = find_early(ops, enqueues) {
         return Ok(FifoVerdict::Invalid(reason));
     }
     match table_of(alloc, ops, Side::Out)? {
         Table::Twice(first, second) => {
-            Ok(FifoVerdict::Invalid(FifoReason::Twice(first, second)))
+            Ok(FifoVerdict::Invalid(FifoReason::DequeuedTwice(first, second)))
         }
         Table::Once(dequeues) => judge_sound(alloc, ops, &dequeues),
     }
@@ -79,8 +79,8 @@ fn judge_fit(
 ///
 /// Operations are given in any order, and numbered by their places in the list. Each value is to
 /// be enqueued by one of them at most, and of each dequeue it is to be known that it happened: else
-/// the verdict names two operations that enqueue one value (`Repeated`), or a dequeue that is not known
-/// to have happened (`Unsure`).
+/// the verdict names two operations that enqueue one value (`EnqueuedTwice`), or a dequeue that is not
+/// known to have happened (`UnknownDequeue`).
 ///
 /// Errors: out of memory.
 ///
@@ -89,10 +89,10 @@ pub fn judge_fifo(alloc: Global, ops: &[FifoOp]) -> Result<FifoVerdict, AllocErr
     ensures { IfOk result (IsFifoVerdict ops.now) }
 {
     if let Some(place) = find_unsure(ops) {
-        return Ok(FifoVerdict::Unsure(place));
+        return Ok(FifoVerdict::UnknownDequeue(place));
     }
     match table_of(alloc, ops, Side::In)? {
-        Table::Twice(first, second) => Ok(FifoVerdict::Repeated(first, second)),
+        Table::Twice(first, second) => Ok(FifoVerdict::EnqueuedTwice(first, second)),
         Table::Once(enqueues) => judge_fit(alloc, ops, &enqueues),
     }
 }

@@ -3,14 +3,13 @@
 //! every one: the reasons are those of Henzinger, Sezgin and Vafeiadis, "Aspect-oriented linearizability
 //! proofs" (CONCUR 2013).
 //!
-//! `faults.rt` looks for operations that are wrong by themselves or with one other of their value. A span
+//! `wrong.rt` looks for operations that are wrong by themselves or with one other of their value. A span
 //! (`spans.rt`, `values.rt`) says when a value came into the queue and when it left, at the earliest and at
 //! the latest. `moments.rt` finds for each dequeue that found the queue empty a moment at which no value has
 //! to be there, `turn.rt` puts the spans in the order in which values can go through the queue, and
 //! `layout.rt` lays the operations out in that order. `judge.rt` asks one after another.
 #![tactic(auto)]
 
-mod faults;
 mod judge;
 mod laws;
 mod layout;
@@ -22,6 +21,7 @@ mod tables;
 mod turn;
 mod values;
 mod verdict;
+mod wrong;
 
 pub use judge::judge_fifo;
 pub use laws::{goes_before, reasons_exclude, runs_take_in_turn};

@@ -5,15 +5,15 @@
 #[derive(Clone, Copy, Debug, PartialEq, Eq)]
 pub enum FifoReason {
     /// An operation that ended before it was invoked.
-    EndsTooSoon(usize),
+    EndedBeforeInvoked(usize),
     /// A dequeue of a value that nothing enqueues.
-    Nowhere(usize),
+    NeverEnqueued(usize),
     /// Two dequeues of one value.
-    Twice(usize, usize),
+    DequeuedTwice(usize, usize),
     /// A dequeue that ended before the enqueue of its value was invoked, and that enqueue.
-    TooSoon(usize, usize),
+    DequeuedBeforeEnqueued(usize, usize),
     /// The enqueues of two values, each of which has to go through the queue before the other.
-    Crossed(usize, usize),
+    OutOfOrder(usize, usize),
     /// A dequeue that found the queue empty, though there was a value in it as long as it ran.
     NeverEmpty(usize),
 }
@@ -26,7 +26,7 @@ pub enum FifoVerdict {
     /// They have none.
     Invalid(FifoReason),
     /// These two enqueue the same value, so they are not judged.
-    Repeated(usize, usize),
+    EnqueuedTwice(usize, usize),
     /// This one is no enqueue, and it is not known whether it happened, so they are not judged.
-    Unsure(usize),
+    UnknownDequeue(usize),
 }

@@ -10,7 +10,7 @@ use Rattle.jh_fifo.specs.declared.operations.FifoCall.{FifoCall}
 use Rattle.jh_fifo.specs.declared.operations.FifoCall.TheVariants.{Enqueue, Dequeue, Empty}
 use Rattle.jh_fifo.specs.declared.operations.FifoOp.{FifoOp}
 use Rattle.jh_fifo.specs.declared.verdict.FifoVerdict.{FifoVerdict}
-use Rattle.jh_fifo.specs.declared.verdict.FifoVerdict.TheVariants.{Valid, Invalid, Repeated, Unsure}
+use Rattle.jh_fifo.specs.declared.verdict.FifoVerdict.TheVariants.{Valid, Invalid, EnqueuedTwice, UnknownDequeue}
 use Rattle.jh_fifo_check.specs.FifoFindings.{IsFifoFinding, IsNumberedVerdict, verdict_of_fifo}
 use Rattle.jh_fifo_check.specs.FifoHistories.{fifo_ops_of, pairs_not_failed}
 use Rattle.jh_fifo_check.specs.declared.finding.FifoFinding.{FifoFinding}
@@ -29,39 +29,39 @@ twice_not_judged ops first second fit apart both = apart (fit.once both.0 first 
 judged_agree : (ops : List FifoOp) (a b : FifoVerdict) → IsFifoVerdict ops a → IsFifoVerdict ops b → verdict_of_fifo a ≡ verdict_of_fifo b
 judged_agree ops (Valid order) (Valid other) x y = refl
 judged_agree ops (Valid order) (Invalid why) x y = absurd (y.2 order.items x.1)
-judged_agree ops (Valid order) (Repeated first second) x y = absurd (twice_not_judged ops first second x.0 y.0 y.1)
-judged_agree ops (Valid order) (Unsure place) x y = absurd (unsure_not_judged ops place x.0 y.0 y.1)
+judged_agree ops (Valid order) (EnqueuedTwice first second) x y = absurd (twice_not_judged ops first second x.0 y.0 y.1)
+judged_agree ops (Valid order) (UnknownDequeue place) x y = absurd (unsure_not_judged ops place x.0 y.0 y.1)
 judged_agree ops (Invalid why) (Valid order) x y = absurd (x.2 order.items y.1)
 judged_agree ops (Invalid why) (Invalid other) x y = refl
-judged_agree ops (Invalid why) (Repeated first second) x y = absurd (twice_not_judged ops first second x.0 y.0 y.1)
-judged_agree ops (Invalid why) (Unsure place) x y = absurd (unsure_not_judged ops place x.0 y.0 y.1)
-judged_agree ops (Repeated first second) (Valid order) x y = absurd (twice_not_judged ops first second y.0 x.0 x.1)
-judged_agree ops (Repeated first second) (Invalid why) x y = absurd (twice_not_judged ops first second y.0 x.0 x.1)
-judged_agree ops (Repeated first second) (Repeated one other) x y = refl
-judged_agree ops (Repeated first second) (Unsure place) x y = refl
-judged_agree ops (Unsure place) (Valid order) x y = absurd (unsure_not_judged ops place y.0 x.0 x.1)
-judged_agree ops (Unsure place) (Invalid why) x y = absurd (unsure_not_judged ops place y.0 x.0 x.1)
-judged_agree ops (Unsure place) (Repeated first second) x y = refl
-judged_agree ops (Unsure place) (Unsure other) x y = refl
+judged_agree ops (Invalid why) (EnqueuedTwice first second) x y = absurd (twice_not_judged ops first second x.0 y.0 y.1)
+judged_agree ops (Invalid why) (UnknownDequeue place) x y = absurd (unsure_not_judged ops place x.0 y.0 y.1)
+judged_agree ops (EnqueuedTwice first second) (Valid order) x y = absurd (twice_not_judged ops first second y.0 x.0 x.1)
+judged_agree ops (EnqueuedTwice first second) (Invalid why) x y = absurd (twice_not_judged ops first second y.0 x.0 x.1)
+judged_agree ops (EnqueuedTwice first second) (EnqueuedTwice one other) x y = refl
+judged_agree ops (EnqueuedTwice first second) (UnknownDequeue place) x y = refl
+judged_agree ops (UnknownDequeue place) (Valid order) x y = absurd (unsure_not_judged ops place y.0 x.0 x.1)
+judged_agree ops (UnknownDequeue place) (Invalid why) x y = absurd (unsure_not_judged ops place y.0 x.0 x.1)
+judged_agree ops (UnknownDequeue place) (EnqueuedTwice first second) x y = refl
+judged_agree ops (UnknownDequeue place) (UnknownDequeue other) x y = refl
 
 -- numbers in place of places say the same
 numbered_says : (numbers : List ℕ) (a b : FifoVerdict) → IsNumberedVerdict numbers a b → verdict_of_fifo a ≡ verdict_of_fifo b
 numbered_says numbers (Valid order) (Valid other) h = refl
 numbered_says numbers (Invalid why) (Invalid other) h = refl
-numbered_says numbers (Repeated first second) (Repeated one other) h = refl
-numbered_says numbers (Unsure place) (Unsure number) h = refl
+numbered_says numbers (EnqueuedTwice first second) (EnqueuedTwice one other) h = refl
+numbered_says numbers (UnknownDequeue place) (UnknownDequeue number) h = refl
 numbered_says numbers (Valid order) (Invalid why) h = absurd h
-numbered_says numbers (Valid order) (Repeated one other) h = absurd h
-numbered_says numbers (Valid order) (Unsure number) h = absurd h
+numbered_says numbers (Valid order) (EnqueuedTwice one other) h = absurd h
+numbered_says numbers (Valid order) (UnknownDequeue number) h = absurd h
 numbered_says numbers (Invalid why) (Valid other) h = absurd h
-numbered_says numbers (Invalid why) (Repeated one other) h = absurd h
-numbered_says numbers (Invalid why) (Unsure number) h = absurd h
-numbered_says numbers (Repeated first second) (Valid other) h = absurd h
-numbered_says numbers (Repeated first second) (Invalid why) h = absurd h
-numbered_says numbers (Repeated first second) (Unsure number) h = absurd h
-numbered_says numbers (Unsure place) (Valid other) h = absurd h
-numbered_says numbers (Unsure place) (Invalid why) h = absurd h
-numbered_says numbers (Unsure place) (Repeated one other) h = absurd h
+numbered_says numbers (Invalid why) (EnqueuedTwice one other) h = absurd h
+numbered_says numbers (Invalid why) (UnknownDequeue number) h = absurd h
+numbered_says numbers (EnqueuedTwice first second) (Valid other) h = absurd h
+numbered_says numbers (EnqueuedTwice first second) (Invalid why) h = absurd h
+numbered_says numbers (EnqueuedTwice first second) (UnknownDequeue number) h = absurd h
+numbered_says numbers (UnknownDequeue place) (Valid other) h = absurd h
+numbered_says numbers (UnknownDequeue place) (Invalid why) h = absurd h
+numbered_says numbers (UnknownDequeue place) (EnqueuedTwice one other) h = absurd h
 
 pub fifo_agree : (explain other : Bool) (history : List Operation) (a b : FifoFinding)
     → IsFifoFinding explain history a → IsFifoFinding other history b → verdict_of_fifo a.verdict ≡ verdict_of_fifo b.verdict

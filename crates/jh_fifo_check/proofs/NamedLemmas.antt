@@ -14,9 +14,9 @@ use Rattle.jh_fifo.specs.declared.operations.FifoCall.{FifoCall}
 use Rattle.jh_fifo.specs.declared.operations.FifoCall.TheVariants.{Enqueue, Dequeue, Empty}
 use Rattle.jh_fifo.specs.declared.operations.FifoOp.{FifoOp}
 use Rattle.jh_fifo.specs.declared.verdict.FifoReason.{FifoReason}
-use Rattle.jh_fifo.specs.declared.verdict.FifoReason.TheVariants.{EndsTooSoon, Nowhere, Twice, TooSoon, Crossed, NeverEmpty}
+use Rattle.jh_fifo.specs.declared.verdict.FifoReason.TheVariants.{EndedBeforeInvoked, NeverEnqueued, DequeuedTwice, DequeuedBeforeEnqueued, OutOfOrder, NeverEmpty}
 use Rattle.jh_fifo.specs.declared.verdict.FifoVerdict.{FifoVerdict}
-use Rattle.jh_fifo.specs.declared.verdict.FifoVerdict.TheVariants.{Valid, Invalid, Repeated, Unsure}
+use Rattle.jh_fifo.specs.declared.verdict.FifoVerdict.TheVariants.{Valid, Invalid, EnqueuedTwice, UnknownDequeue}
 use Rattle.jh_fifo_check.specs.FifoFindings.{IsNumberedVerdict, named_by_reason, named_by_verdict, number_of_place, numbered_reason}
 use Rattle.jh_fifo_check.specs.FifoHistories.{did_not_fail, fifo_op_of, fifo_ops_of, numbers_not_failed, pairs_not_failed, values_through}
 
@@ -48,46 +48,46 @@ two_low : (n a b : ℕ) → a < n → b < n → All (λ p. p < n) (a ∷ b ∷ [
 two_low n a b h k = All-cons (λ p. p < n) a (b ∷ []) h (one_low n b k)
 
 reason_low : (ops : List FifoOp) (reason : FifoReason) → IsFifoReason ops reason → All (λ p. p < length ops) (named_by_reason reason)
-reason_low ops (EndsTooSoon p) h = one_low (length ops) p (over_there ops p (fifo_op_at ops p).invoked h)
-reason_low ops (Nowhere p) h = one_low (length ops) p (dequeue_there ops p h.0 h.1)
-reason_low ops (Twice a b) h = two_low (length ops) a b (dequeue_there ops a h.1.0 h.1.1) (dequeue_there ops b h.1.0 h.1.2)
-reason_low ops (TooSoon a b) h = two_low (length ops) a b (dequeue_there ops a h.1.0 h.1.1) (enqueue_there ops b h.1.0 h.1.2)
-reason_low ops (Crossed a b) h = two_low (length ops) a b (enqueue_there ops a h.0 h.2) (enqueue_there ops b h.1 h.3)
+reason_low ops (EndedBeforeInvoked p) h = one_low (length ops) p (over_there ops p (fifo_op_at ops p).invoked h)
+reason_low ops (NeverEnqueued p) h = one_low (length ops) p (dequeue_there ops p h.0 h.1)
+reason_low ops (DequeuedTwice a b) h = two_low (length ops) a b (dequeue_there ops a h.1.0 h.1.1) (dequeue_there ops b h.1.0 h.1.2)
+reason_low ops (DequeuedBeforeEnqueued a b) h = two_low (length ops) a b (dequeue_there ops a h.1.0 h.1.1) (enqueue_there ops b h.1.0 h.1.2)
+reason_low ops (OutOfOrder a b) h = two_low (length ops) a b (enqueue_there ops a h.0 h.2) (enqueue_there ops b h.1 h.3)
 reason_low ops (NeverEmpty p) h = one_low (length ops) p (ended_there ops p h.1.0 h.1.1)
 
 judged_low : (ops : List FifoOp) (judged : FifoVerdict) → IsFifoVerdict ops judged → All (λ p. p < length ops) (named_by_verdict judged)
 judged_low ops (Valid order) h = All-nil (λ p. p < length ops)
 judged_low ops (Invalid reason) h = reason_low ops reason h.1
-judged_low ops (Repeated a b) h = two_low (length ops) a b (enqueue_there ops a h.1.0 h.1.1) (enqueue_there ops b h.1.0 h.1.2)
-judged_low ops (Unsure p) h = one_low (length ops) p h.0
+judged_low ops (EnqueuedTwice a b) h = two_low (length ops) a b (enqueue_there ops a h.1.0 h.1.1) (enqueue_there ops b h.1.0 h.1.2)
+judged_low ops (UnknownDequeue p) h = one_low (length ops) p h.0
 
 -- ---- numbers in place of places
 
 reason_numbers : (numbers : List ℕ) (reason : FifoReason) → named_by_reason (numbered_reason numbers reason) ≡ map (number_of_place numbers) (named_by_reason reason)
-reason_numbers numbers (EndsTooSoon p) = refl
-reason_numbers numbers (Nowhere p) = refl
-reason_numbers numbers (Twice a b) = refl
-reason_numbers numbers (TooSoon a b) = refl
-reason_numbers numbers (Crossed a b) = refl
+reason_numbers numbers (EndedBeforeInvoked p) = refl
+reason_numbers numbers (NeverEnqueued p) = refl
+reason_numbers numbers (DequeuedTwice a b) = refl
+reason_numbers numbers (DequeuedBeforeEnqueued a b) = refl
+reason_numbers numbers (OutOfOrder a b) = refl
 reason_numbers numbers (NeverEmpty p) = refl
 
 verdict_numbers : (numbers : List ℕ) (judged shown : FifoVerdict) → IsNumberedVerdict numbers judged shown → named_by_verdict shown ≡ map (number_of_place numbers) (named_by_verdict judged)
 verdict_numbers numbers (Valid order) (Valid other) h = refl
 verdict_numbers numbers (Invalid reason) (Invalid other) h = ap named_by_reason h ∙ reason_numbers numbers reason
-verdict_numbers numbers (Repeated a b) (Repeated c d) h = λ i. h.0 i ∷ h.1 i ∷ []
-verdict_numbers numbers (Unsure p) (Unsure n) h = λ i. h i ∷ []
+verdict_numbers numbers (EnqueuedTwice a b) (EnqueuedTwice c d) h = λ i. h.0 i ∷ h.1 i ∷ []
+verdict_numbers numbers (UnknownDequeue p) (UnknownDequeue n) h = λ i. h i ∷ []
 verdict_numbers numbers (Valid order) (Invalid reason) h = absurd h
-verdict_numbers numbers (Valid order) (Repeated c d) h = absurd h
-verdict_numbers numbers (Valid order) (Unsure n) h = absurd h
+verdict_numbers numbers (Valid order) (EnqueuedTwice c d) h = absurd h
+verdict_numbers numbers (Valid order) (UnknownDequeue n) h = absurd h
 verdict_numbers numbers (Invalid reason) (Valid order) h = absurd h
-verdict_numbers numbers (Invalid reason) (Repeated c d) h = absurd h
-verdict_numbers numbers (Invalid reason) (Unsure n) h = absurd h
-verdict_numbers numbers (Repeated a b) (Valid order) h = absurd h
-verdict_numbers numbers (Repeated a b) (Invalid reason) h = absurd h
-verdict_numbers numbers (Repeated a b) (Unsure n) h = absurd h
-verdict_numbers numbers (Unsure p) (Valid order) h = absurd h
-verdict_numbers numbers (Unsure p) (Invalid reason) h = absurd h
-verdict_numbers numbers (Unsure p) (Repeated c d) h = absurd h
+verdict_numbers numbers (Invalid reason) (EnqueuedTwice c d) h = absurd h
+verdict_numbers numbers (Invalid reason) (UnknownDequeue n) h = absurd h
+verdict_numbers numbers (EnqueuedTwice a b) (Valid order) h = absurd h
+verdict_numbers numbers (EnqueuedTwice a b) (Invalid reason) h = absurd h
+verdict_numbers numbers (EnqueuedTwice a b) (UnknownDequeue n) h = absurd h
+verdict_numbers numbers (UnknownDequeue p) (Valid order) h = absurd h
+verdict_numbers numbers (UnknownDequeue p) (Invalid reason) h = absurd h
+verdict_numbers numbers (UnknownDequeue p) (EnqueuedTwice c d) h = absurd h
 
 -- ---- numbers of pairs
 

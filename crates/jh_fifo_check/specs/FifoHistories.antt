@@ -74,7 +74,7 @@ value_number values x = count_by (λ y. is_below y x) values
 -- ---- the operations
 
 -- the call that moves the value with a number
-abbrev pub call_that_moves : Bool → ℕ → FifoCall
+abbrev pub call_that_moves : (enqueues : Bool) → ℕ → FifoCall
 call_that_moves true number = Enqueue number
 call_that_moves false number = Dequeue number
 

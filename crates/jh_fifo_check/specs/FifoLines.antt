@@ -5,10 +5,10 @@ use Rattle.jh_edn.specs.Parts.{vector_of}
 use Rattle.jh_ops.specs.declared.operation.Op.{Op}
 use Rattle.jh_check.specs.Lines.{map_with_verdict, operations_value}
 use Rattle.jh_fifo.specs.declared.verdict.FifoReason.{FifoReason}
-use Rattle.jh_fifo.specs.declared.verdict.FifoReason.TheVariants.{EndsTooSoon, Nowhere, Twice}
-use Rattle.jh_fifo.specs.declared.verdict.FifoReason.TheVariants.{TooSoon, Crossed, NeverEmpty}
+use Rattle.jh_fifo.specs.declared.verdict.FifoReason.TheVariants.{EndedBeforeInvoked, NeverEnqueued, DequeuedTwice}
+use Rattle.jh_fifo.specs.declared.verdict.FifoReason.TheVariants.{DequeuedBeforeEnqueued, OutOfOrder, NeverEmpty}
 use Rattle.jh_fifo.specs.declared.verdict.FifoVerdict.{FifoVerdict}
-use Rattle.jh_fifo.specs.declared.verdict.FifoVerdict.TheVariants.{Valid, Invalid, Repeated, Unsure}
+use Rattle.jh_fifo.specs.declared.verdict.FifoVerdict.TheVariants.{Valid, Invalid, EnqueuedTwice, UnknownDequeue}
 use Rattle.jh_fifo_check.specs.FifoFindings.{named_by_verdict, verdict_of_fifo}
 use Rattle.jh_fifo_check.specs.declared.finding.FifoFinding.{FifoFinding}
 
@@ -18,19 +18,19 @@ numbers_value numbers = vector_of (map (λ number. int (pos number)) numbers)
 
 -- the name of a reason
 abbrev pub reason_name : FifoReason → List ℕ
-reason_name (EndsTooSoon number) = codes "ended-before-invoked"
-reason_name (Nowhere number) = codes "never-enqueued"
-reason_name (Twice first second) = codes "dequeued-twice"
-reason_name (TooSoon dequeue enqueue) = codes "dequeued-before-enqueued"
-reason_name (Crossed first second) = codes "out-of-order"
+reason_name (EndedBeforeInvoked number) = codes "ended-before-invoked"
+reason_name (NeverEnqueued number) = codes "never-enqueued"
+reason_name (DequeuedTwice first second) = codes "dequeued-twice"
+reason_name (DequeuedBeforeEnqueued dequeue enqueue) = codes "dequeued-before-enqueued"
+reason_name (OutOfOrder first second) = codes "out-of-order"
 reason_name (NeverEmpty number) = codes "never-empty"
 
 -- why a verdict is not `true`
 abbrev pub because_of : FifoVerdict → List ℕ
 because_of (Valid order) = []
 because_of (Invalid reason) = reason_name reason
-because_of (Repeated first second) = codes "enqueued-twice"
-because_of (Unsure number) = codes "unknown-dequeue"
+because_of (EnqueuedTwice first second) = codes "enqueued-twice"
+because_of (UnknownDequeue number) = codes "unknown-dequeue"
 
 -- the operations that are shown, if there are any
 abbrev pub operations_shown : List Op → List (Edn × Edn)

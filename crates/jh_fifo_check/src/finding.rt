@@ -33,7 +33,7 @@ impl FifoFinding {
         match &self.verdict {
             FifoVerdict::Valid(_) => Verdict::True,
             FifoVerdict::Invalid(_) => Verdict::False,
-            FifoVerdict::Repeated(..) | FifoVerdict::Unsure(_) => Verdict::Unknown,
+            FifoVerdict::EnqueuedTwice(..) | FifoVerdict::UnknownDequeue(_) => Verdict::Unknown,
         }
     }
 }
@@ -66,13 +66,17 @@ fn numbered_reason(numbers: &[usize], reason: FifoReason) -> FifoReason
 {
     let number = |place| number_of_place(numbers, place);
     match reason {
-        FifoReason::EndsTooSoon(place) => FifoReason::EndsTooSoon(number(place)),
-        FifoReason::Nowhere(place) => FifoReason::Nowhere(number(place)),
-        FifoReason::Twice(first, second) => FifoReason::Twice(number(first), number(second)),
-        FifoReason::TooSoon(dequeue, enqueue) => {
-            FifoReason::TooSoon(number(dequeue), number(enqueue))
+        FifoReason::EndedBeforeInvoked(place) => FifoReason::EndedBeforeInvoked(number(place)),
+        FifoReason::NeverEnqueued(place) => FifoReason::NeverEnqueued(number(place)),
+        FifoReason::DequeuedTwice(first, second) => {
+            FifoReason::DequeuedTwice(number(first), number(second))
         }
-        FifoReason::Crossed(first, second) => FifoReason::Crossed(number(first), number(second)),
+        FifoReason::DequeuedBeforeEnqueued(dequeue, enqueue) => {
+            FifoReason::DequeuedBeforeEnqueued(number(dequeue), number(enqueue))
+        }
+        FifoReason::OutOfOrder(first, second) => {
+            FifoReason::OutOfOrder(number(first), number(second))
+        }
         FifoReason::NeverEmpty(place) => FifoReason::NeverEmpty(number(place)),
     }
 }
@@ -93,10 +97,10 @@ fn numbered(
         FifoVerdict::Invalid(reason) => {
             Ok(FifoVerdict::Invalid(numbered_reason(numbers, *reason)))
         }
-        FifoVerdict::Repeated(first, second) => {
-            Ok(FifoVerdict::Repeated(number(*first), number(*second)))
+        FifoVerdict::EnqueuedTwice(first, second) => {
+            Ok(FifoVerdict::EnqueuedTwice(number(*first), number(*second)))
         }
-        FifoVerdict::Unsure(place) => Ok(FifoVerdict::Unsure(number(*place))),
+        FifoVerdict::UnknownDequeue(place) => Ok(FifoVerdict::UnknownDequeue(number(*place))),
     }
 }
 
@@ -105,12 +109,12 @@ fn named_by_reason(alloc: Global, reason: FifoReason) -> Result<Vec<usize>, Allo
     ensures { IfOk result (λ named. named.items ≡ rule.named_by_reason reason) }
 {
     match reason {
-        FifoReason::EndsTooSoon(number)
-        | FifoReason::Nowhere(number)
+        FifoReason::EndedBeforeInvoked(number)
+        | FifoReason::NeverEnqueued(number)
         | FifoReason::NeverEmpty(number) => Ok(vec![in alloc; number]?),
-        FifoReason::Twice(first, second)
-        | FifoReason::TooSoon(first, second)
-        | FifoReason::Crossed(first, second) => Ok(vec![in alloc; first, second]?),
+        FifoReason::DequeuedTwice(first, second)
+        | FifoReason::DequeuedBeforeEnqueued(first, second)
+        | FifoReason::OutOfOrder(first, second) => Ok(vec![in alloc; first, second]?),
     }
 }
 
@@ -123,8 +127,8 @@ pub fn named_by_verdict(alloc: Global, verdict: &FifoVerdict) -> Result<Vec<usiz
     match verdict {
         FifoVerdict::Valid(_) => Ok(Vec::new(alloc)),
         FifoVerdict::Invalid(reason) => named_by_reason(alloc, *reason),
-        FifoVerdict::Repeated(first, second) => Ok(vec![in alloc; *first, *second]?),
-        FifoVerdict::Unsure(number) => Ok(vec![in alloc; *number]?),
+        FifoVerdict::EnqueuedTwice(first, second) => Ok(vec![in alloc; *first, *second]?),
+        FifoVerdict::UnknownDequeue(number) => Ok(vec![in alloc; *number]?),
     }
 }
 

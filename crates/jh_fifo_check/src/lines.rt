@@ -23,11 +23,11 @@ fn reason_name(reason: FifoReason) -> &'static str
     ensures { result.now ≡ rule.reason_name reason }
 {
     match reason {
-        FifoReason::EndsTooSoon(_) => "ended-before-invoked",
-        FifoReason::Nowhere(_) => "never-enqueued",
-        FifoReason::Twice(..) => "dequeued-twice",
-        FifoReason::TooSoon(..) => "dequeued-before-enqueued",
-        FifoReason::Crossed(..) => "out-of-order",
+        FifoReason::EndedBeforeInvoked(_) => "ended-before-invoked",
+        FifoReason::NeverEnqueued(_) => "never-enqueued",
+        FifoReason::DequeuedTwice(..) => "dequeued-twice",
+        FifoReason::DequeuedBeforeEnqueued(..) => "dequeued-before-enqueued",
+        FifoReason::OutOfOrder(..) => "out-of-order",
         FifoReason::NeverEmpty(_) => "never-empty",
     }
 }
@@ -126,14 +126,14 @@ fn write_reason<W: Write>(
 {
     let name = reason_name(reason);
     match reason {
-        FifoReason::EndsTooSoon(number)
-        | FifoReason::Nowhere(number)
+        FifoReason::EndedBeforeInvoked(number)
+        | FifoReason::NeverEnqueued(number)
         | FifoReason::NeverEmpty(number) => {
             write_why(Verdict::False, name, &[number], operations, writer)
         }
-        FifoReason::Twice(first, second)
-        | FifoReason::TooSoon(first, second)
-        | FifoReason::Crossed(first, second) => {
+        FifoReason::DequeuedTwice(first, second)
+        | FifoReason::DequeuedBeforeEnqueued(first, second)
+        | FifoReason::OutOfOrder(first, second) => {
             write_why(Verdict::False, name, &[first, second], operations, writer)
         }
     }
@@ -157,7 +157,7 @@ pub fn write_fifo<W: Write>(found: &FifoFinding, writer: &mut W) -> Result<(), E
     match &found.verdict {
         FifoVerdict::Valid(order) => write_order(order, writer),
         FifoVerdict::Invalid(reason) => write_reason(*reason, operations, writer),
-        FifoVerdict::Repeated(first, second) => {
+        FifoVerdict::EnqueuedTwice(first, second) => {
             let named = [*first, *second];
             write_why(
                 Verdict::Unknown,
@@ -167,7 +167,7 @@ pub fn write_fifo<W: Write>(found: &FifoFinding, writer: &mut W) -> Result<(), E
                 writer,
             )
         }
-        FifoVerdict::Unsure(number) => {
+        FifoVerdict::UnknownDequeue(number) => {
             write_why(
                 Verdict::Unknown,
                 "unknown-dequeue",

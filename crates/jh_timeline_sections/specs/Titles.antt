@@ -122,12 +122,14 @@ queue_reason (First place completion) =
 
 -- what excludes every order of a first-in-first-out queue
 abbrev pub order_excluded_text : FifoReason → List ℕ
-order_excluded_text (reasons.EndsTooSoon number) = codes ": an operation ended before it was invoked"
-order_excluded_text (reasons.Nowhere number) = codes ": a value is dequeued that was never enqueued"
-order_excluded_text (reasons.Twice first second) = codes ": a value is dequeued twice"
-order_excluded_text (reasons.TooSoon dequeue enqueue) =
+order_excluded_text (reasons.EndedBeforeInvoked number) =
+    codes ": an operation ended before it was invoked"
+order_excluded_text (reasons.NeverEnqueued number) =
+    codes ": a value is dequeued that was never enqueued"
+order_excluded_text (reasons.DequeuedTwice first second) = codes ": a value is dequeued twice"
+order_excluded_text (reasons.DequeuedBeforeEnqueued dequeue enqueue) =
     codes ": a value is dequeued before it is enqueued"
-order_excluded_text (reasons.Crossed first second) =
+order_excluded_text (reasons.OutOfOrder first second) =
     codes ": of two values each has to come before the other"
 order_excluded_text (reasons.NeverEmpty number) =
     codes ": a dequeue found the queue empty, which it never was"
@@ -158,8 +160,8 @@ set_full_reason Verdict.True lost stale duplicated = []
 abbrev pub fifo_reason : FifoVerdict → List ℕ
 fifo_reason (fifo.Valid order) = ordered_text (length order.items)
 fifo_reason (fifo.Invalid why) = order_excluded_text why
-fifo_reason (fifo.Repeated first second) = codes ": a value is enqueued twice"
-fifo_reason (fifo.Unsure number) = codes ": it is not known what a dequeue did"
+fifo_reason (fifo.EnqueuedTwice first second) = codes ": a value is enqueued twice"
+fifo_reason (fifo.UnknownDequeue number) = codes ": it is not known what a dequeue did"
 
 -- what is said behind the verdict, by the checker
 abbrev pub reason : Finding → List ℕ

@@ -254,11 +254,11 @@ fn order_excluded(reason: FifoReason) -> &'static [u8]
     ensures { result.now ≡ rule.order_excluded_text reason }
 {
     match reason {
-        FifoReason::EndsTooSoon(_) => b": an operation ended before it was invoked",
-        FifoReason::Nowhere(_) => b": a value is dequeued that was never enqueued",
-        FifoReason::Twice(..) => b": a value is dequeued twice",
-        FifoReason::TooSoon(..) => b": a value is dequeued before it is enqueued",
-        FifoReason::Crossed(..) => b": of two values each has to come before the other",
+        FifoReason::EndedBeforeInvoked(_) => b": an operation ended before it was invoked",
+        FifoReason::NeverEnqueued(_) => b": a value is dequeued that was never enqueued",
+        FifoReason::DequeuedTwice(..) => b": a value is dequeued twice",
+        FifoReason::DequeuedBeforeEnqueued(..) => b": a value is dequeued before it is enqueued",
+        FifoReason::OutOfOrder(..) => b": of two values each has to come before the other",
         FifoReason::NeverEmpty(_) => b": a dequeue found the queue empty, which it never was",
     }
 }
@@ -270,8 +270,10 @@ fn fifo_reason(alloc: Global, verdict: &FifoVerdict) -> Result<Vec<u8>, AllocErr
     match verdict {
         FifoVerdict::Valid(order) => ordered(alloc, order.len()),
         FifoVerdict::Invalid(reason) => Vec::from_slice(alloc, order_excluded(*reason)),
-        FifoVerdict::Repeated(..) => Vec::from_slice(alloc, b": a value is enqueued twice"),
-        FifoVerdict::Unsure(_) => Vec::from_slice(alloc, b": it is not known what a dequeue did"),
+        FifoVerdict::EnqueuedTwice(..) => Vec::from_slice(alloc, b": a value is enqueued twice"),
+        FifoVerdict::UnknownDequeue(_) => {
+            Vec::from_slice(alloc, b": it is not known what a dequeue did")
+        }
     }
 }
 

@@ -1,13 +1,13 @@
 use Rattle.std.proofs.Common.{length, subst}
 use Rattle.jh_fifo.specs.declared.tables.Side.TheVariants.{Out}
-use Rattle.jh_fifo.specs.declared.verdict.FifoReason.TheVariants.{EndsTooSoon, Twice}
+use Rattle.jh_fifo.specs.declared.verdict.FifoReason.TheVariants.{EndedBeforeInvoked, DequeuedTwice}
 use Rattle.jh_fifo.specs.Reasons.{AreOfOne}
 use Rattle.jh_fifo.specs.Tables.{IsTable, IsTableOf}
 use Rattle.jh_fifo.proofs.JudgeLemmas.{invalid, are_sound}
 use Rattle.jh_fifo.proofs.judge.judge_fit.Goals as goal
 
 pub returns-in-Some : goal.returns-in-Some
-returns-in-Some c = invalid c.args.ops.now c.requires.fit (EndsTooSoon c.in-Some.place) c.in-Some.ensures
+returns-in-Some c = invalid c.args.ops.now c.requires.fit (EndedBeforeInvoked c.in-Some.place) c.in-Some.ensures
 
 pub returns-in-Some-find_early : goal.returns-in-Some-find_early
 returns-in-Some-find_early c = invalid c.args.ops.now c.requires.fit c.in-Some-find_early.reason c.in-Some-find_early.ensures
@@ -22,4 +22,4 @@ pub returns-in-Twice : goal.returns-in-Twice
 returns-in-Twice c =
     let ops = c.args.ops.now in
     let twice : AreOfOne ops c.in-Twice.first c.in-Twice.second = subst (λ t. IsTableOf ops Out t) c.in-Twice.is (c.in_ok-first.ensures {u = tt}) in
-    invalid ops c.requires.fit (Twice c.in-Twice.first c.in-Twice.second) twice
+    invalid ops c.requires.fit (DequeuedTwice c.in-Twice.first c.in-Twice.second) twice

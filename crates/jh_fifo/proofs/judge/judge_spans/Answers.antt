@@ -1,6 +1,6 @@
 use Rattle.std.proofs.Common.{List, sym, subst}
 use Rattle.jh_fifo.specs.declared.spans.Span.{Span}
-use Rattle.jh_fifo.specs.declared.verdict.FifoReason.TheVariants.{Crossed}
+use Rattle.jh_fifo.specs.declared.verdict.FifoReason.TheVariants.{OutOfOrder}
 use Rattle.jh_fifo.specs.Layout.{CanGoThrough}
 use Rattle.jh_fifo.specs.Lines.{IsLined, IsTurnOf, AreCrossedSpans}
 use Rattle.jh_fifo.specs.Reasons.{AreCrossedAt}
@@ -28,4 +28,4 @@ returns-in-Crossed c =
     let at : AreCrossedAt ops one.place other.place =
     subst (λ (s : Span). AreCrossedAt ops s.place other.place) (sym c.span_of-one.ensures)
     (subst (λ (s : Span). AreCrossedAt ops (span_at spans first).place s.place) (sym c.span_of-other.ensures) (crossed_of ops spans c.requires.spans c.requires.sound.taken_once first second crossed)) in
-    invalid ops c.requires.sound.fit (Crossed one.place other.place) at
+    invalid ops c.requires.sound.fit (OutOfOrder one.place other.place) at

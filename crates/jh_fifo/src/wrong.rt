@@ -70,10 +70,10 @@ fn early_at(ops: &[FifoOp], place: usize, enqueues: &BTreeMap<usize, usize>) -> 
     match ops[place].call {
         FifoCall::Enqueue(_) | FifoCall::Empty => None,
         FifoCall::Dequeue(value) => match place_of(enqueues, value) {
-            None => Some(FifoReason::Nowhere(place)),
+            None => Some(FifoReason::NeverEnqueued(place)),
             Some(enqueue) => {
                 if precedes(ops, place, enqueue) {
-                    Some(FifoReason::TooSoon(place, enqueue))
+                    Some(FifoReason::DequeuedBeforeEnqueued(place, enqueue))
                 } else {
                     None
                 }
