@@ -3,6 +3,7 @@
 #![tactic(auto)]
 
 mod key_sections;
+mod laws;
 mod nemesis;
 mod said;
 mod section;
@@ -10,7 +11,8 @@ mod title;
 mod window;
 
 pub use key_sections::sections_of_keys;
+pub use laws::limits;
 pub use said::said_verdict;
 pub use section::section_of;
 pub use title::{title_of, title_of_keys};
-pub use window::{BEFORE, Choice, MAX_SHOWN, SHOWN_AROUND};
+pub use window::{Choice, MAX_WHOLE, SHOWN_AROUND, SHOWN_BEFORE};

@@ -8,13 +8,13 @@ use jh_timeline::{Call, Mark, Window};
 use jh_timeline_pages::first_pointer;
 
 /// The most records that are all shown where none are chosen.
-pub const MAX_SHOWN: usize = 2_000;
+pub const MAX_WHOLE: usize = 2_000;
 
-/// How many records are shown of more than `MAX_SHOWN`, where none are chosen.
+/// How many records are shown of more than `MAX_WHOLE`, where none are chosen.
 pub const SHOWN_AROUND: usize = 1_000;
 
 /// How many of these stand before the record that they are around.
-pub const BEFORE: usize = 500;
+pub const SHOWN_BEFORE: usize = 500;
 
 /// The records that are asked for: those from the index `from` on and before the index `to`.
 #[derive(Clone, Copy, Debug, PartialEq, Eq)]
@@ -27,7 +27,7 @@ pub struct Choice {
 pub(crate) fn is_open(choice: Choice, total: usize) -> bool
     ensures { result ≡ rule.is_open choice total }
 {
-    choice.from.is_none() && choice.to.is_none() && total > MAX_SHOWN
+    choice.from.is_none() && choice.to.is_none() && total > MAX_WHOLE
 }
 
 /// The records that are chosen, or all.
@@ -44,7 +44,7 @@ pub(crate) fn chosen(choice: Choice, total: usize) -> Window
 pub(crate) fn around(focus: Option<usize>, total: usize) -> Window
     ensures { result ≡ rule.focus_window focus total }
 {
-    let from = focus.unwrap_or(0).saturating_sub(BEFORE);
+    let from = focus.unwrap_or(0).saturating_sub(SHOWN_BEFORE);
     Window {
         from,
         to: from.saturating_add(SHOWN_AROUND).min(total),
