@@ -8,8 +8,8 @@ use Rattle.jh_lexemes.specs.declared.lexeme.Lexeme.{Lexeme}
 use Rattle.jh_lexemes.specs.Lexemes.{lexeme_of, lexemes_on, lexemes_from}
 use Rattle.jh_unread.specs.declared.parts.Opened.{Opened}
 use Rattle.jh_unread.specs.declared.parts.Part.{Part}
-use Rattle.jh_unread.specs.declared.pairs.Operation.{Operation}
-use Rattle.jh_unread.specs.declared.pairs.Step.{Step}
+use Rattle.jh_unread.specs.declared.pairs.OpenMap.{OpenMap}
+use Rattle.jh_unread.specs.declared.pairs.Followed.{Followed}
 use Rattle.jh_unread.specs.Blanks.{blank, blank_behind, IsOwnOrBlank, AreOwnOrBlank}
 use Rattle.jh_unread.specs.Nesting.{follow}
 use Rattle.jh_unread.specs.Pairs.{unread_by}
@@ -60,11 +60,11 @@ own_first (suc n) [] (x ∷ done) s h = absurd h
 own_first (suc n) (y ∷ out) [] s h = absurd h
 own_first (suc n) (y ∷ out) (x ∷ done) s h = (h.0, own_first n out done s h.1)
 
-own_finished : (o : Option Operation) (out done s : List ℕ) → AreOwnOrBlank done out → AreOwnOrBlank (done ++ s) (finished (done ++ s) o out)
+own_finished : (o : Option OpenMap) (out done s : List ℕ) → AreOwnOrBlank done out → AreOwnOrBlank (done ++ s) (finished (done ++ s) o out)
 own_finished (Some operation) out done s h = own_first operation.start out done s h
 own_finished None out done s h = own_rest out done s h
 
-own_step : (o : Option Operation) (a out : List ℕ) (step : Step) → AreOwnOrBlank a out → AreOwnOrBlank a (operation_and_text o out step).1
+own_step : (o : Option OpenMap) (a out : List ℕ) (step : Followed) → AreOwnOrBlank a out → AreOwnOrBlank a (operation_and_text o out step).1
 own_step None a out step h = h
 own_step (Some operation) a out step h = own_blanked (unread_by operation step) a out h
 

@@ -14,9 +14,9 @@ use Rattle.jh_unread.specs.declared.parts.Part.{Part}
 use Rattle.jh_unread.specs.declared.parts.Part.TheVariants.{Gap, Prefix, Opens, Closes, Whole, Broken}
 use Rattle.jh_unread.specs.declared.pairs.Stage.{Stage}
 use Rattle.jh_unread.specs.declared.pairs.Stage.TheVariants.{Key, ReadValue, OtherValue}
-use Rattle.jh_unread.specs.declared.pairs.Pair.{Pair}
-use Rattle.jh_unread.specs.declared.pairs.Operation.{Operation}
-use Rattle.jh_unread.specs.declared.pairs.Step.{Step}
+use Rattle.jh_unread.specs.declared.pairs.Entry.{Entry}
+use Rattle.jh_unread.specs.declared.pairs.OpenMap.{OpenMap}
+use Rattle.jh_unread.specs.declared.pairs.Followed.{Followed}
 use Rattle.jh_unread.specs.Nesting.{follow}
 use Rattle.jh_unread.specs.Pairs.{worse, found_in, begins_element, pair_from, pair_on, pair_after, ends_part, pair_at, pair_ended, pair_left, operation_behind, operation_if, unread_if, unread_pair, unread_by}
 use Rattle.jh_unread.specs.Parts.{part_of, token_part, character_part, is_refused, begins_joined}
@@ -28,11 +28,11 @@ is_clean Nothing = true
 is_clean Refused = false
 is_clean Faulty = true
 
-abbrev CleanPair : Option Pair → Type 0
+abbrev CleanPair : Option Entry → Type 0
 CleanPair (Some pair) = is_clean pair.found ≡ true
 CleanPair None = Unit {0}
 
-abbrev CleanOperation : Option Operation → Type 0
+abbrev CleanOperation : Option OpenMap → Type 0
 CleanOperation (Some operation) = CleanPair operation.pair
 CleanOperation None = Unit {0}
 
@@ -67,32 +67,32 @@ part_clean kinds.OpenSet s r h = refl
 part_clean (kinds.Close bracket) s r h = refl
 part_clean kinds.Token s r h = token_clean (is_refused s) (begins_joined r) h
 
-from_clean : (b : Bool) (step : Step) → is_clean (found_in step.part) ≡ true → CleanPair (pair_from b step)
+from_clean : (b : Bool) (step : Followed) → is_clean (found_in step.part) ≡ true → CleanPair (pair_from b step)
 from_clean true step k = k
 from_clean false step k = tt
 
-on_clean : (o : Option Pair) (operation : Operation) (step : Step) → CleanPair o → is_clean (found_in step.part) ≡ true → CleanPair (pair_on o operation step)
+on_clean : (o : Option Entry) (operation : OpenMap) (step : Followed) → CleanPair o → is_clean (found_in step.part) ≡ true → CleanPair (pair_on o operation step)
 on_clean (Some pair) operation step h k = worse_clean pair.found (found_in step.part) h k
 on_clean None operation step h k = from_clean ((eqb step.before operation.depth) && begins_element step.part) step k
 
-at_clean : (stage : Stage) (out : List ℕ) (pair : Pair) → is_clean pair.found ≡ true → CleanPair (pair_at stage out pair)
+at_clean : (stage : Stage) (out : List ℕ) (pair : Entry) → is_clean pair.found ≡ true → CleanPair (pair_at stage out pair)
 at_clean Key out pair h = h
 at_clean ReadValue out pair h = tt
 at_clean OtherValue out pair h = tt
 
-ended_clean : (out : List ℕ) (o : Option Pair) → CleanPair o → CleanPair (pair_ended out o)
+ended_clean : (out : List ℕ) (o : Option Entry) → CleanPair o → CleanPair (pair_ended out o)
 ended_clean out (Some pair) h = at_clean pair.stage out pair h
 ended_clean out None h = tt
 
-left_clean : (b : Bool) (x y : Option Pair) → CleanPair x → CleanPair y → CleanPair (cond b x y)
+left_clean : (b : Bool) (x y : Option Entry) → CleanPair x → CleanPair y → CleanPair (cond b x y)
 left_clean true x y h k = h
 left_clean false x y h k = k
 
-behind_clean : (b : Bool) (operation : Operation) → CleanPair operation.pair → CleanOperation (cond b None (Some operation))
+behind_clean : (b : Bool) (operation : OpenMap) → CleanPair operation.pair → CleanOperation (cond b None (Some operation))
 behind_clean true operation h = tt
 behind_clean false operation h = h
 
-operation_clean : (out : List ℕ) (operation : Operation) (step : Step) → CleanPair operation.pair → is_clean (found_in step.part) ≡ true → CleanOperation (operation_behind out operation step)
+operation_clean : (out : List ℕ) (operation : OpenMap) (step : Followed) → CleanPair operation.pair → is_clean (found_in step.part) ≡ true → CleanOperation (operation_behind out operation step)
 operation_clean out operation step h k =
     let with = on_clean operation.pair operation step h k in
     behind_clean _ (record { start = operation.start; depth = operation.depth; pair = pair_left out operation step })
@@ -105,7 +105,7 @@ unread_if_clean OtherValue Nothing place h = refl
 unread_if_clean OtherValue Refused place h = absurd cc
 unread_if_clean OtherValue Faulty place h = refl
 
-unread_pair_clean : (o : Option Pair) → CleanPair o → unread_pair o ≡ None
+unread_pair_clean : (o : Option Entry) → CleanPair o → unread_pair o ≡ None
 unread_pair_clean (Some pair) h = unread_if_clean pair.stage pair.found pair.start h
 unread_pair_clean None h = refl
 
@@ -113,11 +113,11 @@ none_either_way : (b : Bool) (o : Option ℕ) → o ≡ None → cond b o None �
 none_either_way true o h = h
 none_either_way false o h = refl
 
-unread_clean : (operation : Operation) (step : Step) → CleanPair operation.pair → is_clean (found_in step.part) ≡ true → unread_by operation step ≡ None
+unread_clean : (operation : OpenMap) (step : Followed) → CleanPair operation.pair → is_clean (found_in step.part) ≡ true → unread_by operation step ≡ None
 unread_clean operation step h k =
     none_either_way (ends_part operation step) (unread_pair (pair_after operation step)) (unread_pair_clean (pair_after operation step) (on_clean operation.pair operation step h k))
 
-if_clean : (part : Part) (is_top : Bool) (step : Step) → CleanOperation (operation_if part is_top step)
+if_clean : (part : Part) (is_top : Bool) (step : Followed) → CleanOperation (operation_if part is_top step)
 if_clean Gap is_top step = tt
 if_clean (Prefix found) is_top step = tt
 if_clean (Opens opened.Round) is_top step = tt
@@ -130,7 +130,7 @@ if_clean (Closes bracket) is_top step = tt
 if_clean (Whole found) is_top step = tt
 if_clean Broken is_top step = tt
 
-step_clean : (o : Option Operation) (out : List ℕ) (step : Step) → CleanOperation o → is_clean (found_in step.part) ≡ true
+step_clean : (o : Option OpenMap) (out : List ℕ) (step : Followed) → CleanOperation o → is_clean (found_in step.part) ≡ true
     → CleanOperation (operation_and_text o out step).0 × ((operation_and_text o out step).1 ≡ out)
 step_clean None out step h k = (if_clean step.part step.is_top step, refl)
 step_clean (Some operation) out step h k =
@@ -145,7 +145,7 @@ out_rest : (out s : List ℕ) → out ++ drop (length out) (out ++ s) ≡ out ++
 out_rest [] s = refl
 out_rest (c ∷ out) s = ap (λ (t : List ℕ). c ∷ t) (out_rest out s)
 
-finished_same : (o : Option Operation) (out s : List ℕ) → finished (out ++ s) o out ≡ out ++ s
+finished_same : (o : Option OpenMap) (out s : List ℕ) → finished (out ++ s) o out ≡ out ++ s
 finished_same (Some operation) out s = take_rest operation.start out s
 finished_same None out s = out_rest out s
 

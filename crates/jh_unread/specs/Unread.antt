@@ -10,8 +10,8 @@ use Rattle.jh_lexemes.specs.declared.lexeme.Lexeme.TheVariants.{Token}
 use Rattle.jh_lexemes.specs.Lexemes.{Lexed, lexemes_in}
 use Rattle.jh_unread.specs.declared.parts.Opened.{Opened}
 use Rattle.jh_unread.specs.declared.parts.Part.{Part}
-use Rattle.jh_unread.specs.declared.pairs.Operation.{Operation}
-use Rattle.jh_unread.specs.declared.pairs.Step.{Step}
+use Rattle.jh_unread.specs.declared.pairs.OpenMap.{OpenMap}
+use Rattle.jh_unread.specs.declared.pairs.Followed.{Followed}
 use Rattle.jh_unread.specs.Blanks.{blank_behind}
 use Rattle.jh_unread.specs.Nesting.{follow, is_top}
 use Rattle.jh_unread.specs.Pairs.{operation_behind, operation_from, unread_by}
@@ -21,7 +21,7 @@ use Rattle.jh_unread.specs.Parts.{part_of, is_refused}
 -- the text up to there, with blanks
 pub record Walk : Type 0 where
   pub nest : List Opened
-  pub operation : Option Operation
+  pub operation : Option OpenMap
   pub out : List ℕ
 
 -- before the first lexeme
@@ -34,13 +34,13 @@ blanked (Some place) out = blank_behind place out
 blanked None out = out
 
 -- the operation behind a lexeme, and the text up to there, with the lexeme at its end
-abbrev pub operation_and_text : Option Operation → List ℕ → Step → Option Operation × List ℕ
+abbrev pub operation_and_text : Option OpenMap → List ℕ → Followed → Option OpenMap × List ℕ
 operation_and_text None out step = (operation_from step, out)
 operation_and_text (Some operation) out step =
     (operation_behind out operation step, blanked (unread_by operation step) out)
 
 -- what a lexeme does, by its part, and by what is open behind it
-abbrev pub step_to : Walk → Part → List Opened × Bool → Step
+abbrev pub step_to : Walk → Part → List Opened × Bool → Followed
 step_to walk part after =
     record {
       part = part;
@@ -52,7 +52,7 @@ step_to walk part after =
     }
 
 -- a walk with what is open, an operation and a text
-abbrev pub walk_with : List Opened → Option Operation × List ℕ → Walk
+abbrev pub walk_with : List Opened → Option OpenMap × List ℕ → Walk
 walk_with nest both = record { nest = nest; operation = both.0; out = both.1 }
 
 -- the walk behind a lexeme, by its part and its bytes; none where no elements can be told apart
@@ -64,12 +64,12 @@ walk_behind walk part spelled =
     (follow walk.nest part)
 
 -- the text so far, up to the operation whose map is open
-abbrev pub kept : Option Operation → List ℕ → List ℕ
+abbrev pub kept : Option OpenMap → List ℕ → List ℕ
 kept (Some operation) out = take operation.start out
 kept None out = out
 
 -- that, and the rest of the text as it is
-abbrev pub finished : List ℕ → Option Operation → List ℕ → List ℕ
+abbrev pub finished : List ℕ → Option OpenMap → List ℕ → List ℕ
 finished text operation out = kept operation out ++ drop (length (kept operation out)) text
 
 -- on with the walk behind a lexeme, or else the end of the one before it

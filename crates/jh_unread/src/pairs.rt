@@ -19,7 +19,7 @@ pub(crate) enum Stage {
 
 /// A pair that has begun, at a place in bytes.
 #[derive(Clone, Copy, Debug, PartialEq, Eq)]
-pub(crate) struct Pair {
+pub(crate) struct Entry {
     pub(crate) start: usize,
     pub(crate) stage: Stage,
     pub(crate) found: Found,
@@ -28,16 +28,16 @@ pub(crate) struct Pair {
 /// An operation that has begun, at a place in bytes; how much is open directly inside its map, and the
 /// pair there that has begun.
 #[derive(Clone, Copy, Debug, PartialEq, Eq)]
-pub(crate) struct Operation {
+pub(crate) struct OpenMap {
     pub(crate) start: usize,
     pub(crate) depth: usize,
-    pub(crate) pair: Option<Pair>,
+    pub(crate) pair: Option<Entry>,
 }
 
 /// What one lexeme does: its part and its place, how much was open before it and is open behind it,
 /// whether an element that is not discarded ends with it, and whether an operation may begin there.
 #[derive(Clone, Copy, Debug, PartialEq, Eq)]
-pub(crate) struct Step {
+pub(crate) struct Followed {
     pub(crate) part: Part,
     pub(crate) at: usize,
     pub(crate) before: usize,
@@ -79,15 +79,15 @@ fn begins_element(part: Part) -> bool
 }
 
 /// The pair that goes on, or begins, with a lexeme.
-fn pair_with(operation: Operation, step: Step) -> Option<Pair>
+fn pair_after(operation: OpenMap, step: Followed) -> Option<Entry>
     ensures { result ≡ pairs.pair_after operation step }
 {
     match operation.pair {
-        Some(pair) => Some(Pair {
+        Some(pair) => Some(Entry {
             found: worse(pair.found, found_in(step.part)),
             ..pair
         }),
-        None if step.before == operation.depth && begins_element(step.part) => Some(Pair {
+        None if step.before == operation.depth && begins_element(step.part) => Some(Entry {
             start: step.at,
             stage: Stage::Key,
             found: found_in(step.part),
@@ -97,7 +97,7 @@ fn pair_with(operation: Operation, step: Step) -> Option<Pair>
 }
 
 /// Whether a key or a value of the operation ends with a lexeme.
-fn ends_part(operation: Operation, step: Step) -> bool
+fn ends_part(operation: OpenMap, step: Followed) -> bool
     ensures { result ≡ pairs.ends_part operation step }
 {
     step.is_element && step.after == operation.depth
@@ -127,11 +127,11 @@ fn stage_behind(out: &[u8], start: usize) -> Stage
 }
 
 /// The pair behind its key, or none behind its value.
-fn pair_behind(out: &[u8], pair: Pair) -> Option<Pair>
+fn pair_behind(out: &[u8], pair: Entry) -> Option<Entry>
     ensures { result ≡ pairs.pair_behind out.now pair }
 {
     match pair.stage {
-        Stage::Key => Some(Pair {
+        Stage::Key => Some(Entry {
             stage: stage_behind(out, pair.start),
             ..pair
         }),
@@ -140,27 +140,27 @@ fn pair_behind(out: &[u8], pair: Pair) -> Option<Pair>
 }
 
 /// The operation behind a lexeme with which the text so far ends; none where its map is closed.
-pub(crate) fn operation_behind(out: &[u8], operation: Operation, step: Step) -> Option<Operation>
+pub(crate) fn operation_behind(out: &[u8], operation: OpenMap, step: Followed) -> Option<OpenMap>
     ensures { result ≡ pairs.operation_behind out.now operation step }
 {
     if step.after < operation.depth {
         return None;
     }
-    let mut pair = pair_with(operation, step);
+    let mut pair = pair_after(operation, step);
     if ends_part(operation, step) {
         pair = match pair {
             Some(ended) => pair_behind(out, ended),
             None => None,
         };
     }
-    Some(Operation { pair, ..operation })
+    Some(OpenMap { pair, ..operation })
 }
 
 /// Where the unread pair begins that ends with a lexeme.
-pub(crate) fn unread_by(operation: Operation, step: Step) -> Option<usize>
+pub(crate) fn unread_by(operation: OpenMap, step: Followed) -> Option<usize>
     ensures { result ≡ pairs.unread_by operation step }
 {
-    let pair = pair_with(operation, step)?;
+    let pair = pair_after(operation, step)?;
     let is_unread = pair.stage == Stage::OtherValue && pair.found == Found::Refused;
     if ends_part(operation, step) && is_unread {
         Some(pair.start)
@@ -170,13 +170,13 @@ pub(crate) fn unread_by(operation: Operation, step: Step) -> Option<usize>
 }
 
 /// The operation that begins with a lexeme.
-pub(crate) fn operation_from(step: Step) -> Option<Operation>
+pub(crate) fn operation_from(step: Followed) -> Option<OpenMap>
     ensures { result ≡ pairs.operation_from step }
 {
     if step.part != Part::Opens(Opened::Curly) || !step.is_top {
         return None;
     }
-    Some(Operation {
+    Some(OpenMap {
         start: step.at,
         depth: step.after,
         pair: None,

@@ -10,7 +10,7 @@ ghost use Rattle.jh_unread.specs.Walking.{walk_of};
 
 use crate::blanking::blank_behind;
 use crate::nesting::{follow, is_top};
-use crate::pairs::{Operation, Step, operation_behind, operation_from, unread_by};
+use crate::pairs::{Followed, OpenMap, operation_behind, operation_from, unread_by};
 use crate::parts::{Opened, Part, part_of};
 use jh_lexemes::lexeme_at;
 use std::alloc::{AllocError, Global};
@@ -20,12 +20,12 @@ use std::alloc::{AllocError, Global};
 #[derive(Drop)]
 pub(crate) struct Walk {
     nest: Vec<Opened>,
-    operation: Option<Operation>,
+    operation: Option<OpenMap>,
     out: Vec<u8>,
 }
 
 /// Takes a step, where the text so far ends with its lexeme. Answers the operation behind it.
-fn take_step(operation: Option<Operation>, out: &mut Vec<u8>, step: Step) -> Option<Operation>
+fn take_step(operation: Option<OpenMap>, out: &mut Vec<u8>, step: Followed) -> Option<OpenMap>
     ensures both { (result, out.new.items) ≡ operation_and_text operation out.old.items step }
     ensures length { length out.new.items ≡ length out.old.items }
 {
@@ -56,7 +56,7 @@ impl Walk {
             return Ok(false);
         };
         self.out.extend_from_slice(spelled)?;
-        let step = Step {
+        let step = Followed {
             part,
             at,
             before,
