@@ -14,7 +14,7 @@ use Rattle.jh_ops.specs.declared.history.HistoryError.TheVariants as history_err
 use Rattle.jh_histories.specs.HistoryAndBelow.{RefusesHistoryAndBelow}
 use Rattle.jh_cli.specs.HistoryInput.{IsHistoryInput, RefusesHistoryInput}
 use Rattle.jh_cli.specs.CheckRefusals.{RefusesBy, RefusesCheck, RefusesJudging}
-use Rattle.jh_cli.specs.JudgingOptions.{IsOptionError, RefusesJudgingOptions, first_misplaced, first_wanting}
+use Rattle.jh_cli.specs.JudgingOptions.{IsOptionError, RefusesJudgingOptions, first_misplaced, first_missing_option}
 use Rattle.jh_cli.specs.declared.judging_option.JudgingOption.{JudgingOption}
 use Rattle.jh_cli.specs.Status.{check_error, keys_error, reading_error}
 use Rattle.jh_cli.specs.declared.check_command.CheckQuestion.{CheckQuestion}
@@ -140,7 +140,7 @@ one_refusal (Some judging) d e x y = go d e x y where
   same : (a b : JudgingOption) → first_misplaced judging ≡ Some a → first_misplaced judging ≡ Some b → a ≡ b
   same a b x y = let both : Some a ≡ Some b = sym x ∙ y in cc
 
-  also : (a b : JudgingOption) → first_wanting judging ≡ Some a → first_wanting judging ≡ Some b → a ≡ b
+  also : (a b : JudgingOption) → first_missing_option judging ≡ Some a → first_missing_option judging ≡ Some b → a ≡ b
   also a b x y = let both : Some a ≡ Some b = sym x ∙ y in cc
 
   go : (d e : CliError) → RefusesJudgingOptions (Some judging) d → RefusesJudgingOptions (Some judging) e → d ≡ e
@@ -225,28 +225,28 @@ not_of_reading (reading.Text edn.TooLong) of = of
 not_of_reading (reading.History history_errors.OutOfMemory) of = of
 not_of_reading (reading.History (history_errors.Op place why)) of = of
 
-pub taken_all : (judging : Judging) → first_misplaced judging ≡ None → first_wanting judging ≡ None → (e : CliError) → RefusesJudgingOptions (Some judging) e → ⊥
-taken_all judging placed wanting (Misplaced option) h = let bad : None ≡ Some option = sym placed ∙ h in cc
-taken_all judging placed wanting (Missing option) h = let bad : None ≡ Some option = sym wanting ∙ h.1 in cc
-taken_all judging placed wanting (Input error) h = h
-taken_all judging placed wanting EnvironmentMissing h = h
-taken_all judging placed wanting (Environment error) h = h
-taken_all judging placed wanting (Element number error) h = h
-taken_all judging placed wanting (History error) h = h
-taken_all judging placed wanting (Check error) h = h
-taken_all judging placed wanting (Settings error) h = h
-taken_all judging placed wanting (Run error) h = h
-taken_all judging placed wanting HistoryFull h = h
-taken_all judging placed wanting Mismatch h = h
-taken_all judging placed wanting Thread h = h
-taken_all judging placed wanting BadAccounts h = h
-taken_all judging placed wanting BadPalette h = h
-taken_all judging placed wanting Unwritable h = h
-taken_all judging placed wanting SettingsRead h = h
-taken_all judging placed wanting (TimeMissing index) h = h
-taken_all judging placed wanting Read h = h
-taken_all judging placed wanting Write h = h
-taken_all judging placed wanting OutOfMemory h = h
+pub taken_all : (judging : Judging) → first_misplaced judging ≡ None → first_missing_option judging ≡ None → (e : CliError) → RefusesJudgingOptions (Some judging) e → ⊥
+taken_all judging placed missing (Misplaced option) h = let bad : None ≡ Some option = sym placed ∙ h in cc
+taken_all judging placed missing (Missing option) h = let bad : None ≡ Some option = sym missing ∙ h.1 in cc
+taken_all judging placed missing (Input error) h = h
+taken_all judging placed missing EnvironmentMissing h = h
+taken_all judging placed missing (Environment error) h = h
+taken_all judging placed missing (Element number error) h = h
+taken_all judging placed missing (History error) h = h
+taken_all judging placed missing (Check error) h = h
+taken_all judging placed missing (Settings error) h = h
+taken_all judging placed missing (Run error) h = h
+taken_all judging placed missing HistoryFull h = h
+taken_all judging placed missing Mismatch h = h
+taken_all judging placed missing Thread h = h
+taken_all judging placed missing BadAccounts h = h
+taken_all judging placed missing BadPalette h = h
+taken_all judging placed missing Unwritable h = h
+taken_all judging placed missing SettingsRead h = h
+taken_all judging placed missing (TimeMissing index) h = h
+taken_all judging placed missing Read h = h
+taken_all judging placed missing Write h = h
+taken_all judging placed missing OutOfMemory h = h
 
 -- ---- the result of a command says whether its options are refused
 

@@ -1,6 +1,8 @@
 -- Which options of a judgement go with which checker, and which a checker needs (this project's own).
 use Rattle.std.specs.Prelude.{◌≡◌, ◌&&◌, Bool, true, false, not, List, [], ◌∷◌, find, codes, ℕ}
 use Rattle.std.specs.Prelude.{Option, Some, None, is_some}
+use Rattle.std.specs.Str.{bytes_eq}
+use Rattle.jh_checkers.specs.Checkers.{checker_name}
 use Rattle.jh_checkers.specs.declared.checker.Checker.{Checker}
 use Rattle.jh_checkers.specs.declared.finding.Judging.{Judging}
 use Rattle.jh_cli.specs.declared.error.CliError.{CliError}
@@ -36,14 +38,7 @@ option_checker Locked = Checker.Mutex
 
 -- this checker takes the option
 abbrev pub is_taken : JudgingOption → Checker → Bool
-is_taken Initial Checker.Register = true
-is_taken Model Checker.ListAppend = true
-is_taken Accounts Checker.Bank = true
-is_taken Total Checker.Bank = true
-is_taken NegativeBalances Checker.Bank = true
-is_taken Linearizable Checker.SetFull = true
-is_taken Locked Checker.Mutex = true
-is_taken _ _ = false
+is_taken option checker = bytes_eq (checker_name (option_checker option)) (checker_name checker)
 
 -- a bank needs its accounts and their total
 abbrev pub is_needed : JudgingOption → Checker → Bool
@@ -65,22 +60,22 @@ is_given Locked judging = judging.locked
 abbrev pub is_misplaced : Judging → JudgingOption → Bool
 is_misplaced judging option = is_given option judging && not (is_taken option judging.checker)
 
-abbrev pub is_wanting : Judging → JudgingOption → Bool
-is_wanting judging option = is_needed option judging.checker && not (is_given option judging)
+abbrev pub is_missing_option : Judging → JudgingOption → Bool
+is_missing_option judging option = is_needed option judging.checker && not (is_given option judging)
 
 -- the first of them, in the order of all
 abbrev pub first_misplaced : Judging → Option JudgingOption
 first_misplaced judging = find (is_misplaced judging) judging_options
 
-abbrev pub first_wanting : Judging → Option JudgingOption
-first_wanting judging = find (is_wanting judging) judging_options
+abbrev pub first_missing_option : Judging → Option JudgingOption
+first_missing_option judging = find (is_missing_option judging) judging_options
 
 -- Why such options are refused, where a history is judged: for the first that is misplaced, else for the
 -- first that is missing.
 abbrev pub RefusesJudgingOptions : Option Judging → CliError → Type 0
 RefusesJudgingOptions (Some judging) (Misplaced option) = first_misplaced judging ≡ Some option
 RefusesJudgingOptions (Some judging) (Missing option) =
-    (first_misplaced judging ≡ None) × (first_wanting judging ≡ Some option)
+    (first_misplaced judging ≡ None) × (first_missing_option judging ≡ Some option)
 RefusesJudgingOptions judging e = ⊥
 
 -- it is one of these refusals

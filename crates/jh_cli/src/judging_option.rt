@@ -70,20 +70,26 @@ impl JudgingOption {
         }
     }
 
+    /// The one checker that takes it.
+    fn checker(self) -> Checker
+        ensures { result ≡ rule.option_checker self }
+    {
+        match self {
+            JudgingOption::Initial => Checker::Register,
+            JudgingOption::Model => Checker::ListAppend,
+            JudgingOption::Accounts | JudgingOption::Total | JudgingOption::NegativeBalances => {
+                Checker::Bank
+            }
+            JudgingOption::Linearizable => Checker::SetFull,
+            JudgingOption::Locked => Checker::Mutex,
+        }
+    }
+
     /// Whether this checker takes it.
     fn is_taken(self, checker: Checker) -> bool
         ensures { result ≡ rule.is_taken self checker }
     {
-        matches!(
-            (self, checker),
-            (JudgingOption::Initial, Checker::Register)
-                | (JudgingOption::Model, Checker::ListAppend)
-                | (JudgingOption::Accounts, Checker::Bank)
-                | (JudgingOption::Total, Checker::Bank)
-                | (JudgingOption::NegativeBalances, Checker::Bank)
-                | (JudgingOption::Linearizable, Checker::SetFull)
-                | (JudgingOption::Locked, Checker::Mutex)
-        )
+        self.checker() == checker
     }
 
     /// Whether this checker needs it.
@@ -119,8 +125,8 @@ impl JudgingOption {
     }
 
     /// Whether it is not given, and the checker needs it.
-    fn is_wanting(self, judging: Judging<'_>) -> bool
-        ensures { result ≡ rule.is_wanting judging.entry self }
+    fn is_missing(self, judging: Judging<'_>) -> bool
+        ensures { result ≡ rule.is_missing_option judging.entry self }
     {
         self.is_needed(judging.checker) && !self.is_given(judging)
     }
@@ -134,10 +140,10 @@ fn misplaced_of<'a>(options: &'a [JudgingOption], judging: Judging<'_>) -> Optio
 }
 
 /// The first of some options that the checker needs and that is not given.
-fn wanting_of<'a>(options: &'a [JudgingOption], judging: Judging<'_>) -> Option<&'a JudgingOption>
-    ensures { option_copied result ≡ find (rule.is_wanting judging.entry) options.now }
+fn missing_of<'a>(options: &'a [JudgingOption], judging: Judging<'_>) -> Option<&'a JudgingOption>
+    ensures { option_copied result ≡ find (rule.is_missing_option judging.entry) options.now }
 {
-    options.iter().find(|option| option.is_wanting(judging))
+    options.iter().find(|option| option.is_missing(judging))
 }
 
 /// The first of all options that is given with a checker that does not take it.
@@ -148,22 +154,22 @@ fn first_misplaced(judging: Judging<'_>) -> Option<JudgingOption>
 }
 
 /// The first of all options that the checker needs and that is not given.
-fn first_wanting(judging: Judging<'_>) -> Option<JudgingOption>
-    ensures { result ≡ rule.first_wanting judging.entry }
+fn first_missing_option(judging: Judging<'_>) -> Option<JudgingOption>
+    ensures { result ≡ rule.first_missing_option judging.entry }
 {
-    wanting_of(&ALL, judging).copied()
+    missing_of(&ALL, judging).copied()
 }
 
 /// Refuses options that do not go with the checker.
 fn refuse_given(judging: Judging<'_>) -> Result<(), CliError>
     ensures { MatchResult result
-        (λ _. (rule.first_misplaced judging.entry ≡ None) × (rule.first_wanting judging.entry ≡ None))
+        (λ _. (rule.first_misplaced judging.entry ≡ None) × (rule.first_missing_option judging.entry ≡ None))
         (RefusesJudgingOptions (Some judging.entry)) }
 {
     if let Some(option) = first_misplaced(judging) {
         return Err(CliError::Misplaced(option));
     }
-    if let Some(option) = first_wanting(judging) {
+    if let Some(option) = first_missing_option(judging) {
         return Err(CliError::Missing(option));
     }
     Ok(())
