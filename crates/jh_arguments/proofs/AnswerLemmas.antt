@@ -15,8 +15,8 @@ use Rattle.jh_edn.specs.Edn.{Edn}
 use Rattle.jh_edn.specs.View.{views}
 use Rattle.jh_edn.specs.declared.value.Value.{Value}
 use Rattle.jh_arguments.specs.Accounts.{Accounts, RefusesAccountsText}
-use Rattle.jh_arguments.specs.Answers.{ArgumentsAskForTest, ArgumentsGive, GivesAccounts, GivesSteps, HasNoAccounts, HasNoSteps, accounts_seen, IsUnscheduled, IsConductedTo, IsCommandDone, IsFailed, IsFileUnread, IsUnfinished, of_command, of_test}
-use Rattle.jh_arguments.specs.Commands.{SubcommandHasAccounts, SubcommandHasSchedule, SubcommandIsDrive, SubcommandIs, IsOfOptions, IsOutputOf, RefusesCommand, RefusesOptions}
+use Rattle.jh_arguments.specs.Answers.{ArgumentsAskForTest, ArgumentsGive, GivesAccounts, GivesSteps, HasNoAccounts, HasNoSteps, accounts_seen, IsRunSettingsError, IsConductedTo, IsCommandDone, IsFailed, IsFileUnread, IsUnfinished, of_command, of_test}
+use Rattle.jh_arguments.specs.Commands.{SubcommandHasAccounts, SubcommandHasRunSettings, SubcommandIsDrive, SubcommandIs, IsOfOptions, IsOutputOf, RefusesCommand, RefusesOptions}
 use Rattle.jh_arguments.proofs.OptionRefusals.{is_of_options}
 use Rattle.jh_arguments.specs.Line.{AreMatches, IsRefused}
 use Rattle.jh_arguments.specs.declared.answers.Refusal.{Refusal}
@@ -55,7 +55,7 @@ without_accounts arguments matches e (app, line, fault, rows, found) (text, has,
 
 -- no steps can be had
 pub without_steps : (arguments : List Text) (matches : ArgMatches) (given : Option (List Edn)) (e : CliError) → AreMatches arguments matches → GivesAccounts (subcommand_rows_of matches) given
-    → (path : Text) × SubcommandHasSchedule (subcommand_rows_of matches) path → IsUnscheduled e → HasNoSteps arguments e
+    → (path : Text) × SubcommandHasRunSettings (subcommand_rows_of matches) path → IsRunSettingsError e → HasNoSteps arguments e
 without_steps arguments matches given e (app, line, fault, rows, found) accounts (path, has) why = record {
   app = app;
   line = line;
@@ -63,7 +63,7 @@ without_steps arguments matches given e (app, line, fault, rows, found) accounts
   given = given;
   accounts = subst (λ o. GivesAccounts o given) found accounts;
   path = path;
-  asked = subst (λ o. SubcommandHasSchedule o path) found has;
+  asked = subst (λ o. SubcommandHasRunSettings o path) found has;
   why = why;
 }
 
@@ -115,9 +115,9 @@ pub record Ends {R W : Type 0} (arguments : List Text) (input rest before after 
   pub unaccounted : (error : CliError) → IsErrOf r (Refusals.Accounts error) → HasNoAccounts arguments error
   pub unaccounted_reader_kept : (error : CliError) → IsErrOf r (Refusals.Accounts error) → reader_new ≡ reader_old
   pub unaccounted_unwritten : (error : CliError) → IsErrOf r (Refusals.Accounts error) → writer_new ≡ writer_old
-  pub unscheduled : (error : CliError) → IsErrOf r (Refusals.Schedule error) → HasNoSteps arguments error
-  pub unscheduled_reader_kept : (error : CliError) → IsErrOf r (Refusals.Schedule error) → reader_new ≡ reader_old
-  pub unscheduled_unwritten : (error : CliError) → IsErrOf r (Refusals.Schedule error) → writer_new ≡ writer_old
+  pub no_steps : (error : CliError) → IsErrOf r (Refusals.RunSettings error) → HasNoSteps arguments error
+  pub no_steps_reader_kept : (error : CliError) → IsErrOf r (Refusals.RunSettings error) → reader_new ≡ reader_old
+  pub no_steps_unwritten : (error : CliError) → IsErrOf r (Refusals.RunSettings error) → writer_new ≡ writer_old
   pub unfinished : (error : DriveError) → IsErrOf r (Refusals.Test error)
       → IsUnfinished arguments input rest before after reader_old reader_new writer_old writer_new error
 
@@ -131,8 +131,8 @@ the_command x y e = cc
 the_accounts : (x y : CliError) → ◌≡◌ {A = Result ℕ Refusal} (Err (Refusals.Accounts x)) (Err (Refusals.Accounts y)) → x ≡ y
 the_accounts x y e = cc
 
-the_schedule : (x y : CliError) → ◌≡◌ {A = Result ℕ Refusal} (Err (Refusals.Schedule x)) (Err (Refusals.Schedule y)) → x ≡ y
-the_schedule x y e = cc
+the_run_settings : (x y : CliError) → ◌≡◌ {A = Result ℕ Refusal} (Err (Refusals.RunSettings x)) (Err (Refusals.RunSettings y)) → x ≡ y
+the_run_settings x y e = cc
 
 the_test : (x y : DriveError) → ◌≡◌ {A = Result ℕ Refusal} (Err (Refusals.Test x)) (Err (Refusals.Test y)) → x ≡ y
 the_test x y e = cc
@@ -149,9 +149,9 @@ module _ {R W : Type 0} (arguments : List Text) (input rest before after : Optio
     unaccounted = λ other is. absurd (let bad : Err (Refusals.Arguments error) ≡ Err (Refusals.Accounts other) = is in cc);
     unaccounted_reader_kept = λ other is. absurd (let bad : Err (Refusals.Arguments error) ≡ Err (Refusals.Accounts other) = is in cc);
     unaccounted_unwritten = λ other is. absurd (let bad : Err (Refusals.Arguments error) ≡ Err (Refusals.Accounts other) = is in cc);
-    unscheduled = λ other is. absurd (let bad : Err (Refusals.Arguments error) ≡ Err (Refusals.Schedule other) = is in cc);
-    unscheduled_reader_kept = λ other is. absurd (let bad : Err (Refusals.Arguments error) ≡ Err (Refusals.Schedule other) = is in cc);
-    unscheduled_unwritten = λ other is. absurd (let bad : Err (Refusals.Arguments error) ≡ Err (Refusals.Schedule other) = is in cc);
+    no_steps = λ other is. absurd (let bad : Err (Refusals.Arguments error) ≡ Err (Refusals.RunSettings other) = is in cc);
+    no_steps_reader_kept = λ other is. absurd (let bad : Err (Refusals.Arguments error) ≡ Err (Refusals.RunSettings other) = is in cc);
+    no_steps_unwritten = λ other is. absurd (let bad : Err (Refusals.Arguments error) ≡ Err (Refusals.RunSettings other) = is in cc);
     unfinished = λ other is. absurd (let bad : Err (Refusals.Arguments error) ≡ Err (Refusals.Test other) = is in cc);
   }
 
@@ -167,28 +167,28 @@ module _ {R W : Type 0} (arguments : List Text) (input rest before after : Optio
     unaccounted = λ other is. subst (HasNoAccounts arguments) (the_accounts error other is) none;
     unaccounted_reader_kept = λ other is. reader_kept;
     unaccounted_unwritten = λ other is. unwritten;
-    unscheduled = λ other is. absurd (let bad : Err (Refusals.Accounts error) ≡ Err (Refusals.Schedule other) = is in cc);
-    unscheduled_reader_kept = λ other is. absurd (let bad : Err (Refusals.Accounts error) ≡ Err (Refusals.Schedule other) = is in cc);
-    unscheduled_unwritten = λ other is. absurd (let bad : Err (Refusals.Accounts error) ≡ Err (Refusals.Schedule other) = is in cc);
+    no_steps = λ other is. absurd (let bad : Err (Refusals.Accounts error) ≡ Err (Refusals.RunSettings other) = is in cc);
+    no_steps_reader_kept = λ other is. absurd (let bad : Err (Refusals.Accounts error) ≡ Err (Refusals.RunSettings other) = is in cc);
+    no_steps_unwritten = λ other is. absurd (let bad : Err (Refusals.Accounts error) ≡ Err (Refusals.RunSettings other) = is in cc);
     unfinished = λ other is. absurd (let bad : Err (Refusals.Accounts error) ≡ Err (Refusals.Test other) = is in cc);
   }
 
   -- the steps of a page can't be had
-  pub unscheduled_ends : (error : CliError) → HasNoSteps arguments error → rn ≡ ro → wn ≡ wo → Ends arguments input rest before after ro rn wo wn (Err (Refusals.Schedule error))
-  unscheduled_ends error none reader_kept unwritten = record {
+  pub no_steps_ends : (error : CliError) → HasNoSteps arguments error → rn ≡ ro → wn ≡ wo → Ends arguments input rest before after ro rn wo wn (Err (Refusals.RunSettings error))
+  no_steps_ends error none reader_kept unwritten = record {
     done = tt;
-    refused = λ other is. absurd (let bad : Err (Refusals.Schedule error) ≡ Err (Refusals.Arguments other) = is in cc);
-    reader_kept = λ other is. absurd (let bad : Err (Refusals.Schedule error) ≡ Err (Refusals.Arguments other) = is in cc);
-    unwritten = λ other is. absurd (let bad : Err (Refusals.Schedule error) ≡ Err (Refusals.Arguments other) = is in cc);
-    failed = λ other is. absurd (let bad : Err (Refusals.Schedule error) ≡ Err (Refusals.Command other) = is in cc);
-    failed_unwritten = λ other is. absurd (let bad : Err (Refusals.Schedule error) ≡ Err (Refusals.Command other) = is in cc);
-    unaccounted = λ other is. absurd (let bad : Err (Refusals.Schedule error) ≡ Err (Refusals.Accounts other) = is in cc);
-    unaccounted_reader_kept = λ other is. absurd (let bad : Err (Refusals.Schedule error) ≡ Err (Refusals.Accounts other) = is in cc);
-    unaccounted_unwritten = λ other is. absurd (let bad : Err (Refusals.Schedule error) ≡ Err (Refusals.Accounts other) = is in cc);
-    unscheduled = λ other is. subst (HasNoSteps arguments) (the_schedule error other is) none;
-    unscheduled_reader_kept = λ other is. reader_kept;
-    unscheduled_unwritten = λ other is. unwritten;
-    unfinished = λ other is. absurd (let bad : Err (Refusals.Schedule error) ≡ Err (Refusals.Test other) = is in cc);
+    refused = λ other is. absurd (let bad : Err (Refusals.RunSettings error) ≡ Err (Refusals.Arguments other) = is in cc);
+    reader_kept = λ other is. absurd (let bad : Err (Refusals.RunSettings error) ≡ Err (Refusals.Arguments other) = is in cc);
+    unwritten = λ other is. absurd (let bad : Err (Refusals.RunSettings error) ≡ Err (Refusals.Arguments other) = is in cc);
+    failed = λ other is. absurd (let bad : Err (Refusals.RunSettings error) ≡ Err (Refusals.Command other) = is in cc);
+    failed_unwritten = λ other is. absurd (let bad : Err (Refusals.RunSettings error) ≡ Err (Refusals.Command other) = is in cc);
+    unaccounted = λ other is. absurd (let bad : Err (Refusals.RunSettings error) ≡ Err (Refusals.Accounts other) = is in cc);
+    unaccounted_reader_kept = λ other is. absurd (let bad : Err (Refusals.RunSettings error) ≡ Err (Refusals.Accounts other) = is in cc);
+    unaccounted_unwritten = λ other is. absurd (let bad : Err (Refusals.RunSettings error) ≡ Err (Refusals.Accounts other) = is in cc);
+    no_steps = λ other is. subst (HasNoSteps arguments) (the_run_settings error other is) none;
+    no_steps_reader_kept = λ other is. reader_kept;
+    no_steps_unwritten = λ other is. unwritten;
+    unfinished = λ other is. absurd (let bad : Err (Refusals.RunSettings error) ≡ Err (Refusals.Test other) = is in cc);
   }
 
   -- what a command that is asked for comes to
@@ -206,9 +206,9 @@ module _ {R W : Type 0} (arguments : List Text) (input rest before after : Optio
     unaccounted = λ other is. absurd (let bad : Ok status ≡ Err (Refusals.Accounts other) = is in cc);
     unaccounted_reader_kept = λ other is. absurd (let bad : Ok status ≡ Err (Refusals.Accounts other) = is in cc);
     unaccounted_unwritten = λ other is. absurd (let bad : Ok status ≡ Err (Refusals.Accounts other) = is in cc);
-    unscheduled = λ other is. absurd (let bad : Ok status ≡ Err (Refusals.Schedule other) = is in cc);
-    unscheduled_reader_kept = λ other is. absurd (let bad : Ok status ≡ Err (Refusals.Schedule other) = is in cc);
-    unscheduled_unwritten = λ other is. absurd (let bad : Ok status ≡ Err (Refusals.Schedule other) = is in cc);
+    no_steps = λ other is. absurd (let bad : Ok status ≡ Err (Refusals.RunSettings other) = is in cc);
+    no_steps_reader_kept = λ other is. absurd (let bad : Ok status ≡ Err (Refusals.RunSettings other) = is in cc);
+    no_steps_unwritten = λ other is. absurd (let bad : Ok status ≡ Err (Refusals.RunSettings other) = is in cc);
     unfinished = λ other is. absurd (let bad : Ok status ≡ Err (Refusals.Test other) = is in cc);
   }
   command_ends command steps (Err error) asked says written refused unwritten = record {
@@ -221,9 +221,9 @@ module _ {R W : Type 0} (arguments : List Text) (input rest before after : Optio
     unaccounted = λ other is. absurd (let bad : Err (Refusals.Command error) ≡ Err (Refusals.Accounts other) = is in cc);
     unaccounted_reader_kept = λ other is. absurd (let bad : Err (Refusals.Command error) ≡ Err (Refusals.Accounts other) = is in cc);
     unaccounted_unwritten = λ other is. absurd (let bad : Err (Refusals.Command error) ≡ Err (Refusals.Accounts other) = is in cc);
-    unscheduled = λ other is. absurd (let bad : Err (Refusals.Command error) ≡ Err (Refusals.Schedule other) = is in cc);
-    unscheduled_reader_kept = λ other is. absurd (let bad : Err (Refusals.Command error) ≡ Err (Refusals.Schedule other) = is in cc);
-    unscheduled_unwritten = λ other is. absurd (let bad : Err (Refusals.Command error) ≡ Err (Refusals.Schedule other) = is in cc);
+    no_steps = λ other is. absurd (let bad : Err (Refusals.Command error) ≡ Err (Refusals.RunSettings other) = is in cc);
+    no_steps_reader_kept = λ other is. absurd (let bad : Err (Refusals.Command error) ≡ Err (Refusals.RunSettings other) = is in cc);
+    no_steps_unwritten = λ other is. absurd (let bad : Err (Refusals.Command error) ≡ Err (Refusals.RunSettings other) = is in cc);
     unfinished = λ other is. absurd (let bad : Err (Refusals.Command error) ≡ Err (Refusals.Test other) = is in cc);
   }
 
@@ -242,9 +242,9 @@ module _ {R W : Type 0} (arguments : List Text) (input rest before after : Optio
     unaccounted = λ other is. absurd (let bad : Ok status ≡ Err (Refusals.Accounts other) = is in cc);
     unaccounted_reader_kept = λ other is. absurd (let bad : Ok status ≡ Err (Refusals.Accounts other) = is in cc);
     unaccounted_unwritten = λ other is. absurd (let bad : Ok status ≡ Err (Refusals.Accounts other) = is in cc);
-    unscheduled = λ other is. absurd (let bad : Ok status ≡ Err (Refusals.Schedule other) = is in cc);
-    unscheduled_reader_kept = λ other is. absurd (let bad : Ok status ≡ Err (Refusals.Schedule other) = is in cc);
-    unscheduled_unwritten = λ other is. absurd (let bad : Ok status ≡ Err (Refusals.Schedule other) = is in cc);
+    no_steps = λ other is. absurd (let bad : Ok status ≡ Err (Refusals.RunSettings other) = is in cc);
+    no_steps_reader_kept = λ other is. absurd (let bad : Ok status ≡ Err (Refusals.RunSettings other) = is in cc);
+    no_steps_unwritten = λ other is. absurd (let bad : Ok status ≡ Err (Refusals.RunSettings other) = is in cc);
     unfinished = λ other is. absurd (let bad : Ok status ≡ Err (Refusals.Test other) = is in cc);
   }
     where
@@ -261,9 +261,9 @@ module _ {R W : Type 0} (arguments : List Text) (input rest before after : Optio
     unaccounted = λ other is. absurd (let bad : Err (Refusals.Test error) ≡ Err (Refusals.Accounts other) = is in cc);
     unaccounted_reader_kept = λ other is. absurd (let bad : Err (Refusals.Test error) ≡ Err (Refusals.Accounts other) = is in cc);
     unaccounted_unwritten = λ other is. absurd (let bad : Err (Refusals.Test error) ≡ Err (Refusals.Accounts other) = is in cc);
-    unscheduled = λ other is. absurd (let bad : Err (Refusals.Test error) ≡ Err (Refusals.Schedule other) = is in cc);
-    unscheduled_reader_kept = λ other is. absurd (let bad : Err (Refusals.Test error) ≡ Err (Refusals.Schedule other) = is in cc);
-    unscheduled_unwritten = λ other is. absurd (let bad : Err (Refusals.Test error) ≡ Err (Refusals.Schedule other) = is in cc);
+    no_steps = λ other is. absurd (let bad : Err (Refusals.Test error) ≡ Err (Refusals.RunSettings other) = is in cc);
+    no_steps_reader_kept = λ other is. absurd (let bad : Err (Refusals.Test error) ≡ Err (Refusals.RunSettings other) = is in cc);
+    no_steps_unwritten = λ other is. absurd (let bad : Err (Refusals.Test error) ≡ Err (Refusals.RunSettings other) = is in cc);
     unfinished = λ other is. subst (IsUnfinished arguments input rest before after ro rn wo wn) (the_test error other is)
         (record { path = path; asked = asked; why = ended; streams_kept = λ settings is_so. streams_kept settings (ap Err is_so) });
   }

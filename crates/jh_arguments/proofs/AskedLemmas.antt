@@ -143,8 +143,8 @@ module _ (names models : Bor (List (Bor Text))) (all : map (λ s. s.now) names.n
   shrink_asks name rest named other fault =
       let holds = level_holds (leaf shrink) [] rest shrink_rules fault in
       let rows = rows_after (leaf shrink).rules [] rest in
-      let budget = number_in rows (codes "budget") 0 max_budget (needed_gives _ rows holds (codes "budget") false (vp.Unsigned 0 max_budget) refl) in
-      inl (λ given. (Shrink budget.0, (refl, budget.1.0)))
+      let runs = number_in rows (codes "budget") 0 max_budget (needed_gives _ rows holds (codes "budget") false (vp.Unsigned 0 max_budget) refl) in
+      inl (λ given. (Shrink runs.0, (refl, runs.1.0)))
 
   drive_rules : Each (IsOwn (leaf drive).rules) (leaf drive).rules
   drive_rules = (one_valued _ _ refl refl, (flag_valued _ _ refl (omega arith), (request _ _ refl refl, tt)))

@@ -159,7 +159,7 @@ abbrev pub command_name : Command → Text
 command_name Env = codes "env"
 command_name (Check question) = codes "check"
 command_name Run = codes "run"
-command_name (Shrink budget) = codes "shrink"
+command_name (Shrink runs) = codes "shrink"
 command_name (Search question) = codes "search"
 command_name (Timeline question) = codes "timeline"
 command_name (Plot skips_unread) = codes "plot"
@@ -173,7 +173,7 @@ pub named : (given : Accounts) (found : Text × List Row) (c : Command) → Subc
 named given found Env asks = asks
 named given found (Check question) asks = asks.0
 named given found Run asks = asks
-named given found (Shrink budget) asks = asks.0
+named given found (Shrink runs) asks = asks.0
 named given found (Search question) asks = asks.0
 named given found (Timeline question) asks = asks.0
 named given found (Plot skips_unread) asks = asks.0
@@ -186,7 +186,7 @@ no_drive c e = go c (ap mark_of e)
     go Env e = omega (arith, e)
     go (Check question) e = omega (arith, e)
     go Run e = omega (arith, e)
-    go (Shrink budget) e = omega (arith, e)
+    go (Shrink runs) e = omega (arith, e)
     go (Search question) e = omega (arith, e)
     go (Timeline question) e = omega (arith, e)
     go (Plot skips_unread) e = omega (arith, e)

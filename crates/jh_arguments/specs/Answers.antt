@@ -14,7 +14,7 @@ use Rattle.jh_settings.specs.Settings.{RefusesSettings}
 use Rattle.jh_settings.specs.declared.error.SettingsError.{SettingsError}
 use Rattle.jh_settings_texts.specs.ScheduleSteps.{AreStepsIn}
 use Rattle.jh_arguments.specs.Accounts.{Accounts, RefusesAccountsText, WritesAccounts}
-use Rattle.jh_arguments.specs.Commands.{SubcommandHasAccounts, SubcommandHasSchedule}
+use Rattle.jh_arguments.specs.Commands.{SubcommandHasAccounts, SubcommandHasRunSettings}
 use Rattle.jh_arguments.specs.Commands.{SubcommandIs, SubcommandIsDrive}
 use Rattle.jh_arguments.specs.Commands.{IsOfOptions, IsOutputOf, RefusesCommand, RefusesOptions}
 use Rattle.jh_arguments.specs.Line.{IsCommandLine}
@@ -65,15 +65,15 @@ pub record HasNoAccounts (arguments : List Text) (e : CliError) : Type 0 where
 -- of some settings, for no contract knows what a file holds. Where it names none, there are none.
 abbrev pub GivesSteps : Option (Text × List Row) → List Edn → Type 0
 GivesSteps found steps =
-    ((path : Text) × SubcommandHasSchedule found path × ((settings : List ℕ) × AreStepsIn settings steps))
-    ⊎ (((path : Text) → SubcommandHasSchedule found path → ⊥) × (steps ≡ []))
+    ((path : Text) × SubcommandHasRunSettings found path × ((settings : List ℕ) × AreStepsIn settings steps))
+    ⊎ (((path : Text) → SubcommandHasRunSettings found path → ⊥) × (steps ≡ []))
 
 -- Settings of a schedule can't be had: the file could not be read, or what it holds is no settings.
-abbrev pub IsUnscheduled : CliError → Type 0
-IsUnscheduled failures.SettingsRead = Unit {0}
-IsUnscheduled failures.OutOfMemory = Unit {0}
-IsUnscheduled (failures.Settings error) = (settings : List ℕ) × RefusesSettings settings error
-IsUnscheduled e = ⊥
+abbrev pub IsRunSettingsError : CliError → Type 0
+IsRunSettingsError failures.SettingsRead = Unit {0}
+IsRunSettingsError failures.OutOfMemory = Unit {0}
+IsRunSettingsError (failures.Settings error) = (settings : List ℕ) × RefusesSettings settings error
+IsRunSettingsError e = ⊥
 
 -- `clap` takes the arguments, and they ask for this command with the accounts that they give, and give
 -- these steps.
@@ -95,8 +95,8 @@ pub record HasNoSteps (arguments : List Text) (e : CliError) : Type 0 where
   pub given : Option (List Edn)
   pub accounts : GivesAccounts (subcommand_of app arguments) given
   pub path : Text
-  pub asked : SubcommandHasSchedule (subcommand_of app arguments) path
-  pub why : IsUnscheduled e
+  pub asked : SubcommandHasRunSettings (subcommand_of app arguments) path
+  pub why : IsRunSettingsError e
 
 -- ---- how the program ends
 

@@ -166,8 +166,8 @@ abbrev pub SubcommandIsDrive : Option (Text × List Row) → Text → Type 0
 SubcommandIsDrive found path = SubcommandHas (codes "drive") (codes "settings") found path
 
 -- A subcommand with its options asks for a page that names steps by the settings in this file.
-abbrev pub SubcommandHasSchedule : Option (Text × List Row) → Text → Type 0
-SubcommandHasSchedule found path = SubcommandHas (codes "timeline") (codes "settings") found path
+abbrev pub SubcommandHasRunSettings : Option (Text × List Row) → Text → Type 0
+SubcommandHasRunSettings found path = SubcommandHas (codes "timeline") (codes "settings") found path
 
 -- A subcommand that may judge a history has this text of accounts among its options.
 abbrev pub SubcommandHasAccounts : Option (Text × List Row) → Text → Type 0
@@ -182,8 +182,8 @@ SubcommandIs given (Some found) Env = found.0 ≡ codes "env"
 SubcommandIs given (Some found) (Check question) =
     (found.0 ≡ codes "check") × AsksCheck given found.1 question
 SubcommandIs given (Some found) Run = found.0 ≡ codes "run"
-SubcommandIs given (Some found) (Shrink budget) =
-    (found.0 ≡ codes "shrink") × IsNumber (one_of (codes "budget") found.1) budget
+SubcommandIs given (Some found) (Shrink runs) =
+    (found.0 ≡ codes "shrink") × IsNumber (one_of (codes "budget") found.1) runs
 SubcommandIs given (Some found) (Search question) =
     (found.0 ≡ codes "search") × AsksSearch found.1 question
 SubcommandIs given (Some found) (Timeline question) =

@@ -97,15 +97,15 @@ check names models =
     (given_number (codes "at-least"))) skip_unread) verbose
 
 -- the file with the settings of a run, by whose schedule the page of what it printed names steps
-abbrev pub schedule_file : Rule
-schedule_file = option (codes "settings")
+abbrev pub run_settings_file : Rule
+run_settings_file = option (codes "settings")
 
 abbrev pub timeline : Bor (List (Bor Text)) → Bor (List (Bor Text)) → App
 timeline names models =
     with_rule (with_rule (with_rule (with_rule (with_rule (with_rule
     (judged models (with_rule (new_app (codes "timeline")) (workload names)))
     (flag (codes "independent"))) (given_number (codes "from")))
-    (given_number (codes "to"))) schedule_file) skip_unread) verbose
+    (given_number (codes "to"))) run_settings_file) skip_unread) verbose
 
 abbrev pub shrink : App
 shrink = with_rule (with_rule (new_app (codes "shrink")) (budget (codes "10000"))) verbose
@@ -141,11 +141,11 @@ search =
     show) spread) verbose
 
 -- the file with the settings of a test, which is given by its place
-abbrev pub settings_file : Rule
-settings_file = needed_rule (record (new_rule (codes "settings")) { value_names = 1 })
+abbrev pub test_settings_file : Rule
+test_settings_file = needed_rule (record (new_rule (codes "settings")) { value_names = 1 })
 
 abbrev pub drive : App
-drive = with_rule (with_rule (new_app (codes "drive")) settings_file) verbose
+drive = with_rule (with_rule (new_app (codes "drive")) test_settings_file) verbose
 
 abbrev pub plot : App
 plot = with_rule (with_rule (new_app (codes "plot")) skip_unread) verbose

@@ -1,25 +1,17 @@
 -- The kinds of faults that an option names (this project's own): their names, in any order, with
 -- commas between and nothing else.
-use Rattle.std.specs.Prelude.{ℕ, ◌==◌, Bool, true, false, List, codes, if◌then◌else◌, Option}
-use Rattle.std.specs.Prelude.{Some, None}
+use Rattle.std.specs.Prelude.{ℕ, ◌==◌, Bool, List, codes, if◌then◌else◌, Option, Some, None, is_some}
 use Rattle.std.specs.List.{list_all, list_any, slice_split}
 use Rattle.std.specs.Str.{bytes_eq}
 use Rattle.jh_search.specs.declared.kinds.Palette.{Palette}
+use Rattle.jh_step_texts.specs.Kinds.{fault_kind_named}
 
 -- what stands between commas
 abbrev pub names_in : List ℕ → List (List ℕ)
 names_in text = slice_split (λ byte. byte == 44) text
 
 abbrev pub is_kind_name : List ℕ → Bool
-is_kind_name name =
-    if bytes_eq name (codes "cut") then true
-    else if bytes_eq name (codes "slow") then true
-    else if bytes_eq name (codes "loss") then true
-    else if bytes_eq name (codes "fix") then true
-    else if bytes_eq name (codes "pause") then true
-    else if bytes_eq name (codes "kill") then true
-    else if bytes_eq name (codes "bump") then true
-    else false
+is_kind_name name = is_some (fault_kind_named name)
 
 -- the text names kinds and nothing else
 abbrev pub names_kinds : List ℕ → Bool

@@ -15,8 +15,8 @@ ghost use Rattle.jh_settings.specs.declared.error.SettingsError.{SettingsError};
 ghost use Rattle.jh_arguments.specs.Answers as rule;
 ghost use Rattle.jh_arguments.specs.Answers.{IsConductedTo, IsCommandDone, IsFailed, IsFileUnread};
 ghost use Rattle.jh_arguments.specs.Answers.{GivesSteps, HasNoAccounts, HasNoSteps};
-ghost use Rattle.jh_arguments.specs.Answers.{IsUnfinished, IsUnscheduled};
-ghost use Rattle.jh_arguments.specs.Commands.{SubcommandHasSchedule};
+ghost use Rattle.jh_arguments.specs.Answers.{IsRunSettingsError, IsUnfinished};
+ghost use Rattle.jh_arguments.specs.Commands.{SubcommandHasRunSettings};
 ghost use Rattle.jh_arguments.specs.Line.{IsRefused};
 ghost use Rattle.jh_arguments.specs.declared.answers.Refusal.TheVariants as Refusals;
 
@@ -48,7 +48,7 @@ pub enum Refusal {
     /// The command refuses its options or its input, or did not do its work.
     Command(CliError),
     /// The settings of the run that is shown could not be read, or are refused.
-    Schedule(CliError),
+    RunSettings(CliError),
     /// The test of a real database ended otherwise than with a verdict.
     Test(DriveError),
 }
@@ -102,7 +102,7 @@ where
     T: Files + Alloc<A = Global>,
     ensures steps { IfOk result
         (λ steps. (settings : List ℕ) × AreStepsIn settings (views steps.items)) }
-    ensures error { IfErr result IsUnscheduled }
+    ensures error { IfErr result IsRunSettingsError }
 {
     let settings = match fs::read(rt, path) {
         Ok(settings) => settings,
@@ -124,8 +124,8 @@ where
     ensures steps { IfOk result
         (λ steps. GivesSteps (subcommand_rows_of matches.now) (views steps.items)) }
     ensures named { IfErr result (λ e. (path : Text)
-        × SubcommandHasSchedule (subcommand_rows_of matches.now) path) }
-    ensures error { IfErr result IsUnscheduled }
+        × SubcommandHasRunSettings (subcommand_rows_of matches.now) path) }
+    ensures error { IfErr result IsRunSettingsError }
 {
     match run_settings_path_of(matches) {
         Some(path) => steps_in_file(rt, path),
@@ -160,7 +160,7 @@ fn of_test(answer: Result<u8, DriveError>) -> Result<u8, Refusal>
 ///
 /// A run on threads, a search and the judgement of keys may wait. A test waits where its reader blocks.
 ///
-/// Errors: `Arguments`, then `Accounts`, then `Schedule`, all before anything is read or written; then, of a command,
+/// Errors: `Arguments`, then `Accounts`, then `RunSettings`, all before anything is read or written; then, of a command,
 /// `Command` as `do_command` has it, and of a test `Test` as `drive` has it, or where its file could not be read.
 pub fn answer<T, S, R, W, O>(
     rt: &T,
@@ -195,12 +195,12 @@ where
         → IsErrOf result (Refusals.Accounts error) → streams.new.reader ≡ streams.old.reader }
     ensures unaccounted_unwritten { (error : CliErrorData)
         → IsErrOf result (Refusals.Accounts error) → streams.new.writer ≡ streams.old.writer }
-    ensures unscheduled { (error : CliErrorData) → IsErrOf result (Refusals.Schedule error)
+    ensures no_steps { (error : CliErrorData) → IsErrOf result (Refusals.RunSettings error)
         → HasNoSteps (map S.text arguments.now) error }
-    ensures unscheduled_reader_kept { (error : CliErrorData)
-        → IsErrOf result (Refusals.Schedule error) → streams.new.reader ≡ streams.old.reader }
-    ensures unscheduled_unwritten { (error : CliErrorData)
-        → IsErrOf result (Refusals.Schedule error) → streams.new.writer ≡ streams.old.writer }
+    ensures no_steps_reader_kept { (error : CliErrorData)
+        → IsErrOf result (Refusals.RunSettings error) → streams.new.reader ≡ streams.old.reader }
+    ensures no_steps_unwritten { (error : CliErrorData)
+        → IsErrOf result (Refusals.RunSettings error) → streams.new.writer ≡ streams.old.writer }
     ensures unfinished { (error : DriveErrorData) → IsErrOf result (Refusals.Test error)
         → IsUnfinished (map S.text arguments.now)
         (R.remaining streams.old.reader) (R.remaining streams.new.reader)
@@ -224,7 +224,7 @@ where
     };
     let steps = match steps_of(rt, &matches) {
         Ok(steps) => steps,
-        Err(error) => return Err(Refusal::Schedule(error)),
+        Err(error) => return Err(Refusal::RunSettings(error)),
     };
     observer.see_command(command);
     of_command(do_command(

@@ -11,7 +11,7 @@ ghost use Rattle.jh_cli.specs.Outputs.{OnInput, WritesOutput};
 ghost use Rattle.jh_cli.specs.declared.error.CliError.{CliError as CliErrorData};
 ghost use Rattle.jh_cli.specs.declared.error.CliError.TheVariants as CliError;
 ghost use Rattle.jh_arguments.specs.Commands.{AsksCheck, AsksPlot, SubcommandHasAccounts};
-ghost use Rattle.jh_arguments.specs.Commands.{SubcommandHasSchedule};
+ghost use Rattle.jh_arguments.specs.Commands.{SubcommandHasRunSettings};
 ghost use Rattle.jh_arguments.specs.Commands.{SubcommandIs};
 ghost use Rattle.jh_arguments.specs.Commands.{SubcommandIsDrive, SubcommandIsVerbose};
 ghost use Rattle.jh_arguments.specs.Commands.{AsksSearch, IsShow};
@@ -56,15 +56,20 @@ pub enum Command<'a> {
     Check(CheckQuestion<'a>),
     /// A run of a simulated cluster.
     Run,
-    /// The schedule of a run made small, by so many runs at most.
-    Shrink(u64),
+    /// The schedule of a run made small.
+    Shrink {
+        /// How many runs may be made.
+        runs: u64,
+    },
     /// Random schedules tried for a run that fails.
     Search(SearchQuestion),
     /// A page that shows a history.
     Timeline(TimelineQuestion<'a>),
-    /// A page that shows the latencies and rates of a history, without keys that can't be read where
-    /// that is asked for.
-    Plot(bool),
+    /// A page that shows the latencies and rates of a history.
+    Plot {
+        /// Whether keys that can't be read are left out.
+        skips_unread: bool,
+    },
 }
 
 /// The command that the arguments ask for, with the accounts that they give. `parse` has seen to it that there
@@ -80,14 +85,18 @@ pub fn command_of<'a>(
 {
     match matches.subcommand()? {
         ("env", _) => Some(Command::Env),
-        ("check", options) => Some(Command::Check(question_of(options, accounts)?)),
+        ("check", options) => Some(Command::Check(check_question_of(options, accounts)?)),
         ("run", _) => Some(Command::Run),
-        ("shrink", options) => Some(Command::Shrink(number_of(options, "budget")?)),
+        ("shrink", options) => Some(Command::Shrink {
+            runs: number_of(options, "budget")?,
+        }),
         ("search", options) => Some(Command::Search(search_question_of(options)?)),
         ("timeline", options) => {
             Some(Command::Timeline(timeline_question_of(options, accounts)?))
         }
-        ("plot", options) => Some(Command::Plot(plot_skips_unread(options))),
+        ("plot", options) => Some(Command::Plot {
+            skips_unread: plot_skips_unread(options),
+        }),
         _ => None,
     }
 }
@@ -120,9 +129,9 @@ pub fn test_path_of<'a>(matches: &ArgMatches<'a>) -> Option<&'a str>
 /// one.
 pub(crate) fn run_settings_path_of<'a>(matches: &ArgMatches<'a>) -> Option<&'a str>
     ensures parsed { IfSome result
-        (λ path. SubcommandHasSchedule (subcommand_rows_of matches.now) path.now) }
+        (λ path. SubcommandHasRunSettings (subcommand_rows_of matches.now) path.now) }
     ensures taken { IsNone result → (path : Text)
-        → SubcommandHasSchedule (subcommand_rows_of matches.now) path → ⊥ }
+        → SubcommandHasRunSettings (subcommand_rows_of matches.now) path → ⊥ }
 {
     match matches.subcommand()? {
         ("timeline", options) => Some(text_of(options, "settings")?),
@@ -160,7 +169,7 @@ fn text_of<'a>(options: &ArgMatches<'a>, name: &str) -> Option<&'a str>
 /// What the options of `check` ask for, with the accounts that they give. `parse` has seen to it that the
 /// workload is one that a checker judges, that the model is one, that the budget is a number, and that the
 /// number of threads is from 1 to 16.
-pub fn question_of<'a>(
+pub fn check_question_of<'a>(
     options: &ArgMatches<'_>,
     accounts: Option<&'a [Value]>,
 ) -> Option<CheckQuestion<'a>>
@@ -415,9 +424,9 @@ where
         Command::Env => env_run(alloc, reader, writer),
         Command::Check(question) => check_run(rt, alloc, reader, writer, question, observer),
         Command::Run => run_run(rt, alloc, reader, writer),
-        Command::Shrink(budget) => shrink_run(alloc, reader, writer, budget, observer),
+        Command::Shrink { runs } => shrink_run(alloc, reader, writer, runs, observer),
         Command::Search(question) => search_run(rt, alloc, reader, writer, question, observer),
         Command::Timeline(question) => timeline_run(alloc, reader, writer, question, steps),
-        Command::Plot(skips_unread) => plot_run(alloc, reader, writer, skips_unread),
+        Command::Plot { skips_unread } => plot_run(alloc, reader, writer, skips_unread),
     }
 }

@@ -25,8 +25,8 @@ mod teller;
 
 pub use answers::{CommandObserver, Refusal, answer};
 pub use commands::{
-    Command, command_of, do_command, is_verbose, question_of, search_question_of, test_path_of,
-    timeline_question_of,
+    Command, check_question_of, command_of, do_command, is_verbose, search_question_of,
+    test_path_of, timeline_question_of,
 };
 pub use jh_cli::{
     CheckQuestion, CliError, HistoryCounts, HistoryObserver, JudgingOption, SearchQuestion,

@@ -166,7 +166,7 @@ fn timeline_command<'a>(
         .arg(independent)?
         .arg(index_option(alloc, "from", "The first record that is shown, from 0"))?
         .arg(index_option(alloc, "to", "The record behind the last one that is shown"))?
-        .arg(schedule_option(alloc))?
+        .arg(run_settings_option(alloc))?
         .arg(skip_unread_option(alloc))?
         .arg(verbose_option(alloc))?;
     Ok(timeline)
@@ -252,7 +252,7 @@ fn drive_command<'a>(alloc: Global) -> Result<Command<'a>, Error>
             "Conducts a test of a real database, whose settings are read from a file as TOML, by lines",
         )
         .after_help(help::DRIVE)
-        .arg(settings_argument(alloc))?
+        .arg(test_settings_argument(alloc))?
         .arg(verbose_option(alloc))?;
     Ok(drive)
 }
@@ -273,8 +273,8 @@ fn plot_command<'a>(alloc: Global) -> Result<Command<'a>, Error>
 }
 
 /// The file with the settings of a test.
-fn settings_argument<'a>(alloc: Global) -> Arg<'a>
-    ensures rule { rule_of result ≡ text.settings_file }
+fn test_settings_argument<'a>(alloc: Global) -> Arg<'a>
+    ensures rule { rule_of result ≡ text.test_settings_file }
     ensures local { result.global ≡ false }
 {
     Arg::new(alloc, "settings")
@@ -284,8 +284,8 @@ fn settings_argument<'a>(alloc: Global) -> Arg<'a>
 }
 
 /// The file with the settings of the run that is shown.
-fn schedule_option<'a>(alloc: Global) -> Arg<'a>
-    ensures rule { rule_of result ≡ text.schedule_file }
+fn run_settings_option<'a>(alloc: Global) -> Arg<'a>
+    ensures rule { rule_of result ≡ text.run_settings_file }
     ensures local { result.global ≡ false }
 {
     Arg::new(alloc, "settings")

@@ -6,21 +6,13 @@ ghost use Rattle.std.specs.Prelude.{◌≡◌};
 ghost use Rattle.jh_arguments.specs.Palettes as rule;
 
 use jh_search::Palette;
+use jh_step_texts::FaultKind;
 
 /// Whether a kind has this name.
 fn is_kind_name(name: &str) -> bool
     ensures { result ≡ rule.is_kind_name name.now }
 {
-    match name {
-        "cut" => true,
-        "slow" => true,
-        "loss" => true,
-        "fix" => true,
-        "pause" => true,
-        "kill" => true,
-        "bump" => true,
-        _ => false,
-    }
+    FaultKind::named(name).is_some()
 }
 
 /// Whether a text names kinds, and nothing else.

@@ -66,7 +66,7 @@ fn undriven(rt: &impl Eprint, error: DriveError) -> u8 {
 fn ended(rt: &(impl Print + Eprint), refusal: Refusal) -> u8 {
     match refusal {
         Refusal::Arguments(refusal) => refused(rt, &refusal),
-        Refusal::Accounts(error) | Refusal::Command(error) | Refusal::Schedule(error) => {
+        Refusal::Accounts(error) | Refusal::Command(error) | Refusal::RunSettings(error) => {
             failed(rt, error)
         }
         Refusal::Test(error) => undriven(rt, error),

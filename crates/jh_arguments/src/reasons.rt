@@ -163,7 +163,7 @@ fn test_reasons<T: Files + Alloc<A = Global>>(
 }
 
 /// Why the settings of the run that a page shows are refused, in the file that the arguments name.
-fn schedule_reasons<T: Files + Alloc<A = Global>>(
+fn run_settings_reasons<T: Files + Alloc<A = Global>>(
     rt: &T,
     arguments: &[String],
     error: &CliError,
@@ -194,7 +194,7 @@ pub(crate) fn reasons_of<T: Files + Alloc<A = Global>>(
     match refusal {
         Refusal::Arguments(_) | Refusal::Accounts(_) => Ok(Vec::new(rt.alloc())),
         Refusal::Command(error) => command_reasons(rt.alloc(), given, error),
-        Refusal::Schedule(error) => schedule_reasons(rt, arguments, error),
+        Refusal::RunSettings(error) => run_settings_reasons(rt, arguments, error),
         Refusal::Test(error) => test_reasons(rt, arguments, given, error),
     }
 }

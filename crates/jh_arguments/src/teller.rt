@@ -67,14 +67,14 @@ impl Work {
                 skips_unread: question.skips_unread,
             },
             Command::Run => Work::Run,
-            Command::Shrink(_) => Work::Shrink,
+            Command::Shrink { .. } => Work::Shrink,
             Command::Search(_) => Work::Search,
             Command::Timeline(question) => Work::History {
                 checker: checker_of(question.judging),
                 has_least: false,
                 skips_unread: question.skips_unread,
             },
-            Command::Plot(skips_unread) => Work::History {
+            Command::Plot { skips_unread } => Work::History {
                 checker: None,
                 has_least: false,
                 skips_unread,

@@ -46,11 +46,11 @@ fn asks_for_commands(rt: HostRuntime) {
 § jeprun check --workload bank --total 9223372036854775807 --negative-balances → Check(CheckQuestion { judging: Judging { checker: Bank, initial: None, budget: 100000, explain: false, model: None, accounts: None, total: Some(9223372036854775807), negative_balances: true, linearizable: false, locked: false }, independent: false, threads: 1, at_least: None, skips_unread: false })
 § jeprun check --workload set-full --linearizable → Check(CheckQuestion { judging: Judging { checker: SetFull, initial: None, budget: 100000, explain: false, model: None, accounts: None, total: None, negative_balances: false, linearizable: true, locked: false }, independent: false, threads: 1, at_least: None, skips_unread: false })
 § jeprun check --workload mutex --locked → Check(CheckQuestion { judging: Judging { checker: Mutex, initial: None, budget: 100000, explain: false, model: None, accounts: None, total: None, negative_balances: false, linearizable: false, locked: true }, independent: false, threads: 1, at_least: None, skips_unread: false })
-§ jeprun plot → Plot(false)
-§ jeprun plot --skip-unread --verbose → Plot(true)
+§ jeprun plot → Plot { skips_unread: false }
+§ jeprun plot --skip-unread --verbose → Plot { skips_unread: true }
 § jeprun check --workload set --skip-unread → Check(CheckQuestion { judging: Judging { checker: Set, initial: None, budget: 100000, explain: false, model: None, accounts: None, total: None, negative_balances: false, linearizable: false, locked: false }, independent: false, threads: 1, at_least: None, skips_unread: true })
-§ jeprun shrink → Shrink(10000)
-§ jeprun shrink --budget 10000000 → Shrink(10000000)
+§ jeprun shrink → Shrink { runs: 10000 }
+§ jeprun shrink --budget 10000000 → Shrink { runs: 10000000 }
 § jeprun search → Search(SearchQuestion { from: 0, runs: 10000, faults: 8, palette: Some(Palette { cut: true, slow: true, loss: true, fix: true, pause: true, kill: true, bump: true }), threads: None, show: None })
 § jeprun search --runs 5 --faults 256 --palette kill,cut --from 7 --threads 16 → Search(SearchQuestion { from: 7, runs: 5, faults: 256, palette: Some(Palette { cut: true, slow: false, loss: false, fix: false, pause: false, kill: true, bump: false }), threads: Some(16), show: None })
 § jeprun search --show 9223372036854775807 --palette cut → Search(SearchQuestion { from: 0, runs: 10000, faults: 8, palette: Some(Palette { cut: true, slow: false, loss: false, fix: false, pause: false, kill: false, bump: false }), threads: None, show: Some(Show { number: 9223372036854775807, milliseconds: None }) })

@@ -4,7 +4,7 @@ use Rattle.clap.specs.Words.{subcommand_rows_of}
 use Rattle.jh_edn.specs.View.{views}
 use Rattle.jh_edn.specs.declared.value.Value.{Value}
 use Rattle.jh_arguments.specs.Answers.{GivesAccounts, GivesSteps}
-use Rattle.jh_arguments.proofs.AnswerLemmas.{Ends, asked_by, asked_test_by, command_ends, refused_ends, seen_alike, test_ends, unaccounted_ends, unscheduled_ends, without_accounts, without_steps}
+use Rattle.jh_arguments.proofs.AnswerLemmas.{Ends, asked_by, asked_test_by, command_ends, refused_ends, seen_alike, test_ends, unaccounted_ends, no_steps_ends, without_accounts, without_steps}
 use Rattle.jh_arguments.proofs.answers.answer.Given as given
 use Rattle.jh_arguments.proofs.answers.answer.Goals as goal
 
@@ -49,20 +49,20 @@ returns-in-Err-clause-unaccounted_unwritten g c =
     (refused_ends (map g.S.AsStr.text c.args.arguments.now) (g.R.Read.remaining c.args.streams.now.reader) None None None c.args.streams.now.reader c.args.streams.now.reader c.args.streams.now.writer c.args.streams.now.writer
     c.in-Err.error c.in-Err.ensures.refused refl refl).unaccounted_unwritten
 
-pub returns-in-Err-clause-unscheduled : goal.returns-in-Err-clause-unscheduled
-returns-in-Err-clause-unscheduled g c =
+pub returns-in-Err-clause-no_steps : goal.returns-in-Err-clause-no_steps
+returns-in-Err-clause-no_steps g c =
     (refused_ends (map g.S.AsStr.text c.args.arguments.now) (g.R.Read.remaining c.args.streams.now.reader) None None None c.args.streams.now.reader c.args.streams.now.reader c.args.streams.now.writer c.args.streams.now.writer
-    c.in-Err.error c.in-Err.ensures.refused refl refl).unscheduled
+    c.in-Err.error c.in-Err.ensures.refused refl refl).no_steps
 
-pub returns-in-Err-clause-unscheduled_reader_kept : goal.returns-in-Err-clause-unscheduled_reader_kept
-returns-in-Err-clause-unscheduled_reader_kept g c =
+pub returns-in-Err-clause-no_steps_reader_kept : goal.returns-in-Err-clause-no_steps_reader_kept
+returns-in-Err-clause-no_steps_reader_kept g c =
     (refused_ends (map g.S.AsStr.text c.args.arguments.now) (g.R.Read.remaining c.args.streams.now.reader) None None None c.args.streams.now.reader c.args.streams.now.reader c.args.streams.now.writer c.args.streams.now.writer
-    c.in-Err.error c.in-Err.ensures.refused refl refl).unscheduled_reader_kept
+    c.in-Err.error c.in-Err.ensures.refused refl refl).no_steps_reader_kept
 
-pub returns-in-Err-clause-unscheduled_unwritten : goal.returns-in-Err-clause-unscheduled_unwritten
-returns-in-Err-clause-unscheduled_unwritten g c =
+pub returns-in-Err-clause-no_steps_unwritten : goal.returns-in-Err-clause-no_steps_unwritten
+returns-in-Err-clause-no_steps_unwritten g c =
     (refused_ends (map g.S.AsStr.text c.args.arguments.now) (g.R.Read.remaining c.args.streams.now.reader) None None None c.args.streams.now.reader c.args.streams.now.reader c.args.streams.now.writer c.args.streams.now.writer
-    c.in-Err.error c.in-Err.ensures.refused refl refl).unscheduled_unwritten
+    c.in-Err.error c.in-Err.ensures.refused refl refl).no_steps_unwritten
 
 pub returns-in-Err-clause-unfinished : goal.returns-in-Err-clause-unfinished
 returns-in-Err-clause-unfinished g c =
@@ -108,14 +108,14 @@ returns-in-Some-clause-unaccounted_reader_kept g c = (tested g c).unaccounted_re
 pub returns-in-Some-clause-unaccounted_unwritten : goal.returns-in-Some-clause-unaccounted_unwritten
 returns-in-Some-clause-unaccounted_unwritten g c = (tested g c).unaccounted_unwritten
 
-pub returns-in-Some-clause-unscheduled : goal.returns-in-Some-clause-unscheduled
-returns-in-Some-clause-unscheduled g c = (tested g c).unscheduled
+pub returns-in-Some-clause-no_steps : goal.returns-in-Some-clause-no_steps
+returns-in-Some-clause-no_steps g c = (tested g c).no_steps
 
-pub returns-in-Some-clause-unscheduled_reader_kept : goal.returns-in-Some-clause-unscheduled_reader_kept
-returns-in-Some-clause-unscheduled_reader_kept g c = (tested g c).unscheduled_reader_kept
+pub returns-in-Some-clause-no_steps_reader_kept : goal.returns-in-Some-clause-no_steps_reader_kept
+returns-in-Some-clause-no_steps_reader_kept g c = (tested g c).no_steps_reader_kept
 
-pub returns-in-Some-clause-unscheduled_unwritten : goal.returns-in-Some-clause-unscheduled_unwritten
-returns-in-Some-clause-unscheduled_unwritten g c = (tested g c).unscheduled_unwritten
+pub returns-in-Some-clause-no_steps_unwritten : goal.returns-in-Some-clause-no_steps_unwritten
+returns-in-Some-clause-no_steps_unwritten g c = (tested g c).no_steps_unwritten
 
 pub returns-in-Some-clause-unfinished : goal.returns-in-Some-clause-unfinished
 returns-in-Some-clause-unfinished g c = (tested g c).unfinished
@@ -134,11 +134,11 @@ unreachable-requires g c = elim c.in-Ok.ensures.asked [
 ]
 
 -- no steps can be had
-pub returns-in-Err-steps_of-clause-unscheduled : goal.returns-in-Err-steps_of-clause-unscheduled
-returns-in-Err-steps_of-clause-unscheduled g c =
-    (unscheduled_ends (map g.S.AsStr.text c.args.arguments.now) (g.R.Read.remaining c.args.streams.now.reader) None None None c.args.streams.now.reader c.args.streams.now.reader c.args.streams.now.writer c.args.streams.now.writer
+pub returns-in-Err-steps_of-clause-no_steps : goal.returns-in-Err-steps_of-clause-no_steps
+returns-in-Err-steps_of-clause-no_steps g c =
+    (no_steps_ends (map g.S.AsStr.text c.args.arguments.now) (g.R.Read.remaining c.args.streams.now.reader) None None None c.args.streams.now.reader c.args.streams.now.reader c.args.streams.now.writer c.args.streams.now.writer
     c.in-Err-steps_of.error
-    (without_steps _ c.in-Ok.matches _ c.in-Err-steps_of.error c.in-Ok.ensures.found c.in-Ok-accounts_of.ensures.accounts c.in-Err-steps_of.ensures.named c.in-Err-steps_of.ensures.error) refl refl).unscheduled
+    (without_steps _ c.in-Ok.matches _ c.in-Err-steps_of.error c.in-Ok.ensures.found c.in-Ok-accounts_of.ensures.accounts c.in-Err-steps_of.ensures.named c.in-Err-steps_of.ensures.error) refl refl).no_steps
 
 -- a command is asked for
 commanded : (g : given.Over) (c : goal.Joined-matches-4 g)
@@ -184,14 +184,14 @@ returns-clause-unaccounted_reader_kept g c = (commanded g c).unaccounted_reader_
 pub returns-clause-unaccounted_unwritten : goal.returns-clause-unaccounted_unwritten
 returns-clause-unaccounted_unwritten g c = (commanded g c).unaccounted_unwritten
 
-pub returns-clause-unscheduled : goal.returns-clause-unscheduled
-returns-clause-unscheduled g c = (commanded g c).unscheduled
+pub returns-clause-no_steps : goal.returns-clause-no_steps
+returns-clause-no_steps g c = (commanded g c).no_steps
 
-pub returns-clause-unscheduled_reader_kept : goal.returns-clause-unscheduled_reader_kept
-returns-clause-unscheduled_reader_kept g c = (commanded g c).unscheduled_reader_kept
+pub returns-clause-no_steps_reader_kept : goal.returns-clause-no_steps_reader_kept
+returns-clause-no_steps_reader_kept g c = (commanded g c).no_steps_reader_kept
 
-pub returns-clause-unscheduled_unwritten : goal.returns-clause-unscheduled_unwritten
-returns-clause-unscheduled_unwritten g c = (commanded g c).unscheduled_unwritten
+pub returns-clause-no_steps_unwritten : goal.returns-clause-no_steps_unwritten
+returns-clause-no_steps_unwritten g c = (commanded g c).no_steps_unwritten
 
 pub returns-clause-unfinished : goal.returns-clause-unfinished
 returns-clause-unfinished g c = (commanded g c).unfinished

@@ -7,5 +7,5 @@ returns-clause-drive c =
     let about : app_of c.about.result ≡ new_app (codes "drive") = search rules in
     let top : app_of c.after_help.result ≡ new_app (codes "drive") = search rules in
     c.in_ok-drive.ensures.shape c.verbose_option.ensures.local ∙ ap₂ with_rule
-    (c.in_ok-arg.ensures.shape c.settings_argument.ensures.local ∙ ap₂ with_rule top c.settings_argument.ensures.rule)
+    (c.in_ok-arg.ensures.shape c.test_settings_argument.ensures.local ∙ ap₂ with_rule top c.test_settings_argument.ensures.rule)
     c.verbose_option.ensures.rule

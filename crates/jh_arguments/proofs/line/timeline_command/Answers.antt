@@ -11,9 +11,9 @@ returns-clause-timeline c =
     let named = c.in_ok-command.ensures.shape c.workload_option.ensures.local ∙ ap₂ with_rule top c.workload_option.ensures.rule in
     c.in_ok-timeline.ensures.shape c.verbose_option.ensures.local ∙ ap₂ with_rule
     (c.in_ok-arg-5.ensures.shape c.skip_unread_option.ensures.local ∙ ap₂ with_rule
-    (c.in_ok-arg-4.ensures.shape c.schedule_option.ensures.local ∙ ap₂ with_rule
+    (c.in_ok-arg-4.ensures.shape c.run_settings_option.ensures.local ∙ ap₂ with_rule
     (c.in_ok-arg-3.ensures.shape c.index_option-2.ensures.local ∙ ap₂ with_rule
     (c.in_ok-arg-2.ensures.shape c.index_option.ensures.local ∙ ap₂ with_rule
     (c.in_ok-arg.ensures.shape c.flag_option-independent.ensures.local ∙ ap₂ with_rule
     (c.in_ok-judged.ensures.judged ∙ ap (judged c.args.models) named) c.flag_option-independent.ensures.rule) c.index_option.ensures.rule)
-    c.index_option-2.ensures.rule) c.schedule_option.ensures.rule) c.skip_unread_option.ensures.rule) c.verbose_option.ensures.rule
+    c.index_option-2.ensures.rule) c.run_settings_option.ensures.rule) c.skip_unread_option.ensures.rule) c.verbose_option.ensures.rule

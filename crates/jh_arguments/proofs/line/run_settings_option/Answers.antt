@@ -1,7 +1,7 @@
 use Rattle.std.proofs.Common.{ap, codes, ◌≡◌, ◌∙◌}
 use Rattle.clap.specs.Words.{rule_of}
 use Rattle.jh_arguments.proofs.ChainLemmas.{longed, named_once}
-use Rattle.jh_arguments.proofs.line.schedule_option.Goals as goal
+use Rattle.jh_arguments.proofs.line.run_settings_option.Goals as goal
 
 pub returns-clause-rule : goal.returns-clause-rule
 returns-clause-rule c =

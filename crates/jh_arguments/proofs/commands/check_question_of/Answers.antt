@@ -3,7 +3,7 @@ use Rattle.clap.specs.Words.{found_of, one_of, rows_of}
 use Rattle.jh_checkers.specs.Checkers.{checker_name}
 use Rattle.jh_arguments.specs.Commands.{IsFlag}
 use Rattle.jh_arguments.proofs.OptionLemmas.{text_given}
-use Rattle.jh_arguments.proofs.commands.question_of.Goals as goal
+use Rattle.jh_arguments.proofs.commands.check_question_of.Goals as goal
 
 pub returns-in_err-name-clause-taken : goal.returns-in_err-name-clause-taken
 returns-in_err-name-clause-taken c = λ none question asks.

@@ -1,7 +1,7 @@
 use Rattle.std.proofs.Common.{ap, codes, ◌≡◌, ◌∙◌}
 use Rattle.clap.specs.Words.{rule_of}
 use Rattle.jh_arguments.proofs.ChainLemmas.{named_once, wanted}
-use Rattle.jh_arguments.proofs.line.settings_argument.Goals as goal
+use Rattle.jh_arguments.proofs.line.test_settings_argument.Goals as goal
 
 pub returns-clause-rule : goal.returns-clause-rule
 returns-clause-rule c =
