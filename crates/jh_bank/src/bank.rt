@@ -36,7 +36,7 @@ impl Model for Accounts {
 impl Accounts {
     /// These accounts.
     ///
-    /// Errors: where memory runs out.
+    /// Errors: out of memory.
     ///
     /// Takes O(m log m) comparisons for m accounts.
     pub fn of(alloc: Global, accounts: &[Value]) -> Result<Accounts, AllocError>
@@ -48,7 +48,7 @@ impl Accounts {
 
     /// Whether the key is one of the accounts, as values are equal in EDN.
     ///
-    /// Errors: where memory runs out.
+    /// Errors: out of memory.
     ///
     /// Takes O(log m) comparisons for m accounts.
     pub fn has(&self, alloc: Global, key: &Value) -> Result<bool, AllocError>
@@ -73,7 +73,7 @@ pub struct Bank {
 impl Bank {
     /// The bank of these accounts.
     ///
-    /// Errors: where memory runs out.
+    /// Errors: out of memory.
     ///
     /// Takes O(m log m) comparisons for m accounts.
     pub fn of(

@@ -15,7 +15,7 @@ use std::alloc::{AllocError, Global};
 /// The values in normal order: ascending by `Value::compare`, and those that rank equal in the order
 /// in which they stood.
 ///
-/// Errors: where memory runs out.
+/// Errors: out of memory.
 ///
 /// Takes O(n log n) comparisons for n values.
 pub fn in_normal_order(values: Vec<Value>) -> Result<Vec<Value>, AllocError>
@@ -48,7 +48,7 @@ fn push_value(
 /// The values of the client operations of this kind that have this function, in normal form and in
 /// normal order.
 ///
-/// Errors: where memory runs out.
+/// Errors: out of memory.
 ///
 /// Takes O(n log n) comparisons for n operations.
 pub fn sorted_values(
@@ -70,7 +70,7 @@ pub fn sorted_values(
 
 /// Puts the values last, each in normal form.
 ///
-/// Errors: where memory runs out.
+/// Errors: out of memory.
 pub fn push_normal(
     alloc: Global,
     items: &[Value],
@@ -87,7 +87,7 @@ pub fn push_normal(
 
 /// The values in normal form and in normal order.
 ///
-/// Errors: where memory runs out.
+/// Errors: out of memory.
 ///
 /// Takes O(n log n) comparisons for n values.
 pub fn sorted_normal(alloc: Global, items: &[Value]) -> Result<Vec<Value>, AllocError>

@@ -108,7 +108,7 @@ fn sorted_reads(alloc: Global, history: &[Op], pairs: &[Pair]) -> Result<Vec<Pai
 /// Where those of these operations of a history end that are reads which happened, in order: where
 /// these are the operations that `check_counter` judges, in the order of the reads of its result.
 ///
-/// Errors: where memory runs out.
+/// Errors: out of memory.
 ///
 /// Takes O(n log n) for n operations.
 pub fn read_ends(alloc: Global, history: &[Op], pairs: &[Pair]) -> Result<Vec<usize>, AllocError>

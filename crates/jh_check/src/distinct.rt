@@ -62,7 +62,7 @@ fn push_wanted(
 
 /// Copies of those that are among the others, which ascend, or of those that are not.
 ///
-/// Errors: where memory runs out.
+/// Errors: out of memory.
 ///
 /// Takes O(n log m) comparisons for n values and m others.
 pub fn selected(

@@ -14,7 +14,7 @@ use std::alloc::{AllocError, Global};
 ///
 /// Takes time linear in the numbers and in the size of the records.
 ///
-/// Errors: where memory runs out.
+/// Errors: out of memory.
 pub fn operations_of(
     alloc: Global,
     history: &[Op],

@@ -70,7 +70,7 @@ impl Tally {
 
 /// Puts a copy of the value last, where it is there more than once.
 ///
-/// Errors: where memory runs out.
+/// Errors: out of memory.
 pub fn push_repeated(
     alloc: Global,
     value: &Value,

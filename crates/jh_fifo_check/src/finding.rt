@@ -120,7 +120,7 @@ fn named_by_reason(alloc: Global, reason: FifoReason) -> Result<Vec<usize>, Allo
 
 /// The numbers of the operations that a verdict names: of a yes none, else one or two.
 ///
-/// Errors: where memory runs out.
+/// Errors: out of memory.
 pub fn named_by_verdict(alloc: Global, verdict: &FifoVerdict) -> Result<Vec<usize>, AllocError>
     ensures { IfOk result (λ named. named.items ≡ rule.named_by_verdict verdict.now) }
 {

@@ -26,7 +26,7 @@ impl Element for KeyFinding {
 
 /// The verdict on all keys together: false over unknown over true, and of none true.
 ///
-/// Errors: where memory runs out.
+/// Errors: out of memory.
 pub fn verdict_of_all(alloc: Global, found: &[KeyFinding]) -> Result<Verdict, AllocError>
     ensures { IfOk result (λ verdict. verdict ≡ rule.verdict_of_all found.now) }
 {

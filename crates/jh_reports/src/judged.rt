@@ -27,7 +27,7 @@ pub struct Output {
 
 /// The line of what is found in a history, with its line feed, and the exit status of its verdict.
 ///
-/// Error: memory was refused.
+/// Errors: out of memory.
 pub fn output_of_finding(alloc: Global, finding: &Finding) -> Result<Output, AllocError>
     ensures status { IfOk result
         (λ output. output.status ≡ verdict_status (finding_verdict finding.now)) }
@@ -75,7 +75,7 @@ pub fn judge_keys(alloc: Global, history: &[Op], judging: Judging<'_>) -> Result
 /// The line of what is found of all keys, with its line feed, and the exit status of the verdict on
 /// them.
 ///
-/// Error: memory was refused.
+/// Errors: out of memory.
 pub fn output_of_keys(alloc: Global, found: &[KeyFinding]) -> Result<Output, AllocError>
     ensures status { IfOk result
         (λ output. output.status ≡ verdict_status (verdict_of_all found.now)) }

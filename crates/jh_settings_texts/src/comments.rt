@@ -16,7 +16,7 @@ use std::alloc::{AllocError, Global};
 ///
 /// Takes time and memory in proportion to the text.
 ///
-/// Error: memory was refused.
+/// Errors: out of memory.
 pub fn settings_behind(
     alloc: Global,
     comment: &str,

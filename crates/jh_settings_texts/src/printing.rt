@@ -68,7 +68,7 @@ pub(crate) fn generator_text(alloc: Global, source: &Gen) -> Result<String, Allo
 
 /// The value of an entry over these nodes, as a schedule has it: AT and STEP.
 ///
-/// Error: memory was refused.
+/// Errors: out of memory.
 pub fn value_of_entry(alloc: Global, nodes: &Nodes, entry: &Entry) -> Result<Value, AllocError>
     requires { FitsNodes (length nodes.now) entry.now.step }
     ensures { IfOk result (λ value. view value ≡ entry_value nodes.now entry.now) }

@@ -70,7 +70,7 @@ pub(crate) fn due(alloc: Global, at: u32, spread: Option<Spread>) -> Result<Valu
 ///
 /// Takes time and memory in proportion to the text.
 ///
-/// Error: memory was refused.
+/// Errors: out of memory.
 pub fn schedule_to_text(
     alloc: Global,
     nodes: &Nodes,

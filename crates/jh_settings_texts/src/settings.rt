@@ -91,7 +91,7 @@ pub fn can_be_written(plan: &Plan) -> bool
 ///
 /// Takes time and memory in proportion to the text.
 ///
-/// Error: memory was refused.
+/// Errors: out of memory.
 pub fn settings_to_text(alloc: Global, plan: &Plan, budget: u64) -> Result<String, AllocError>
     requires can { CanBeWritten plan.now }
     requires few { budget ≤ max_budget }

@@ -63,7 +63,7 @@ fn window_in(choice: Choice, total: usize, calls: &[Call], marks: &[Mark]) -> Wi
 /// Takes O(n log n) for n records of which few are of the nemesis, and for those what `bands_of` and
 /// `lines_of` take.
 ///
-/// Errors: where memory runs out.
+/// Errors: out of memory.
 pub fn section_of(
     alloc: Global,
     heading: Vec<u8>,

@@ -372,7 +372,7 @@ fn joined(alloc: Global, verdict: Verdict, said: &[u8]) -> Result<Vec<u8>, Alloc
 /// The title of a page of one history: the verdict and what was found in one sentence, or, where
 /// nothing was judged, that it is a history.
 ///
-/// Error: memory was refused.
+/// Errors: out of memory.
 pub fn title_of(alloc: Global, found: Option<&Finding>) -> Result<Vec<u8>, AllocError>
     ensures { IfOk result
         (λ title. title.items ≡ rule.history_title (option_copied found.entry)) }
@@ -436,7 +436,7 @@ fn keys_reason(
 /// The title of a page of independent keys that were judged: the verdict on them all, and how many
 /// have it.
 ///
-/// Error: memory was refused.
+/// Errors: out of memory.
 pub fn title_of_keys(
     alloc: Global,
     verdict: Verdict,

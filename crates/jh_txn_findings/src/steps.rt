@@ -54,7 +54,7 @@ fn found_why(
 ///
 /// Takes time linear in the steps and in the size of the values.
 ///
-/// Errors: where memory runs out.
+/// Errors: out of memory.
 pub fn found_steps(
     alloc: Global,
     keys: &Numbers,
