@@ -36,7 +36,7 @@ use std::io::{Read, Write};
 /// | line | what is left | status |
 /// |---|---|---|
 /// | `:minimal` | the run fails, and passes without any one of the entries | 1 |
-/// | `:budget` | the fewest with which it failed, when `budget` runs were made; the given ones, where none may be made | 2 |
+/// | `:budget` | the fewest with which it failed, when all `runs` were made; the given ones, where none may be made | 2 |
 /// | `:not-failing` | the given ones: the run does not fail, or that is not known | 0 |
 ///
 /// The mode of the settings means nothing. The same input gives the same runs each time
@@ -50,17 +50,17 @@ pub fn shrink_run<R: Read, W: Write, O: ShrinkObserver>(
     alloc: Global,
     reader: &mut R,
     writer: &mut W,
-    budget: u64,
+    runs: u64,
     observer: &mut O,
 ) -> Result<u8, CliError>
     ensures written { IfOk result (λ status. WritesOutput (R.remaining reader.old)
-        (IsShrinkTextOf budget) status (W.contents writer.old) (W.contents writer.new)) }
+        (IsShrinkTextOf runs) status (W.contents writer.old) (W.contents writer.new)) }
     ensures refused { IfErr result (λ e. OnInput (R.remaining reader.old)
-        (λ input. RefusesShrinking budget input e)) }
+        (λ input. RefusesShrinking runs input e)) }
     ensures unwritten { IfErr result (λ e. e ≢ CliError.Write → writer.new ≡ writer.old) }
 {
     let input = read_bytes(alloc, reader, MAX_READS)?;
-    let output = shrink_bytes(alloc, &input, budget, observer)?;
+    let output = shrink_bytes(alloc, &input, runs, observer)?;
     finish(output, writer)
 }
 
@@ -68,16 +68,16 @@ pub fn shrink_run<R: Read, W: Write, O: ShrinkObserver>(
 fn shrink_bytes<O: ShrinkObserver>(
     alloc: Global,
     input: &[u8],
-    budget: u64,
+    runs: u64,
     observer: &mut O,
 ) -> Result<Output, CliError>
     ensures { MatchResult result
-        (λ output. IsShrinkTextOf budget input.now output.status output.text.items)
+        (λ output. IsShrinkTextOf runs input.now output.status output.text.items)
         (RefusesShrinkBytes input.now) }
 {
     let settings = settings_of(alloc, input)?;
     let plan = &settings.plan;
-    let Ok(shrunk) = shrink_plan(alloc, plan, settings.budget, budget, observer) else {
+    let Ok(shrunk) = shrink_plan(alloc, plan, settings.budget, runs, observer) else {
         return Err(CliError::OutOfMemory);
     };
     Ok(Output {
@@ -86,17 +86,17 @@ fn shrink_bytes<O: ShrinkObserver>(
     })
 }
 
-/// What is left of the schedule of a plan, by at most `budget` runs. Their histories are judged by a judge
+/// What is left of the schedule of a plan, by at most so many runs. Their histories are judged by a judge
 /// of the budget `judge_budget`.
 fn shrink_plan<O: ShrinkObserver>(
     alloc: Global,
     plan: &Plan,
     judge_budget: u64,
-    budget: u64,
+    runs: u64,
     observer: &mut O,
 ) -> Result<Shrunk, AllocError>
     ensures shrunk { IfOk result
-        (IsShrunk (RunAnswers plan.now judge_budget) budget plan.now.schedule) }
+        (IsShrunk (RunAnswers plan.now judge_budget) runs plan.now.schedule) }
     ensures fits { IfOk result (λ shrunk.
         All (λ entry. FitsNodes (length plan.now.env.names) entry.step) (text.schedule_of shrunk)) }
 {
@@ -104,7 +104,7 @@ fn shrink_plan<O: ShrinkObserver>(
     let judge = |schedule: &Schedule| -> Option<bool>
         ensures { RunAnswers plan.entry.now judge_budget schedule.now result }
     { answer_of(alloc, plan, judge_budget, schedule) };
-    match shrink(alloc, given, judge, budget, observer) {
+    match shrink(alloc, given, judge, runs, observer) {
         Ok(shrunk) => Ok(shrunk),
         Err(_) => Err(AllocError),
     }
