@@ -82,7 +82,7 @@ fn repeated(alloc: Global, ids: &[Value]) -> Result<Vec<Counted>, AllocError>
 /// Errors: `OutOfMemory`, and no other.
 ///
 /// Takes O(n log n) comparisons for n operations.
-pub fn check_ids(alloc: Global, history: &[Op]) -> Result<IdsResult, CheckError>
+pub fn check_unique(alloc: Global, history: &[Op]) -> Result<IdsResult, CheckError>
     ensures result { IfOk result (λ found. found ≡ ids_result (operations history.now)) }
     ensures memory { IsOkUnless result OutOfMemory }
 {

@@ -22,7 +22,7 @@ pub use asked::{in_normal_order, push_normal, sorted_normal, sorted_values};
 pub use counter::{CounterResult, ReadBounds, Reads, check_counter, read_ends};
 pub use distinct::{each_once, is_among, is_same, selected};
 pub use error::CheckError;
-pub use ids::{IdsResult, check_ids};
+pub use ids::{IdsResult, check_unique};
 pub use laws::same_values_are_equal;
 pub use lines::{write_count, write_counter, write_ids, write_keyword, write_set, write_verdict};
 pub use pairs::{asks, end_of, has_ended, is_ok_read, op_at, value_at};

@@ -12,7 +12,8 @@ use crate::register::{check_mutex, check_register, verdict_of_register};
 use crate::transactions::check_transactions;
 use jh_bank::BankResult;
 use jh_check::{
-    CheckError, CounterResult, IdsResult, SetResult, Verdict, check_counter, check_ids, check_set,
+    CheckError, CounterResult, IdsResult, SetResult, Verdict, check_counter, check_set,
+    check_unique,
 };
 use jh_edn::Value;
 use jh_fifo_check::{FifoFinding, check_fifo};
@@ -125,7 +126,7 @@ impl Finding {
     }
 }
 
-/// Judges a history by a checker: `check_set`, `check_counter` and `check_ids` of `jh_check`,
+/// Judges a history by a checker: `check_set`, `check_counter` and `check_unique` of `jh_check`,
 /// `check_total_queue`, `check_queue`, `check_bank` and `check_set_full` of the crates of their names,
 /// for a register or a mutex the judge of `jh_linear` over its operations, for transactions
 /// `find_transactions` of `jh_txn_check`, or for a first-in-first-out queue `check_fifo` of
@@ -158,7 +159,7 @@ pub fn check_history(
     match judging.checker {
         Checker::Set => Ok(Finding::Set(check_set(alloc, history)?)),
         Checker::Counter => Ok(Finding::Counter(check_counter(alloc, history)?)),
-        Checker::Ids => Ok(Finding::Ids(check_ids(alloc, history)?)),
+        Checker::Ids => Ok(Finding::Ids(check_unique(alloc, history)?)),
         Checker::Register => check_register(alloc, history, judging),
         Checker::ListAppend => check_transactions(alloc, history, judging),
         Checker::TotalQueue => Ok(Finding::TotalQueue(check_total_queue(alloc, history)?)),

@@ -9,7 +9,7 @@ use Rattle.jh_settings.specs.declared.choices.Mode.{Mode}
 use Rattle.jh_simnode.specs.Runs.{Stops}
 use Rattle.jh_simnode.specs.declared.serial.RunError.TheVariants as RunError
 use Rattle.jh_simnode.specs.declared.events.WorldError.TheVariants as WorldError
-use Rattle.jh_workers.specs.declared.monitor.ThreadsError.TheVariants as ThreadsError
+use Rattle.jh_workers.specs.declared.monitor.RunError.TheVariants as ThreadsError
 use Rattle.jh_ops.specs.Operation.{Operation}
 use Rattle.jh_simnode.specs.Plans.{PlanValue}
 use Rattle.jh_settings.specs.Settings as settings

@@ -12,7 +12,7 @@ use Rattle.jh_step_texts.specs.declared.steps.StepTextError.TheVariants as StepT
 use Rattle.jh_settings.specs.declared.error.SettingsError.TheVariants as SettingsError
 use Rattle.jh_simnode.specs.declared.events.WorldError.TheVariants as WorldError
 use Rattle.jh_simnode.specs.declared.serial.RunError.TheVariants as RunError
-use Rattle.jh_workers.specs.declared.monitor.ThreadsError.TheVariants as ThreadsError
+use Rattle.jh_workers.specs.declared.monitor.RunError.TheVariants as ThreadsError
 use Rattle.jh_search.specs.declared.threads.SearchError.TheVariants as SearchError
 use Rattle.jh_plots.specs.declared.error.PlotError.TheVariants as PlotError
 use Rattle.jh_cli.specs.declared.error.CliError.{CliError}

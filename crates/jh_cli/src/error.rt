@@ -18,7 +18,7 @@ use jh_search::SearchError;
 use jh_settings::SettingsError;
 use jh_simnode::{RunError, WorldError};
 use jh_step_texts::StepTextError;
-use jh_workers::ThreadsError;
+use jh_workers::RunError as ThreadsError;
 use std::alloc::{AllocError, AllocFailed};
 use std::error::Error;
 use std::fmt::{self, Display, Formatter};

@@ -30,7 +30,7 @@ use jh_reports::{Output, output_of_finding, write_report};
 use jh_run_laws::recorded_lines_are_text;
 use jh_settings::{Mode, RunSettings, settings_of};
 use jh_simnode::{Plan, nemesis_after};
-use jh_workers::{RecordedRun, ThreadsError, run_locked};
+use jh_workers::{RecordedRun, RunError as ThreadsError, run_locked};
 use std::alloc::{AllocError, Global};
 use std::io::{Read, Write};
 use std::sync::Wait;

@@ -19,7 +19,7 @@ use jh_ops::Op;
 use std::alloc::{AllocError, Global};
 use thiserror::Error;
 
-/// Why a serial run was not completed; `ThreadsError` of `jh_workers` says it of a run on threads.
+/// Why a serial run was not completed; `RunError` of `jh_workers` says it of a run on threads.
 #[derive(Clone, Copy, Debug, PartialEq, Eq, Error)]
 pub enum RunError {
     /// The world refused an event.

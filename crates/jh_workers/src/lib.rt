@@ -23,4 +23,4 @@ pub use locked::{LockedWorld, WorldShare};
 pub use locked_runs::{RecordedRun, run_locked};
 pub use ports::{Count, Port};
 pub use records::{GatherError, gather};
-pub use runs::{Outcome, ThreadsError, run};
+pub use runs::{Outcome, RunError, run};

@@ -9,7 +9,7 @@ ghost use Rattle.jh_workers.specs.Outcomes.{IsOutcome};
 ghost use Rattle.jh_workers.specs.Shown.{world_parts};
 
 use crate::locked::{LockedWorld, PARTS};
-use crate::monitor::ThreadsError;
+use crate::monitor::RunError;
 use crate::runs::{Outcome, run};
 use jh_ops::Op;
 use jh_simnode::{Event, Plan, World, world_of};
@@ -37,7 +37,7 @@ pub fn run_locked<R: Threads + Wait + Sync>(
     rt: &R,
     alloc: Global,
     plan: &Plan,
-) -> Result<RecordedRun, ThreadsError>
+) -> Result<RecordedRun, RunError>
     ensures outcome { IfOk result
         (λ run. IsOutcome plan.now run.journal.items (operations run.history.items)) }
     ensures gathered { IfOk result
@@ -46,7 +46,7 @@ pub fn run_locked<R: Threads + Wait + Sync>(
         (λ run. All (λ op. IsWritable op.process) (operations run.history.items)) }
 {
     let Ok(world) = world_of(alloc, plan) else {
-        return Err(ThreadsError::OutOfMemory);
+        return Err(RunError::OutOfMemory);
     };
     run_over::<Brand, R>(rt, alloc, plan, world, Blank::new(PARTS))
 }
@@ -59,7 +59,7 @@ fn run_over<L: Ledger + Send + Sync, R: Threads + Wait + Sync>(
     plan: &Plan,
     world: World,
     blank: Blank,
-) -> Result<RecordedRun, ThreadsError>
+) -> Result<RecordedRun, RunError>
     requires empty { world.journal ≡ [] }
     requires name { blank.name ≡ L.name }
     requires parts { blank.parts ≡ L.parts }

@@ -20,7 +20,7 @@ use thiserror::Error;
 
 /// Why a run on threads gave no outcome; `RunError` of `jh_simnode` says it of a serial run.
 #[derive(Clone, Copy, Debug, PartialEq, Eq, Error)]
-pub enum ThreadsError {
+pub enum RunError {
     /// The log has too few rows for the records.
     #[error("history full")]
     HistoryFull,
@@ -38,36 +38,36 @@ pub enum ThreadsError {
     OutOfMemory,
 }
 
-impl From<AllocError> for ThreadsError {
+impl From<AllocError> for RunError {
     ghost use Rattle.std.specs.Prelude.{◌≡◌};
-    ghost use Rattle.jh_workers.specs.declared.monitor.ThreadsError.TheVariants.{OutOfMemory};
+    ghost use Rattle.jh_workers.specs.declared.monitor.RunError.TheVariants.{OutOfMemory};
 
     ghost from_gives = { λ _ e. e ≡ OutOfMemory };
 
-    fn from(_error: AllocError) -> ThreadsError {
-        ThreadsError::OutOfMemory
+    fn from(_error: AllocError) -> RunError {
+        RunError::OutOfMemory
     }
 }
 
-impl From<WorldError> for ThreadsError {
+impl From<WorldError> for RunError {
     ghost use Rattle.std.specs.Prelude.{◌≡◌};
-    ghost use Rattle.jh_workers.specs.declared.monitor.ThreadsError.TheVariants.{World};
+    ghost use Rattle.jh_workers.specs.declared.monitor.RunError.TheVariants.{World};
 
     ghost from_gives = { λ error e. e ≡ World error };
 
-    fn from(error: WorldError) -> ThreadsError {
-        ThreadsError::World(error)
+    fn from(error: WorldError) -> RunError {
+        RunError::World(error)
     }
 }
 
-impl From<Full> for ThreadsError {
+impl From<Full> for RunError {
     ghost use Rattle.std.specs.Prelude.{◌≡◌};
-    ghost use Rattle.jh_workers.specs.declared.monitor.ThreadsError.TheVariants.{HistoryFull};
+    ghost use Rattle.jh_workers.specs.declared.monitor.RunError.TheVariants.{HistoryFull};
 
     ghost from_gives = { λ _ e. e ≡ HistoryFull };
 
-    fn from(_error: Full) -> ThreadsError {
-        ThreadsError::HistoryFull
+    fn from(_error: Full) -> RunError {
+        RunError::HistoryFull
     }
 }
 
@@ -96,7 +96,7 @@ struct RunState {
     /// Whether all threads are there.
     is_open: bool,
     /// The first error.
-    error: Option<ThreadsError>,
+    error: Option<RunError>,
 }
 
 impl RunState {
@@ -126,7 +126,7 @@ impl RunState {
     }
 
     /// Ends the run with an error, unless another one came first.
-    fn stop(&mut self, error: ThreadsError)
+    fn stop(&mut self, error: RunError)
         ensures first { MatchOption self.old.error (self.new.error ≡ Some error)
             (λ first. self.new.error ≡ Some first) }
         ensures others { (self.new.is_open ≡ self.old.is_open)
@@ -146,7 +146,7 @@ impl RunState {
     }
 
     /// The first error, once the threads have ended.
-    fn into_error(self) -> Option<ThreadsError>
+    fn into_error(self) -> Option<RunError>
         ensures { result ≡ self.error }
     {
         self.error
@@ -302,13 +302,13 @@ impl Monitor {
     }
 
     /// Ends the run with an error, unless another one came first.
-    pub(crate) fn stop(&self, rt: &impl Wait, error: ThreadsError) {
+    pub(crate) fn stop(&self, rt: &impl Wait, error: RunError) {
         self.state.lock(rt).stop(error);
         self.changed.notify_all();
     }
 
     /// The first error, once the threads have ended.
-    pub(crate) fn into_error(self) -> Option<ThreadsError> {
+    pub(crate) fn into_error(self) -> Option<RunError> {
         let Monitor { state, changed: _ } = self;
         state.into_inner().into_error()
     }

@@ -11,7 +11,7 @@ ghost use Rattle.jh_workers.specs.Gather.{IsGathered};
 
 use crate::log_seat::{LogSeat, OfLog};
 use crate::monitor::Monitor;
-pub use crate::monitor::ThreadsError;
+pub use crate::monitor::RunError;
 use crate::ports::{Count, Port};
 use crate::records::GatherError;
 use crate::workers::{Shared, Worker, work};
@@ -51,7 +51,7 @@ fn audited_outcome<S: Count + Drop>(
     history: Vec<Op>,
     journal: Vec<Event>,
     shares: Vec<S>,
-) -> Result<Outcome<S>, ThreadsError>
+) -> Result<Outcome<S>, RunError>
     ensures same { IfOk result
         (λ o. (o.history ≡ history) × (o.journal ≡ journal) × (o.shares ≡ shares)) }
     ensures audited { IfOk result (λ o. IsAudited o.journal.items (operations o.history.items)) }
@@ -60,16 +60,16 @@ fn audited_outcome<S: Count + Drop>(
     ensures counted { IfOk result (λ o. sum_by S.total o.shares.items ≡ length o.journal.items) }
 {
     let Some(sum) = sum_of(&shares) else {
-        return Err(ThreadsError::Mismatch);
+        return Err(RunError::Mismatch);
     };
     if sum != journal.len() as u64 {
-        return Err(ThreadsError::Mismatch);
+        return Err(RunError::Mismatch);
     }
     let Ok(()) = audit(journal.as_slice(), history.as_slice()) else {
-        return Err(ThreadsError::Mismatch);
+        return Err(RunError::Mismatch);
     };
     if !follows_plan(plan, journal.as_slice(), history.as_slice()) {
-        return Err(ThreadsError::Mismatch);
+        return Err(RunError::Mismatch);
     }
     Ok(Outcome {
         history,
@@ -86,7 +86,7 @@ fn make_workers<B: OfLog, P: Port, R: Wait>(
     slots: &Slots,
     log_seat: LogSeat<B>,
     count: u32,
-) -> Result<(LogSeat<B>, Vec<Worker<B, P::Share>>), ThreadsError>
+) -> Result<(LogSeat<B>, Vec<Worker<B, P::Share>>), RunError>
 where
     P::Share: Drop,
     requires { slots.now.table ≡ B.table }
@@ -95,17 +95,17 @@ where
     let mut workers = Vec::new(alloc);
     for _ in 0..count {
         let Some((one, other)) = own.split(slots) else {
-            return Err(ThreadsError::Thread);
+            return Err(RunError::Thread);
         };
         own = one;
         let Some(share) = port.share(rt) else {
-            return Err(ThreadsError::Thread);
+            return Err(RunError::Thread);
         };
         let Ok(()) = workers.push(Worker {
             log_seat: other,
             share,
         }) else {
-            return Err(ThreadsError::OutOfMemory);
+            return Err(RunError::OutOfMemory);
         };
     }
     Ok((own, workers))
@@ -119,7 +119,7 @@ trait Work<M, W> {
 
     /// Lets the work begin, once all threads are there, or ends it with an error where one could
     /// not be had.
-    fn begin<R: Wait>(&self, rt: &R, monitor: &M, error: Option<ThreadsError>);
+    fn begin<R: Wait>(&self, rt: &R, monitor: &M, error: Option<RunError>);
 }
 
 impl<B: OfLog, P: Port> Work<Monitor, Worker<B, P::Share>> for Shared<'_, B, P> {
@@ -133,7 +133,7 @@ impl<B: OfLog, P: Port> Work<Monitor, Worker<B, P::Share>> for Shared<'_, B, P> 
         work(rt, self, monitor, thread, worker)
     }
 
-    fn begin<R: Wait>(&self, rt: &R, monitor: &Monitor, error: Option<ThreadsError>) {
+    fn begin<R: Wait>(&self, rt: &R, monitor: &Monitor, error: Option<RunError>) {
         if let Some(error) = error {
             monitor.stop(rt, error);
         }
@@ -151,7 +151,7 @@ fn work_on_threads<S: Work<M, W> + Sync, M: Sync, W: Send + Drop, R: Threads + W
     shared: &S,
     monitor: &M,
     workers: Vec<W>,
-) -> Result<Vec<W>, ThreadsError> {
+) -> Result<Vec<W>, RunError> {
     let mut back = Vec::new(alloc);
     let mut lost = None;
     thread::scope(
@@ -166,18 +166,18 @@ fn work_on_threads<S: Work<M, W> + Sync, M: Sync, W: Send + Drop, R: Threads + W
                 let thread = place.min(u32::MAX as usize) as u32;
                 let Ok(handle) = scope.spawn(move || shared.work_at(rt, monitor, thread, worker))
                 else {
-                    error = Some(ThreadsError::Thread);
+                    error = Some(RunError::Thread);
                     break;
                 };
                 if handles.push(handle).is_err() {
-                    error = Some(ThreadsError::OutOfMemory);
+                    error = Some(RunError::OutOfMemory);
                     break;
                 }
             }
             shared.begin(rt, monitor, error);
             for handle in handles {
                 if back.push(handle.join(rt)).is_err() {
-                    lost = Some(ThreadsError::OutOfMemory);
+                    lost = Some(RunError::OutOfMemory);
                 }
             }
         },
@@ -195,7 +195,7 @@ fn gather_workers<B: OfLog, S: Drop>(
     slots: &Slots,
     own: LogSeat<B>,
     workers: Vec<Worker<B, S>>,
-) -> Result<(LogSeat<B>, Vec<S>), ThreadsError>
+) -> Result<(LogSeat<B>, Vec<S>), RunError>
     requires { slots.now.table ≡ B.table }
 {
     let mut log_seat = own;
@@ -207,7 +207,7 @@ fn gather_workers<B: OfLog, S: Drop>(
         } = worker;
         log_seat = log_seat.join(slots, other);
         let Ok(()) = shares.push(share) else {
-            return Err(ThreadsError::OutOfMemory);
+            return Err(RunError::OutOfMemory);
         };
     }
     Ok((log_seat, shares))
@@ -228,14 +228,14 @@ fn run_workers<B: OfLog + Send + Sync, P: Port + Sync, R: Threads + Wait + Sync>
     port: &P,
     slots: &Slots,
     log_seat: LogSeat<B>,
-) -> Result<(LogSeat<B>, Vec<P::Share>), ThreadsError>
+) -> Result<(LogSeat<B>, Vec<P::Share>), RunError>
 where
     P::Share: Send + Drop,
     requires { slots.now.table ≡ B.table }
 {
     let (own, workers) = make_workers(rt, alloc, port, slots, log_seat, plan.clients() + 1)?;
     let Ok(driver) = driver_of(alloc, plan) else {
-        return Err(ThreadsError::OutOfMemory);
+        return Err(RunError::OutOfMemory);
     };
     let monitor = Monitor::new(driver, plan.clients(), first_due(plan));
     let shared = Shared::<'_, B, P> {
@@ -262,7 +262,7 @@ fn run_on_log<B: OfLog + Send + Sync, P: Port + Sync, R: Threads + Wait + Sync>(
     port: &P,
     slots: &Slots,
     seat: Seat,
-) -> Result<Outcome<P::Share>, ThreadsError>
+) -> Result<Outcome<P::Share>, RunError>
 where
     P::Share: Send + Drop,
     requires slots { slots.now.table ≡ B.table }
@@ -282,8 +282,8 @@ where
     let (mut log_seat, shares) = run_workers::<B, P, R>(rt, alloc, plan, port, slots, own)?;
     let history = match log_seat.gather(alloc, slots, plan.rows() as usize) {
         Ok(history) => history,
-        Err(GatherError::BadWords(_)) => return Err(ThreadsError::Mismatch),
-        Err(GatherError::OutOfMemory) => return Err(ThreadsError::OutOfMemory),
+        Err(GatherError::BadWords(_)) => return Err(RunError::Mismatch),
+        Err(GatherError::OutOfMemory) => return Err(RunError::OutOfMemory),
     };
     let journal = port.events(rt, alloc)?;
     audited_outcome(plan, history, journal, shares)
@@ -310,7 +310,7 @@ pub fn run<P: Port + Sync, R: Threads + Wait + Sync>(
     alloc: Global,
     plan: &Plan,
     port: &P,
-) -> Result<Outcome<P::Share>, ThreadsError>
+) -> Result<Outcome<P::Share>, RunError>
 where
     P::Share: Send + Drop,
     ensures audited { IfOk result (λ o. IsAudited o.journal.items (operations o.history.items)) }
@@ -325,11 +325,11 @@ where
         (λ o. All (λ op. IsWritable op.process) (operations o.history.items)) }
 {
     if !port.events(rt, alloc)?.is_empty() {
-        return Err(ThreadsError::Mismatch);
+        return Err(RunError::Mismatch);
     }
     // A plan has from 1 to as many rows as a log may have, so memory alone can be refused here.
     let Ok((slots, seat)) = Slots::new(alloc, plan.rows()) else {
-        return Err(ThreadsError::OutOfMemory);
+        return Err(RunError::OutOfMemory);
     };
     run_on_log::<Brand, P, R>(rt, alloc, plan, port, &slots, seat)
 }

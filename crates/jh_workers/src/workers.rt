@@ -15,7 +15,7 @@ ghost use Rattle.jh_workers.specs.RecordsInside.{HoldsWords, Publishes, Publishe
 ghost use Rattle.jh_ops.specs.declared.operation.Op.{Op};
 
 use crate::log_seat::{LogSeat, OfLog};
-use crate::monitor::{Assignment, Monitor, ThreadsError};
+use crate::monitor::{Assignment, Monitor, RunError};
 use crate::ports::{Count, Port};
 use crate::records::MAX_WORDS;
 use jh_env::Node;
@@ -93,7 +93,7 @@ fn publish<B: OfLog, P: Port>(
     claim: Claim,
     rows: u32,
     made: Result<Op, AllocError>,
-) -> Result<(), ThreadsError>
+) -> Result<(), RunError>
     requires holds { HoldsWords log_seat.old.seat.knows claim.first claim.rows × (claim.rows ≡ rows) }
     requires rows { rows ≤ max_claimed }
     ensures { OnOk result ((op : Op) × (made ≡ Ok op)
@@ -101,10 +101,10 @@ fn publish<B: OfLog, P: Port>(
 {
     let Ok(op) = made else {
         log_seat.void(shared.slots, claim);
-        return Err(ThreadsError::OutOfMemory);
+        return Err(RunError::OutOfMemory);
     };
     let Ok(()) = log_seat.publish(shared.slots, claim, rows, &op) else {
-        return Err(ThreadsError::Mismatch);
+        return Err(RunError::Mismatch);
     };
     Ok(())
 }
@@ -115,7 +115,7 @@ fn record_invocation<B: OfLog, P: Port>(
     log_seat: &mut LogSeat<B>,
     process: u64,
     request: Request,
-) -> Result<(), ThreadsError>
+) -> Result<(), RunError>
     ensures { OnOk result
         (Publishes log_seat.old.seat.knows.seen
         (rule.invocation process request) log_seat.new.seat.knows.seen) }
@@ -133,7 +133,7 @@ fn record_completion<B: OfLog, P: Port>(
     process: u64,
     request: Request,
     reply: &Reply,
-) -> Result<(), ThreadsError>
+) -> Result<(), RunError>
     requires { event_number < 2 ^ 63 }
     ensures { OnOk result (Publishes log_seat.old.seat.knows.seen
         (rule.completion event_number process request reply.now) log_seat.new.seat.knows.seen) }
@@ -149,7 +149,7 @@ fn record_begin<B: OfLog, P: Port>(
     shared: &Shared<'_, B, P>,
     log_seat: &mut LogSeat<B>,
     entry_place: u64,
-) -> Result<(), ThreadsError>
+) -> Result<(), RunError>
     requires { entry_place < 2 ^ 63 }
     ensures { OnOk result
         (Publishes log_seat.old.seat.knows.seen (rule.entry_invocation entry_place)
@@ -167,7 +167,7 @@ fn record_end<B: OfLog, P: Port>(
     event_number: u64,
     entry_place: u64,
     answer: StepAnswer,
-) -> Result<(), ThreadsError>
+) -> Result<(), RunError>
     requires event { event_number < 2 ^ 63 }
     requires entry { entry_place < 2 ^ 63 }
     ensures { OnOk result (Publishes log_seat.old.seat.knows.seen
@@ -194,7 +194,7 @@ fn serve<B: OfLog, P: Port, R: Wait>(
     monitor: &Monitor,
     worker: &mut Worker<B, P::Share>,
     asked: ClientCall,
-) -> Result<Ended, ThreadsError>
+) -> Result<Ended, RunError>
     ensures called { OnOk result (P.Share.total worker.new.share ≡ P.Share.total worker.old.share + 1) }
     ensures recorded { IfOk result
         (λ ended. (reply : Reply) × (number : ℕ) × (ended ≡ running.reply_ending reply)
@@ -230,7 +230,7 @@ fn apply_entry<B: OfLog, P: Port, R: Wait>(
     worker: &mut Worker<B, P::Share>,
     entry_place: u64,
     entry: &Entry,
-) -> Result<(), ThreadsError>
+) -> Result<(), RunError>
     requires { entry_place < 2 ^ 63 }
     ensures called { OnOk result (P.Share.total worker.new.share ≡ P.Share.total worker.old.share + 1) }
     ensures recorded { OnOk result ((answer : StepAnswer) × (event : ℕ)
@@ -250,7 +250,7 @@ fn tick_if_due<B: OfLog, P: Port, R: Wait>(
     shared: &Shared<'_, B, P>,
     worker: &mut Worker<B, P::Share>,
     calls: u32,
-) -> Result<(), ThreadsError>
+) -> Result<(), RunError>
     ensures ticked { OnOk result (P.Share.total worker.new.share
         ≡ P.Share.total worker.old.share + (if ticks_at shared.now.plan.now calls then 1 else 0)) }
 {
@@ -267,7 +267,7 @@ fn work_as_client<B: OfLog, P: Port, R: Wait>(
     monitor: &Monitor,
     thread: u32,
     worker: &mut Worker<B, P::Share>,
-) -> Result<(), ThreadsError> {
+) -> Result<(), RunError> {
     let stream = u128::from(thread) + FIRST_THREAD_STREAM;
     let mut numbers = Lcg128Xsl64::new(u128::from(shared.plan.seed()), stream);
     let mut calls: u32 = 0;
@@ -300,7 +300,7 @@ fn work_on_schedule<B: OfLog, P: Port, R: Wait>(
     shared: &Shared<'_, B, P>,
     monitor: &Monitor,
     worker: &mut Worker<B, P::Share>,
-) -> Result<(), ThreadsError> {
+) -> Result<(), RunError> {
     for (place, entry) in shared.plan.schedule().entries().iter().enumerate() {
         if !monitor.wait_until_due(rt, entry.at) {
             break;

@@ -8,7 +8,7 @@ use jh_env::Node;
 use jh_nemesis::{Step, StepAnswer};
 use jh_ops::Request;
 use jh_simnode::{Event, Got, MAX_EVENTS, Plan, Reply, WorldError};
-use jh_workers::{Count, Outcome, Port, ThreadsError, run};
+use jh_workers::{Count, Outcome, Port, RunError, run};
 use std::alloc::{AllocError, Global};
 use std::sync::{Mutex, Wait};
 use std::thread;
@@ -178,10 +178,10 @@ impl Port for Gate {
 }
 
 /// How many operations and events a run through the gate has, or its error.
-type Counts = Result<(usize, usize), ThreadsError>;
+type Counts = Result<(usize, usize), RunError>;
 
 /// How many operations and events an outcome has, or the error.
-fn counts_of(answer: Result<Outcome<Counted>, ThreadsError>) -> Counts {
+fn counts_of(answer: Result<Outcome<Counted>, RunError>) -> Counts {
     match answer {
         Ok(outcome) => Ok((outcome.history.len(), outcome.journal.len())),
         Err(error) => Err(error),
@@ -285,7 +285,7 @@ fn is_ended<R: Threads + Wait + Sync>(
 
 #[test]
 fn a_refusal_ends_a_run(rt: HostRuntime) {
-    let refusal = Err(ThreadsError::World(WorldError::TooManyEvents));
+    let refusal = Err(RunError::World(WorldError::TooManyEvents));
     assert!(rt; is_ended(&rt, rt.alloc(), Refused::Calls, refusal));
     assert!(rt; is_ended(&rt, rt.alloc(), Refused::Steps, refusal));
     assert!(rt; is_ended(&rt, rt.alloc(), Refused::Ticks, refusal));

@@ -13,7 +13,7 @@ use jh_edn::write;
 use jh_nemesis::Nemesis;
 use jh_ops::{Kind, Op, Process};
 use jh_simnode::{Event, Plan, nemesis_after};
-use jh_workers::{ThreadsError, audit, follows_plan};
+use jh_workers::{RunError, audit, follows_plan};
 use std::alloc::Global;
 use std::sync::Wait;
 use std::test::Fail;
@@ -95,7 +95,7 @@ fn outcome_text(alloc: Global, plan: &Plan, journal: &[Event], history: &[Op]) -
     format!(in alloc; "{counts}, {active} active, {audited}, {compared}").ok()
 }
 
-fn error_text(alloc: Global, error: ThreadsError) -> Option<String> {
+fn error_text(alloc: Global, error: RunError) -> Option<String> {
     if may_lack_memory(error) {
         return None;
     }

@@ -8,7 +8,7 @@ use jh_nemesis::Step;
 use jh_ops::Op;
 use jh_settings::settings_of;
 use jh_simnode::{Event, Plan, World, WorldError, world_of};
-use jh_workers::{LockedWorld, Outcome, Port, ThreadsError, run};
+use jh_workers::{LockedWorld, Outcome, Port, RunError, run};
 use std::alloc::Global;
 use std::marker::Brand;
 use std::sync::Wait;
@@ -19,15 +19,15 @@ use std::thread::Threads;
 #[derive(Drop)]
 pub(crate) struct Finished {
     /// Its history, or why it gave none.
-    pub(crate) history: Result<Vec<Op>, ThreadsError>,
+    pub(crate) history: Result<Vec<Op>, RunError>,
     /// What a second run over the same world came to, which should give nothing.
-    pub(crate) again: Option<ThreadsError>,
+    pub(crate) again: Option<RunError>,
     /// The journal of the world, where memory sufficed to copy it.
     pub(crate) journal: Option<Vec<Event>>,
 }
 
 /// The history of an outcome.
-fn history_in<S>(outcome: Result<Outcome<S>, ThreadsError>) -> Result<Vec<Op>, ThreadsError>
+fn history_in<S>(outcome: Result<Outcome<S>, RunError>) -> Result<Vec<Op>, RunError>
 where
     S: Drop,
 {
@@ -44,7 +44,7 @@ where
 }
 
 /// The error that came in place of an outcome.
-fn error_in<S>(outcome: Result<Outcome<S>, ThreadsError>) -> Option<ThreadsError>
+fn error_in<S>(outcome: Result<Outcome<S>, RunError>) -> Option<RunError>
 where
     S: Drop,
 {
@@ -114,12 +114,10 @@ pub(crate) fn plan_of(alloc: Global, settings: &str) -> Option<Plan> {
 }
 
 /// Whether a run may end with this error where memory is refused.
-pub(crate) fn may_lack_memory(error: ThreadsError) -> bool {
+pub(crate) fn may_lack_memory(error: RunError) -> bool {
     matches!(
         error,
-        ThreadsError::OutOfMemory
-            | ThreadsError::World(WorldError::OutOfMemory)
-            | ThreadsError::Thread
+        RunError::OutOfMemory | RunError::World(WorldError::OutOfMemory) | RunError::Thread
     )
 }
 

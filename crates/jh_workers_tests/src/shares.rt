@@ -6,7 +6,7 @@ ghost use Rattle.std.specs.Prelude.{◌≡◌, []};
 
 use crate::runs::plan_of;
 use jh_simnode::{Plan, World, world_of};
-use jh_workers::{LockedWorld, Outcome, Port, ThreadsError, WorldShare, run};
+use jh_workers::{LockedWorld, Outcome, Port, RunError, WorldShare, run};
 use std::alloc::Global;
 use std::marker::Brand;
 use std::sync::Wait;
@@ -137,7 +137,7 @@ fn run_beside<L: Ledger + Send + Sync, R: Threads + Wait + Sync>(
             true => Some("an outcome"),
             false => Some("another journal"),
         },
-        Err(ThreadsError::Thread) => Some("thread failed"),
+        Err(RunError::Thread) => Some("thread failed"),
         Err(_) => None,
     }
 }

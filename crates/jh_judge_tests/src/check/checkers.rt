@@ -3,8 +3,8 @@
 use crate::check::rows::{Ask, ask_all};
 use crate::spelled::ops_of;
 use jh_check::{
-    CheckError, CounterResult, IdsResult, SetResult, Verdict, check_counter, check_ids, check_set,
-    end_of, final_read, in_normal_order, is_among, is_ok_read, merge, read_ends,
+    CheckError, CounterResult, IdsResult, SetResult, Verdict, check_counter, check_set,
+    check_unique, end_of, final_read, in_normal_order, is_among, is_ok_read, merge, read_ends,
     same_values_are_equal,
 };
 use jh_edn::Value;
@@ -92,7 +92,7 @@ fn merges_verdicts(rt: HostRuntime) {
 fn verdicts_on_nothing(alloc: Global) -> Result<[Verdict; 3], CheckError> {
     let set: SetResult = check_set(alloc, &[])?;
     let counter: CounterResult = check_counter(alloc, &[])?;
-    let ids: IdsResult = check_ids(alloc, &[])?;
+    let ids: IdsResult = check_unique(alloc, &[])?;
     Ok([set.verdict, counter.verdict, ids.verdict])
 }
 

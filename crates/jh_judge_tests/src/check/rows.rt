@@ -9,7 +9,7 @@ ghost use Rattle.jh_linear.specs.Order.{EndAfterInvoked};
 
 use crate::spelled::ops_of;
 use jh_check::{
-    CheckError, check_counter, check_ids, check_set, write_counter, write_ids, write_set,
+    CheckError, check_counter, check_set, check_unique, write_counter, write_ids, write_set,
 };
 use jh_edn::EdnError;
 use jh_linear::{LinVerdict, Object, RegOp, RegOpsError, check, check_order, reg_ops};
@@ -47,7 +47,7 @@ fn line_of(alloc: Global, workload: Workload, ops: &[Op]) -> Result<Vec<u8>, Che
     let written: Result<(), EdnError> = match workload {
         Workload::Set => write_set(&check_set(alloc, ops)?, &mut line),
         Workload::Counter => write_counter(&check_counter(alloc, ops)?, &mut line),
-        _ => write_ids(&check_ids(alloc, ops)?, &mut line),
+        _ => write_ids(&check_unique(alloc, ops)?, &mut line),
     };
     match written {
         Ok(()) => Ok(line),

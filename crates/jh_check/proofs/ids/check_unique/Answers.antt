@@ -13,7 +13,7 @@ use Rattle.jh_check.specs.Verdicts.{verdict_of}
 use Rattle.jh_check.proofs.ListLemmas.{count_by-map}
 use Rattle.jh_check.proofs.DistinctLemmas.{length_in_order}
 use Rattle.jh_check.proofs.SearchLemmas.{count_in_order}
-use Rattle.jh_check.proofs.ids.check_ids.Goals as goal
+use Rattle.jh_check.proofs.ids.check_unique.Goals as goal
 
 pub returns-clause-result : goal.returns-clause-result
 returns-clause-result c =
