@@ -390,12 +390,13 @@ Options:
 
 It writes the verdict, and what it stands on. Of a register or a mutex that is not valid,
 --explain adds the completion at which it is stuck, an order of what is before that, the value
-that this order leads to, and the numbers of the operations that are pending there; of
-list-append and fifo-queue, the operations that the line names. Other workloads say themselves
-what is wrong. A bank needs --accounts and --total, and with --negative-balances accounts may be
-overdrawn; stale reads of a set-full are allowed without --linearizable; a mutex is free at
-first without --locked. An empty history is valid: --at-least N answers that it is not known
-whether one is, where fewer than N calls of the workload's functions ended :ok.
+that this order leads to, the numbers of the operations that are pending there, and, where each
+value of a register is written once, the reason with the operations that show it; of list-append
+and fifo-queue, the operations that the line names. Other workloads say themselves what is wrong.
+A bank needs --accounts and --total, and with --negative-balances accounts may be overdrawn; stale
+reads of a set-full are allowed without --linearizable; a mutex is free at first without --locked.
+An empty history is valid: --at-least N answers that it is not known whether one is, where fewer
+than N calls of the workload's functions ended :ok.
 
 Exit status: 0 valid, 1 not valid, 2 unknown, 3 refused arguments or input, 4 where
 memory ran out, a read or a write failed, or a thread could not be had
