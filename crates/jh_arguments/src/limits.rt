@@ -9,7 +9,7 @@ pub(crate) const MAX_CANDIDATES: i64 = i64::MAX;
 /// The most random faults of a candidate.
 pub(crate) const MAX_FAULTS: i64 = 256;
 
-/// The longest time over which calls are spread: a day. So is `MAX_TIME_MS` of `jh_drive_settings`,
+/// The longest time over which calls are spread: a day. So is `MAX_TIME_MS` of `jh_settings`,
 /// for another reason: it is the latest moment of a test.
 pub(crate) const MAX_SPREAD_MS: i64 = 86_400_000;
 

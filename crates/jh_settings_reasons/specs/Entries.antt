@@ -12,7 +12,7 @@ use Rattle.jh_settings_reasons.specs.declared.key_texts.SettingsKind.{SettingsKi
 use Rattle.jh_settings_reasons.specs.declared.schedule.EntryError.{EntryError}
 
 -- The text of an error; that of an error of EDN or of a step is that error's own, which no clause knows.
--- The numbers in a text are `max_due_at`, `max_calls` and `max_moment_ms` of Moments.antt.
+-- The numbers in a text are `max_due_at` and `max_time_ms` of jh_settings, and `max_calls` of jh_gen.
 abbrev pub entry_error_text : EntryError → Option (List ℕ)
 entry_error_text (EntryError.Text error) = text_error_text error
 entry_error_text EntryError.NoPair = Some (codes "not [AT STEP]")

@@ -4,13 +4,8 @@ use Rattle.std.specs.Prelude.{Option, Some}
 use Rattle.std.specs.Str.{bytes_eq}
 use Rattle.jh_edn.specs.Edn.{Edn, int, keyword, elements_of}
 use Rattle.jh_gen.specs.DriverState.{max_calls}
-use Rattle.jh_settings.specs.Limits.{max_due_at}
+use Rattle.jh_settings.specs.Limits.{max_due_at, max_time_ms}
 use Rattle.jh_settings_reasons.specs.declared.key_texts.SettingsKind.{SettingsKind}
-
--- The latest moment at which an entry of a test is due, in milliseconds: a day. Of the settings
--- themselves it is `max_time_ms` of jh_drive_settings, a crate that this one does not use.
-abbrev pub max_moment_ms : ℕ
-max_moment_ms = 86400000
 
 abbrev pub is_up_to : ℤ → ℕ → Bool
 is_up_to (pos n) most = nat_le n most
@@ -19,7 +14,7 @@ is_up_to _ most = false
 -- a time, as settings of a test write one
 abbrev pub is_time_in : Option (List Edn) → Bool
 is_time_in (Some (keyword name ∷ int z ∷ [])) =
-    if bytes_eq name (codes "ms") then is_up_to z max_moment_ms else false
+    if bytes_eq name (codes "ms") then is_up_to z max_time_ms else false
 is_time_in _ = false
 
 -- When an entry of a test is due: a number of answered calls, or a time. The settings themselves

@@ -7,12 +7,7 @@ ghost use Rattle.jh_settings_reasons.specs.Moments as rule;
 use crate::key_texts::SettingsKind;
 use jh_edn::Value;
 use jh_gen::MAX_CALLS;
-use jh_settings::MAX_DUE_AT;
-
-/// The latest moment at which an entry of a test is due, in milliseconds: a day. Who reads the
-/// settings refuses by the same number, `MAX_TIME_MS` of `jh_drive_settings`, a crate that this one does
-/// not use. The day of `MAX_SPREAD_MS` (`jh_arguments`) has another reason: `search` spreads a schedule over it.
-pub(crate) const MAX_MOMENT_MS: u32 = 86_400_000;
+use jh_settings::{MAX_DUE_AT, MAX_TIME_MS};
 
 /// Whether an integer is from 0 to the most.
 fn is_up_to(number: i64, most: u32) -> bool
@@ -33,7 +28,7 @@ fn is_test_moment(element: &Value) -> bool
     }
     match element.elements() {
         Some([Value::Keyword(name), Value::Int(at)]) if name.as_str() == "ms" => {
-            is_up_to(*at, MAX_MOMENT_MS)
+            is_up_to(*at, MAX_TIME_MS)
         }
         _ => false,
     }
