@@ -10,8 +10,8 @@ use Rattle.jh_checkers.proofs.RefusalLemmas.{none_bad}
 use Rattle.jh_checkers.proofs.StuckLemmas.{stuck_within}
 use Rattle.jh_checkers.proofs.register.judged_object.Goals as goal
 
-pub explained-requires : goal.explained-requires
-explained-requires c = λ stuck is.
+pub explained-requires-clause-within : goal.explained-requires-clause-within
+explained-requires-clause-within c = λ stuck is.
     let history = operations c.args.history.now in
     let ops = c.in-Ok.ops.items in
     let initial = c.args.initial in
@@ -20,7 +20,15 @@ explained-requires c = λ stuck is.
     subst (IsJudged ops initial c.args.judging.budget) is (rw c.deref-2.ensures.value at c.in_ok-judged.ensures.judged) in
     subst (λ (count : ℕ). stuck.end < count) (length-map c.args.history.now operation) (stuck_within c.args.object history ops initial stuck are judged.2)
 
--- memory is wanted where each pair stands for an operation
+pub explained-requires-clause-none : goal.explained-requires-clause-none
+explained-requires-clause-none c = λ stuck is.
+    let ops = c.in-Ok.ops.items in
+    let initial = c.args.initial in
+    let judged : IsJudged ops initial c.args.judging.budget (Invalid stuck) =
+    subst (IsJudged ops initial c.args.judging.budget) is (rw c.deref-2.ensures.value at c.in_ok-judged.ensures.judged) in
+    judged.1
+
+-- memory can run out where each pair stands for an operation
 pub returns-in_err-judged : goal.returns-in_err-judged
 returns-in_err-judged c =
     let history = operations c.args.history.now in
