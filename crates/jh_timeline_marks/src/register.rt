@@ -1,9 +1,11 @@
 //! The marks of registers. `specs/Marked.antt` has the rule.
 
-ghost use Rattle.std.specs.Prelude.{◌≡◌, IfOk};
+ghost use Rattle.std.specs.Prelude.{◌≡◌, ℕ, IfOk};
+ghost use Rattle.std.specs.BTreeMap.{get};
+ghost use Rattle.std.specs.Ordering.{nat_cmp};
 ghost use Rattle.jh_ops.specs.Operation.{operations};
 ghost use Rattle.jh_timeline_marks.specs.Marked as rule;
-ghost use Rattle.jh_timeline_marks.specs.Marked.{marks_by, register_note};
+ghost use Rattle.jh_timeline_marks.specs.Marked.{marks_by, place_among, register_note};
 ghost use Rattle.jh_timeline_marks.specs.MarkedInside as inside;
 
 use crate::held::{held_along, place_along};
@@ -16,6 +18,7 @@ use jh_linear::{LinVerdict, Stuck};
 use jh_ops::Op;
 use jh_timeline::{Call, Mark, Note, Place};
 use std::alloc::{AllocError, Global};
+use std::collections::BTreeMap;
 
 /// The numbers of what is pending, where that is known.
 fn pending_in(explanation: &Option<Explanation>) -> &[usize]
@@ -38,6 +41,18 @@ fn named_in(alloc: Global, explanation: &Option<Explanation>) -> Result<Vec<usiz
         Some(reason) => named_by_unique_reason(alloc, reason),
         None => Ok(Vec::new(alloc)),
     }
+}
+
+/// The first place that each of these numbers has among them.
+fn named_places(
+    alloc: Global,
+    explanation: &Option<Explanation>,
+) -> Result<BTreeMap<usize, usize>, AllocError>
+    ensures { IfOk result (λ places. (number : ℕ) → get nat_cmp places number
+        ≡ place_among (rule.named_numbers_in explanation.now) number) }
+{
+    let named = named_in(alloc, explanation)?;
+    places_of(alloc, &named)
 }
 
 /// The note of a call where a history is stuck, with this place in the order of what is before.
@@ -74,16 +89,18 @@ fn invalid_marks(
         ≡ marks_by (rule.stuck_note stuck.now explanation.now (operations history.now)) calls.now) }
 {
     let numbers = numbers_of(alloc, history)?;
-    let named_numbers = named_in(alloc, explanation)?;
-    let named = places_of(alloc, &named_numbers)?;
+    let named = named_places(alloc, explanation)?;
     let pending = places_of(alloc, pending_in(explanation))?;
     let places = places_of(alloc, stuck.order.as_slice())?;
     let held = held_along(alloc, history, stuck.order.as_slice())?;
     let mut marks = Vec::new(alloc);
     for (number, call) in calls.iter().enumerate() {
-        let is_named = place_through(&numbers, &named, call.first).is_some();
-        let is_pending = place_through(&numbers, &pending, call.first).is_some();
-        let place = place_along(&held, place_through(&numbers, &places, call.first));
+        let named_place = place_through(&numbers, &named, call.first);
+        let pending_place = place_through(&numbers, &pending, call.first);
+        let order_place = place_through(&numbers, &places, call.first);
+        let is_named = named_place.is_some();
+        let is_pending = pending_place.is_some();
+        let place = place_along(&held, order_place);
         let note = stuck_note(stuck.end, is_named, is_pending, place, call);
         push_note(note, number, &mut marks)?;
     }

@@ -14,13 +14,12 @@ loop-number-preserved c =
     let call = get_or c.args.calls.now l.number d in
     let history = operations c.args.history.now in
     let known = invocations_of history in
-    let named = c.is_some-is_named.ensures ∙ ap is_some (c.place_through-in-loop-number.ensures
-    ∙ through c.in_ok-numbers.numbers c.in_ok-named.named known _ call.first c.in_ok-numbers.ensures c.in_ok-named.ensures
-    ∙ ap (λ numbers. option_and_then (place_among numbers) (place_among known call.first)) (c.deref.ensures.value ∙ c.in_ok-named_numbers.ensures)) in
-    let pending = c.is_some-is_pending.ensures ∙ ap is_some (c.place_through.ensures
+    let named = c.is_some-is_named.ensures ∙ ap is_some (c.place_through-named_place.ensures
+    ∙ through c.in_ok-numbers.numbers c.in_ok-named.named known _ call.first c.in_ok-numbers.ensures c.in_ok-named.ensures) in
+    let pending = c.is_some-is_pending.ensures ∙ ap is_some (c.place_through-pending_place.ensures
     ∙ through c.in_ok-numbers.numbers c.in_ok-pending.pending known _ call.first c.in_ok-numbers.ensures c.in_ok-pending.ensures
     ∙ ap (λ numbers. option_and_then (place_among numbers) (place_among known call.first)) c.pending_in.ensures) in
-    let number = c.place_through-in-loop-number.ensures
+    let number = c.place_through-order_place.ensures
     ∙ through c.in_ok-numbers.numbers c.in_ok-places.places known _ call.first c.in_ok-numbers.ensures c.in_ok-places.ensures
     ∙ ap (λ numbers. option_and_then (place_among numbers) (place_among known call.first)) c.as_slice.ensures in
     let held = c.deref.ensures.value ∙ c.in_ok-held.ensures ∙ ap (held_along history) c.as_slice-2.ensures in
