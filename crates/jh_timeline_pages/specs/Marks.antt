@@ -20,9 +20,21 @@ is_pointer (Placed place) = false
 is_pointer (Pending place) = false
 is_pointer note = true
 
--- the first mark that points at something
+-- the note says that a history is stuck there
+abbrev pub is_stuck : Note → Bool
+is_stuck Stuck = true
+is_stuck note = false
+
+-- the first of two marks that there is
+abbrev pub mark_or : Option Mark → Option Mark → Option Mark
+mark_or None other = other
+mark_or (Some mark) other = Some mark
+
+-- the mark at which a page is looked at first: where a history is stuck, or else the first one that
+-- points at something
 abbrev pub first_pointer : List Mark → Option Mark
-first_pointer marks = find (λ mark. is_pointer mark.note) marks
+first_pointer marks =
+    mark_or (find (λ mark. is_stuck mark.note) marks) (find (λ mark. is_pointer mark.note) marks)
 
 -- the class of a note in the style, which is its name too
 abbrev pub class_of : Note → List ℕ

@@ -1,6 +1,6 @@
 //! What marks say, and where they stand. `specs/Marks.antt` and `specs/Drawings.antt` have the rule.
 
-ghost use Rattle.std.specs.Prelude.{◌≡◌, All, IfErr, OnOk, Some, option_map};
+ghost use Rattle.std.specs.Prelude.{◌≡◌, All, IfErr, OnOk, Some, find, option_map};
 ghost use Rattle.std.specs.Fmt.{signed_decimal};
 ghost use Rattle.std.specs.Io.KnownBytes.{Appends};
 ghost use Rattle.std.specs.List.{flat_map};
@@ -31,12 +31,41 @@ fn is_pointer(note: Note) -> bool
     }
 }
 
-/// The first mark that points at something: one that says more than a number in an order, or that an
-/// operation is pending. There the page is looked at first.
+/// Whether a note says that a history is stuck there.
+fn is_stuck(note: Note) -> bool
+    ensures { result ≡ rule.is_stuck note }
+{
+    match note {
+        Note::Stuck => true,
+        _ => false,
+    }
+}
+
+/// The first mark that says that a history is stuck there, if one does.
+fn stuck_mark(marks: &[Mark]) -> Option<&Mark>
+    ensures { option_map (λ mark. mark.now) result ≡ find (λ mark. rule.is_stuck mark.note) marks.now }
+{
+    marks.iter().find(|mark| is_stuck(mark.note))
+}
+
+/// The first mark that points at something, if one does.
+fn pointing_mark(marks: &[Mark]) -> Option<&Mark>
+    ensures { option_map (λ mark. mark.now) result
+        ≡ find (λ mark. rule.is_pointer mark.note) marks.now }
+{
+    marks.iter().find(|mark| is_pointer(mark.note))
+}
+
+/// The mark at which the page is looked at first: the one where a history is stuck, or else the first
+/// one that points at something, which says more than a number in an order, or that an operation is
+/// pending.
 pub fn first_pointer(marks: &[Mark]) -> Option<&Mark>
     ensures { option_map (λ mark. mark.now) result ≡ rule.first_pointer marks.now }
 {
-    marks.iter().find(|mark| is_pointer(mark.note))
+    match stuck_mark(marks) {
+        Some(mark) => Some(mark),
+        None => pointing_mark(marks),
+    }
 }
 
 /// The class of a note in the style.

@@ -22,7 +22,7 @@ shown_around = 1000
 abbrev pub shown_before : ℕ
 shown_before = 500
 
--- the index at which the first of these calls ends that a mark points at
+-- the index at which the call ends at whose mark a page is looked at first
 abbrev pub focus_of : List Call → List Mark → Option ℕ
 focus_of calls marks =
     option_and_then (λ mark. option_map call_end (slice_get calls mark.call)) (first_pointer marks)
