@@ -11,6 +11,7 @@ ghost use Rattle.jh_linear.specs.declared.verdict.Stuck.{Stuck};
 ghost use Rattle.jh_checkers.specs.Explanations as rule;
 ghost use Rattle.jh_checkers.specs.Explanations.{Explains, IsBecause, IsExplained};
 ghost use Rattle.jh_checkers.specs.Lines as lines;
+ghost use Rattle.jh_checkers.specs.RegisterInside as inside;
 
 use jh_linear::{LinVerdict, Outcome, RegOp, op_end};
 use jh_ops::Op;
@@ -74,6 +75,16 @@ fn pending_at(alloc: Global, ops: &[RegOp], end: usize) -> Result<Vec<usize>, Al
         .collect(alloc)
 }
 
+/// The reason of a no.
+fn reason_in(verdict: &UniqueVerdict) -> Option<UniqueReason>
+    ensures { result ≡ inside.reason_in verdict.now }
+{
+    match verdict {
+        UniqueVerdict::Invalid(reason) => Some(*reason),
+        _ => None,
+    }
+}
+
 /// Why operations that have no order have none: the reason that the judge of values that are written
 /// once names, and none where some value is not.
 fn reason_of(
@@ -85,12 +96,8 @@ fn reason_of(
     requires none { HaveNoOrder ops.now initial }
     ensures { IfOk result (IsBecause ops.now initial) }
 {
-    match judge_unique(alloc, ops, initial)? {
-        UniqueVerdict::Invalid(reason) => Ok(Some(reason)),
-        UniqueVerdict::Valid(_) => Ok(None),
-        UniqueVerdict::Repeated(_, _) => Ok(None),
-        UniqueVerdict::WritesInitial(_) => Ok(None),
-    }
+    let verdict = judge_unique(alloc, ops, initial)?;
+    Ok(reason_in(&verdict))
 }
 
 /// The explanation of a history that is stuck at this place.

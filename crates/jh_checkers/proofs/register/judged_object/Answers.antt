@@ -1,8 +1,9 @@
-use Rattle.std.proofs.Common.{◌<◌, ℕ, inr, subst, rules}
+use Rattle.std.proofs.Common.{◌<◌, ℕ, List, inr, subst, sym, rules}
 use Rattle.std.proofs.lemmas.Result.{err_from_is_err_and}
 use Rattle.std.proofs.lemmas.List.{length-map}
 use Rattle.jh_ops.specs.Operation.{operation, operations}
-use Rattle.jh_linear.specs.Verdict.{IsJudged}
+use Rattle.jh_linear.specs.Verdict.{HaveNoOrder, IsJudged}
+use Rattle.jh_linear.specs.declared.register.RegOp.{RegOp}
 use Rattle.jh_linear.specs.declared.verdict.LinVerdict.TheVariants.{Invalid}
 use Rattle.jh_checkers.specs.Findings.{AreObjectOps}
 use Rattle.jh_ops.specs.Pairing.{history_pairs}
@@ -26,7 +27,7 @@ explained-requires-clause-none c = λ stuck is.
     let initial = c.args.initial in
     let judged : IsJudged ops initial c.args.judging.budget (Invalid stuck) =
     subst (IsJudged ops initial c.args.judging.budget) is (rw c.deref-2.ensures.value at c.in_ok-judged.ensures.judged) in
-    judged.1
+    subst (λ (found : List RegOp). HaveNoOrder found initial) (sym c.deref-3.ensures.value) judged.1
 
 -- memory can run out where each pair stands for an operation
 pub returns-in_err-judged : goal.returns-in_err-judged
