@@ -1,10 +1,9 @@
 -- Of operations that have no order the judge of values that are written once names the reason, or some
 -- value is not written once.
-use Rattle.std.proofs.Common.{◌≡◌, ℕ, ℤ, List, Option}
+use Rattle.std.proofs.Common.{ℤ, List, Option}
 use Rattle.jh_linear.specs.Verdict.{HaveNoOrder}
 use Rattle.jh_linear.specs.declared.register.RegOp.{RegOp}
 use Rattle.jh_unique.specs.Judged.{IsUniqueVerdict}
-use Rattle.jh_unique.specs.Unique.{WriteOnce}
 use Rattle.jh_unique.specs.declared.verdict.UniqueVerdict.{UniqueVerdict}
 use Rattle.jh_unique.specs.declared.verdict.UniqueVerdict.TheVariants.{Valid, Invalid, Repeated, WritesInitial}
 use Rattle.jh_checkers.specs.Explanations.{IsBecause}

@@ -1,11 +1,7 @@
 -- Two findings of one history.
 use Rattle.std.proofs.Common.{◌≡◌, ◌∙◌, ◌+◌, ◌<◌, ℕ, ℤ, Bool, true, false, List, [], ◌∷◌, map, refl, sym, ap, subst, arith}
 use Rattle.std.specs.Prelude.{◌≢◌, IsTrue, Option, Some, None, IsSomeAnd, slice_get}
-use Rattle.jh_edn.specs.Edn.{Edn}
 use Rattle.jh_ops.specs.Operation.{Operation, operation}
-use Rattle.jh_check.specs.CounterResults.{counter_result}
-use Rattle.jh_check.specs.IdsResults.{ids_result}
-use Rattle.jh_check.specs.SetResults.{set_result}
 use Rattle.jh_check.specs.declared.verdict.Verdict.{Verdict}
 use Rattle.jh_linear.specs.Stuck.{IsStuck}
 use Rattle.jh_linear.specs.Verdict.{IsJudged}
@@ -14,8 +10,6 @@ use Rattle.jh_linear.specs.declared.register.RegOp.{RegOp}
 use Rattle.jh_linear.specs.declared.verdict.LinVerdict.{LinVerdict}
 use Rattle.jh_linear.specs.declared.verdict.LinVerdict.TheVariants.{Valid, Invalid, Unknown}
 use Rattle.jh_linear.specs.declared.verdict.Stuck.{Stuck}
-use Rattle.jh_set_full.specs.SetFull.{set_full_result}
-use Rattle.jh_total_queue.specs.TotalQueue.{total_queue_result}
 use Rattle.jh_checkers.specs.Explanations.{Explains, IsExplained, numbers_pending, stuck_point}
 use Rattle.jh_checkers.specs.Findings.{AreObjectOps, IsFindingBy, IsLinear, finding_verdict, mutex_start, has_one_finding, has_one_line}
 use Rattle.jh_checkers.specs.Findings.{judged_bank, stuck_point_of, verdict_of_register}

@@ -1,9 +1,9 @@
 -- Two findings of a queue or of a bank: their verdicts and lines are the same.
-use Rattle.std.proofs.Common.{◌≡◌, ◌∙◌, inl, inr, ℕ, zero, suc, ◌<◌, ◌≤◌, true, false, List, [], ◌∷◌, ◌++◌, refl, sym, ap, subst, arith}
+use Rattle.std.proofs.Common.{◌≡◌, ◌∙◌, inl, inr, ℕ, suc, ◌<◌, ◌≤◌, true, false, List, [], ◌∷◌, ◌++◌, refl, sym, ap, subst, arith}
 use Rattle.std.specs.Prelude.{Option, Some, None, slice_get, codes, pos}
-use Rattle.std.specs.List.{All, Contains}
+use Rattle.std.specs.List.{All}
 use Rattle.std.proofs.lemmas.List.Elements.{All-contains}
-use Rattle.jh_edn.specs.Edn.{Edn, int, keyword}
+use Rattle.jh_edn.specs.Edn.{int, keyword}
 use Rattle.jh_edn.specs.Parts.{map_of}
 use Rattle.jh_ops.specs.Operation.{Operation, operation}
 use Rattle.jh_ops.specs.OperationWritten.{value_written}
@@ -11,10 +11,9 @@ use Rattle.jh_ops.specs.Pairing.{history_pairs}
 use Rattle.jh_ops.specs.declared.operation.Op.{Op}
 use Rattle.jh_check.specs.Lines.{map_with_verdict}
 use Rattle.jh_check.specs.declared.verdict.Verdict.{Verdict}
-use Rattle.jh_bank.specs.BankLines.{bank_value, error_pairs, errors_value, kind_pairs, worst_pairs}
+use Rattle.jh_bank.specs.BankLines.{bank_value, error_pairs, kind_pairs, worst_pairs}
 use Rattle.jh_bank.specs.Banks.{IsBankResult, IsFarthest, IsWorst, read_distance, shown_errors}
 use Rattle.jh_bank.specs.declared.bank.Bank.{Bank}
-use Rattle.jh_bank.specs.declared.judge.BankErrors.{BankErrors}
 use Rattle.jh_bank.specs.declared.judge.BankResult.{BankResult}
 use Rattle.jh_bank.specs.declared.judge.ReadErrors.{ReadErrors}
 use Rattle.jh_queue.specs.Lines.{first_pairs, queue_value}
