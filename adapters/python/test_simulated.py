@@ -1,4 +1,4 @@
-"""Tests of simulated.py and nodes/raft.py: links and nodes in virtual time, Raft by the paper, and whole tests twice.
+"""Tests of simulated.py and nodes/raft.py: links and nodes in virtual time, Raft rule by rule, and whole tests twice.
 
     python3 -m unittest test_simulated
 
@@ -175,7 +175,7 @@ def entry(term: int, value: int) -> Body:
 
 
 class Server(unittest.TestCase):
-    """The node n1 of three, by itself; each rule of the paper with the bug that breaks it."""
+    """The node n1 of three, by itself; each rule of Raft with the bug that breaks it."""
 
     def make(self, bug: str = "") -> raft.Raft:
         self.world = World()
