@@ -28,12 +28,12 @@ fn values_of(alloc: Global, text: &str) -> Result<Vec<Value>, EdnError>
     Ok(values)
 }
 
-/// The values of the text that the reader gives, read in at most `turns` reads.
+/// The values of the text that the reader gives, read in at most `reads` reads.
 ///
 /// # Errors
 ///
 /// Those of `read_bytes`, then `Utf8`, then the text's first error, with its line.
-pub fn read_all<R: Read>(alloc: Global, reader: &mut R, turns: u32) -> Result<Vec<Value>, EdnError>
+pub fn read_all<R: Read>(alloc: Global, reader: &mut R, reads: u32) -> Result<Vec<Value>, EdnError>
     ensures values { IfOk result
         (λ v. IfSome (R.remaining reader.old) (λ bytes. SpellsAll (views v.items) bytes)) }
     ensures utf8 { IfOk result (λ _. IfSome (R.remaining reader.old) IsUtf8) }
@@ -43,7 +43,7 @@ pub fn read_all<R: Read>(alloc: Global, reader: &mut R, turns: u32) -> Result<Ve
         (λ e. IfSome (R.remaining reader.old) (λ bytes. IsFirstIfInText bytes e)) }
     ensures error { IfErr result (λ e. e ≢ EdnError.Write) }
 {
-    let bytes = read_bytes(alloc, reader, turns)?;
+    let bytes = read_bytes(alloc, reader, reads)?;
     let Ok(text) = str::from_utf8(&bytes) else {
         return Err(EdnError::Utf8);
     };

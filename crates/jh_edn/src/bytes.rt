@@ -12,21 +12,21 @@ const BUFFER_LEN: usize = 65_536;
 
 /// The bytes that the reader gives, up to its end.
 ///
-/// A turn is one read, also the one that finds the end and one that was interrupted, and there are
-/// at most `turns`. After an error the reader stands where its last read left it.
+/// There are at most `reads` reads; the one that finds the end counts, and so does one that was
+/// interrupted. After an error the reader stands where its last read left it.
 ///
 /// # Errors
 ///
-/// `Read` where a read failed, `TooLong` where the end was not seen in the turns allowed,
+/// `Read` where a read failed, `TooLong` where the end was not seen within `reads` reads,
 /// `OutOfMemory`.
-pub fn read_bytes<R: Read>(alloc: Global, reader: &mut R, turns: u32) -> Result<Vec<u8>, EdnError>
+pub fn read_bytes<R: Read>(alloc: Global, reader: &mut R, reads: u32) -> Result<Vec<u8>, EdnError>
     ensures bytes { IfOk result (λ v. IfSome (R.remaining reader.old) (λ all. v.items ≡ all)) }
     ensures error { IfErr result IsReaderError }
-    ensures no_turns { turns ≡ 0 → result ≡ Err EdnError.TooLong }
+    ensures no_reads { reads ≡ 0 → result ≡ Err EdnError.TooLong }
 {
     let mut bytes = Vec::new(alloc);
     let mut buffer = [0; BUFFER_LEN];
-    for _turn in 0..turns {
+    for _read in 0..reads {
         match reader.read(&mut buffer) {
             Ok(0) => return Ok(bytes),
             Ok(len) => bytes.extend_from_slice(&buffer[..len])?,

@@ -43,7 +43,7 @@ pub enum EdnError {
     TooDeep(u64),
     #[error("not UTF-8")]
     Utf8,
-    /// The reader's end was not seen after the turns allowed.
+    /// The reader's end was not seen within the reads allowed.
     #[error("input too long")]
     TooLong,
     #[error("read failed")]

@@ -140,14 +140,14 @@ pub fn history_and_below(alloc: Global, text: &str) -> Result<HistoryAndBelow, R
     }
 }
 
-/// The parts of the text of a reader, as `history_and_below` gives them, read in at most `turns`
+/// The parts of the text of a reader, as `history_and_below` gives them, read in at most `reads`
 /// reads. The text is dropped before they are given.
 ///
 /// Errors: those of `jh_edn::read_bytes`, then `Utf8`, then those of `history_and_below`.
 pub fn read_history_and_below<R: Read>(
     alloc: Global,
     reader: &mut R,
-    turns: u32,
+    reads: u32,
 ) -> Result<HistoryAndBelow, ReadHistoryError>
     ensures parsed { IfOk result (λ parts. IfSome (R.remaining reader.old) (λ bytes.
         AreHistoryAndBelow bytes (operations parts.history.items) parts.below.items)) }
@@ -156,7 +156,7 @@ pub fn read_history_and_below<R: Read>(
     ensures refused { IfErr result (λ e.
         IfSome (R.remaining reader.old) (λ bytes. RefusesHistoryAndBelow bytes e)) }
 {
-    let bytes = read_bytes(alloc, reader, turns)?;
+    let bytes = read_bytes(alloc, reader, reads)?;
     let Ok(text) = str::from_utf8(&bytes) else {
         return Err(ReadHistoryError::Text(EdnError::Utf8));
     };

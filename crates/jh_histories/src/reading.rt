@@ -95,14 +95,14 @@ pub fn history_in(alloc: Global, text: &str) -> Result<Vec<Op>, ReadHistoryError
     history_behind(alloc, text, at, parsing)
 }
 
-/// The history that the text of a reader means, as `history_in` parses it, read in at most `turns`
+/// The history that the text of a reader means, as `history_in` parses it, read in at most `reads`
 /// reads. The text is dropped before the history is given.
 ///
 /// Errors: those of `jh_edn::read_bytes`, then `Utf8`, then those of `history_in`.
 pub fn read_history<R: Read>(
     alloc: Global,
     reader: &mut R,
-    turns: u32,
+    reads: u32,
 ) -> Result<Vec<Op>, ReadHistoryError>
     ensures parsed { IfOk result
         (λ ops. IfSome (R.remaining reader.old)
@@ -111,7 +111,7 @@ pub fn read_history<R: Read>(
     ensures refused { IfErr result
         (λ e. IfSome (R.remaining reader.old) (λ bytes. RefusesHistoryOf bytes e)) }
 {
-    let bytes = read_bytes(alloc, reader, turns)?;
+    let bytes = read_bytes(alloc, reader, reads)?;
     let Ok(text) = str::from_utf8(&bytes) else {
         return Err(ReadHistoryError::Text(EdnError::Utf8));
     };
