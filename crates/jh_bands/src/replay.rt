@@ -106,8 +106,8 @@ impl<'a> Replay<'a> {
         Ok(())
     }
 
-    /// Goes back to the last list of the past, if there is one.
-    fn go_back(
+    /// Undoes the last edit that stands, if there is one.
+    fn undo_step(
         &mut self,
         alloc: Global,
         index: usize,
@@ -127,8 +127,8 @@ impl<'a> Replay<'a> {
         Ok(())
     }
 
-    /// Goes forth to the first list that is undone, if there is one.
-    fn go_forth(
+    /// Redoes the edit that was undone last, if there is one.
+    fn redo_step(
         &mut self,
         alloc: Global,
         index: usize,
@@ -164,8 +164,8 @@ impl<'a> Replay<'a> {
             (view_replay self.new).active changes.old.items changes.new.items) }
     {
         match step {
-            Step::Undo => self.go_back(alloc, index, changes),
-            Step::Redo => self.go_forth(alloc, index, changes),
+            Step::Undo => self.undo_step(alloc, index, changes),
+            Step::Redo => self.redo_step(alloc, index, changes),
             _ => match edit_for(step, &self.active) {
                 Some(edit) => self.go_on(alloc, edit, index, changes),
                 None => Ok(()),

@@ -75,7 +75,7 @@ fn put_all(active: &mut Stamps, stamps: &[usize])
 }
 
 /// Changes the active stamps as the step at this index does.
-pub fn play(accepted: &[AcceptedStep], index: usize, active: &mut Stamps)
+pub fn apply_to_active(accepted: &[AcceptedStep], index: usize, active: &mut Stamps)
     requires known { index < length accepted.now }
     requires room { length (stamps_after index (accepted_at accepted.now index) active.old.items)
         ≤ max_active }
@@ -89,7 +89,7 @@ pub fn play(accepted: &[AcceptedStep], index: usize, active: &mut Stamps)
 }
 
 /// Changes the active stamps back to what they were before the step at this index.
-pub fn play_back(accepted: &[AcceptedStep], index: usize, active: &mut Stamps)
+pub fn revert_in_active(accepted: &[AcceptedStep], index: usize, active: &mut Stamps)
     requires known { index < length accepted.now }
     requires room { length (stamps_before (accepted_at accepted.now index) active.old.items)
         ≤ max_active }

@@ -83,7 +83,7 @@ fn take_each(env: &mut Env, accepted: &[AcceptedStep], stamps: &[usize])
 
 /// Does to the environment what the step at this index does. It takes no memory, and writes no more
 /// often than the sizes of the faults say that the step begins or ends.
-pub fn step_forth(env: &mut Env, accepted: &[AcceptedStep], index: usize)
+pub fn apply_to_environment(env: &mut Env, accepted: &[AcceptedStep], index: usize)
     requires known { index < length accepted.now }
     requires few { length accepted.now ≤ max_steps }
     requires right { AreRight (length env.old.names) accepted.now }
@@ -104,8 +104,8 @@ pub fn step_forth(env: &mut Env, accepted: &[AcceptedStep], index: usize)
 }
 
 /// Takes back what the step at this index did to the environment. It takes no memory, and writes no
-/// more than `step_forth`.
-pub fn step_back(env: &mut Env, accepted: &[AcceptedStep], index: usize)
+/// more than `apply_to_environment`.
+pub fn revert_in_environment(env: &mut Env, accepted: &[AcceptedStep], index: usize)
     requires known { index < length accepted.now }
     requires few { length accepted.now ≤ max_steps }
     requires right { AreRight (length env.old.names) accepted.now }

@@ -1,4 +1,4 @@
-//! A nemesis: faults that are begun and withdrawn over an environment, and steps back and forth.
+//! A nemesis: faults that are begun and withdrawn over an environment, with undo and redo.
 //! `specs/Steps.antt` says what a step does, `specs/Work.antt` how much it may write,
 //! `specs/AcceptedInside.antt` which faults the accepted steps make active, and what holds between
 //! the fields.
@@ -16,9 +16,10 @@ ghost use Rattle.jh_nemesis.specs.Work.{size_between, size_of_step, size_of_step
 ghost use Rattle.jh_nemesis.specs.Changed.{changed_by, AgreeElsewhere};
 
 use crate::accepted::{
-    AcceptedStep, Stamps, changed_at, faults_of, play, play_back, put_at, stamp_of,
+    AcceptedStep, Stamps, apply_to_active, changed_at, faults_of, put_at, revert_in_active,
+    stamp_of,
 };
-use crate::effects::{step_back, step_forth};
+use crate::effects::{apply_to_environment, revert_in_environment};
 use crate::steps::{
     BeginError, MAX_ACTIVE, MAX_STEPS, NothingToRedo, NothingToUndo, Step, StepAnswer, Stopped,
     WithdrawAllError, WithdrawError,
@@ -162,7 +163,7 @@ impl Nemesis {
             self.cursor,
             AcceptedStep::Begun(id, fault),
         )?;
-        self.go_forth();
+        self.apply_next();
         Ok(StepAnswer::Ok)
     }
 
@@ -188,7 +189,7 @@ impl Nemesis {
             self.cursor,
             AcceptedStep::Withdrawn(stamp),
         )?;
-        self.go_forth();
+        self.apply_next();
         Ok(StepAnswer::Ok)
     }
 
@@ -238,7 +239,7 @@ impl Nemesis {
             self.cursor,
             AcceptedStep::WithdrawnAll(stamps),
         )?;
-        self.go_forth();
+        self.apply_next();
         Ok(StepAnswer::Ok)
     }
 
@@ -303,31 +304,31 @@ impl Nemesis {
         }
     }
 
-    /// Goes back to the moment before the last step.
-    fn go_back(&mut self)
+    /// Reverts the last step, in the environment and in the active list.
+    fn revert_last(&mut self)
         requires { is_empty self.old.state.past ≡ false }
         ensures state { self.new.state ≡ state_back_to self.old.state self.old.state.past }
         ensures work { self.new.work
             ≤ self.old.work + size_between self.old.state.active self.new.state.active }
     {
         self.cursor -= 1;
-        step_back(&mut self.env, &self.accepted, self.cursor);
-        play_back(&self.accepted, self.cursor, &mut self.active);
+        revert_in_environment(&mut self.env, &self.accepted, self.cursor);
+        revert_in_active(&self.accepted, self.cursor, &mut self.active);
     }
 
-    /// Goes forth to the moment after the next step.
-    fn go_forth(&mut self)
+    /// Applies the step behind the cursor, to the environment and to the active list.
+    fn apply_next(&mut self)
         requires { is_empty self.old.state.future ≡ false }
         ensures state { self.new.state ≡ state_forth_to self.old.state self.old.state.future }
         ensures work { self.new.work
             ≤ self.old.work + size_between self.old.state.active self.new.state.active }
     {
-        step_forth(&mut self.env, &self.accepted, self.cursor);
-        play(&self.accepted, self.cursor, &mut self.active);
+        apply_to_environment(&mut self.env, &self.accepted, self.cursor);
+        apply_to_active(&self.accepted, self.cursor, &mut self.active);
         self.cursor += 1;
     }
 
-    /// Goes back to the moment before the last step, and answers the step.
+    /// Undoes the last step that stands, and answers the request.
     fn undo_step(&mut self) -> StepAnswer
         ensures answer { result ≡ answer_of self.old.state Undo }
         ensures state { self.new.state ≡ state_after self.old.state Undo }
@@ -337,11 +338,11 @@ impl Nemesis {
         if self.is_at_start() {
             return StepAnswer::NothingToUndo;
         }
-        self.go_back();
+        self.revert_last();
         StepAnswer::Ok
     }
 
-    /// Goes forth to the moment after the next step, and answers the step.
+    /// Redoes the step that was undone last, and answers the request.
     fn redo_step(&mut self) -> StepAnswer
         ensures answer { result ≡ answer_of self.old.state Redo }
         ensures state { self.new.state ≡ state_after self.old.state Redo }
@@ -351,7 +352,7 @@ impl Nemesis {
         if self.is_at_end() {
             return StepAnswer::NothingToRedo;
         }
-        self.go_forth();
+        self.apply_next();
         StepAnswer::Ok
     }
 
@@ -360,8 +361,8 @@ impl Nemesis {
     /// the faults that it begins or ends say (`steps_write_their_faults`). It takes time for the links and
     /// nodes of these faults, and for the stamps of the active faults, at most `MAX_ACTIVE`.
     ///
-    /// Error: memory was refused to a step that would be accepted. Then nothing has changed. A step
-    /// back or forth takes no memory.
+    /// Error: memory was refused to a step that would be accepted. Then nothing has changed. Undo and
+    /// redo take no memory.
     pub fn apply(&mut self, step: Step) -> Result<StepAnswer, AllocError>
         requires { StepFits self.old.state step }
         ensures answer { MatchResult result

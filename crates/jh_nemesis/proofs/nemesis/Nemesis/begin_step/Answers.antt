@@ -21,8 +21,8 @@ invariant_of-self-2 c =
     let right = begin_right c.self.invariant c.args.id c.args.fault ok fits in
     rw c.in_ok-put_at.ensures.ok (put_true c.self.invariant (Begun c.args.id c.args.fault) right.1 right.0)
 
-pub go_forth-requires : goal.go_forth-requires
-go_forth-requires c =
+pub apply_next-requires : goal.apply_next-requires
+apply_next-requires c =
     let a = c.self.inside in
     rw c.in_ok-put_at.ensures.ok (put_future c.self.invariant (Begun c.args.id c.args.fault))
 
@@ -32,9 +32,9 @@ returns-clause-ok c =
     let found : begin_answer c.args.self.now.state c.args.id ≡ StepAnswer.Ok = search rules in
     let ok : begin_answer (state_of a) c.args.id ≡ StepAnswer.Ok = rw (← c.self.view_is) at found in
     let state =
-    begun_state c.self.invariant c.args.id c.args.fault c.put_at.new.accepted.items c.go_forth.new.self.state
-    c.in_ok-put_at.ensures.ok c.go_forth.ensures.state ok in
-    subst (λ (s : State). (StepAnswer.Ok ≡ begin_answer s c.args.id) × (c.go_forth.new.self.state ≡ state_after s (Begin c.args.id c.args.fault)))
+    begun_state c.self.invariant c.args.id c.args.fault c.put_at.new.accepted.items c.apply_next.new.self.state
+    c.in_ok-put_at.ensures.ok c.apply_next.ensures.state ok in
+    subst (λ (s : State). (StepAnswer.Ok ≡ begin_answer s c.args.id) × (c.apply_next.new.self.state ≡ state_after s (Begin c.args.id c.args.fault)))
     (ap (λ (n : NemesisValue). n.state) c.self.view_is) (sym ok, state)
 
 pub returns-in_err-put_at-clause-err : goal.returns-in_err-put_at-clause-err
@@ -49,9 +49,9 @@ returns-clause-work c =
     let found : begin_answer c.args.self.now.state c.args.id ≡ StepAnswer.Ok = search rules in
     let ok : begin_answer (state_of a) c.args.id ≡ StepAnswer.Ok = rw (← c.self.view_is) at found in
     let state =
-    begun_state c.self.invariant c.args.id c.args.fault c.put_at.new.accepted.items c.go_forth.new.self.state
-    c.in_ok-put_at.ensures.ok c.go_forth.ensures.state ok in
+    begun_state c.self.invariant c.args.id c.args.fault c.put_at.new.accepted.items c.apply_next.new.self.state
+    c.in_ok-put_at.ensures.ok c.apply_next.ensures.state ok in
     let written =
-    put_work c.self.invariant (Begun c.args.id c.args.fault) c.put_at.new.accepted.items c.go_forth.new.self.state (state_after (state_of a) (Begin c.args.id c.args.fault))
-    c.go_forth.new.self.work (work_of a.env) c.in_ok-put_at.ensures.ok state c.go_forth.ensures.work in
-    subst (λ (n : NemesisValue). c.go_forth.new.self.work ≤ n.work + size_of_step n.state (Begin c.args.id c.args.fault)) c.self.view_is written
+    put_work c.self.invariant (Begun c.args.id c.args.fault) c.put_at.new.accepted.items c.apply_next.new.self.state (state_after (state_of a) (Begin c.args.id c.args.fault))
+    c.apply_next.new.self.work (work_of a.env) c.in_ok-put_at.ensures.ok state c.apply_next.ensures.work in
+    subst (λ (n : NemesisValue). c.apply_next.new.self.work ≤ n.work + size_of_step n.state (Begin c.args.id c.args.fault)) c.self.view_is written

@@ -21,8 +21,8 @@ invariant_of-self-2 c =
     (all_room c.self.invariant ok)
     (all_right c.self.invariant (length a.env.names) c.in_ok-stamps.stamps is))
 
-pub go_forth-requires : goal.go_forth-requires
-go_forth-requires c =
+pub apply_next-requires : goal.apply_next-requires
+apply_next-requires c =
     let a = c.self.inside in
     rw c.in_ok-put_at.ensures.ok (put_future c.self.invariant (WithdrawnAll c.in_ok-stamps.stamps))
 
@@ -32,10 +32,10 @@ returns-clause-ok c =
     let found : withdraw_all_answer c.args.self.now.state ≡ StepAnswer.Ok = search rules in
     let ok : withdraw_all_answer (state_of a) ≡ StepAnswer.Ok = rw (← c.self.view_is) at found in
     let state =
-    all_withdrawn_state c.self.invariant c.in_ok-stamps.stamps c.put_at.new.accepted.items c.go_forth.new.self.state
+    all_withdrawn_state c.self.invariant c.in_ok-stamps.stamps c.put_at.new.accepted.items c.apply_next.new.self.state
     c.in_ok-put_at.ensures.ok
-    c.go_forth.ensures.state ok in
-    subst (λ (s : State). (StepAnswer.Ok ≡ withdraw_all_answer s) × (c.go_forth.new.self.state ≡ state_after s WithdrawAll))
+    c.apply_next.ensures.state ok in
+    subst (λ (s : State). (StepAnswer.Ok ≡ withdraw_all_answer s) × (c.apply_next.new.self.state ≡ state_after s WithdrawAll))
     (ap (λ (n : NemesisValue). n.state) c.self.view_is) (sym ok, state)
 
 pub returns-clause-work : goal.returns-clause-work
@@ -44,10 +44,10 @@ returns-clause-work c =
     let found : withdraw_all_answer c.args.self.now.state ≡ StepAnswer.Ok = search rules in
     let ok : withdraw_all_answer (state_of a) ≡ StepAnswer.Ok = rw (← c.self.view_is) at found in
     let state =
-    all_withdrawn_state c.self.invariant c.in_ok-stamps.stamps c.put_at.new.accepted.items c.go_forth.new.self.state
+    all_withdrawn_state c.self.invariant c.in_ok-stamps.stamps c.put_at.new.accepted.items c.apply_next.new.self.state
     c.in_ok-put_at.ensures.ok
-    c.go_forth.ensures.state ok in
+    c.apply_next.ensures.state ok in
     let written =
-    put_work c.self.invariant (WithdrawnAll c.in_ok-stamps.stamps) c.put_at.new.accepted.items c.go_forth.new.self.state (state_after (state_of a) WithdrawAll)
-    c.go_forth.new.self.work (work_of a.env) c.in_ok-put_at.ensures.ok state c.go_forth.ensures.work in
-    subst (λ (n : NemesisValue). c.go_forth.new.self.work ≤ n.work + size_of_step n.state WithdrawAll) c.self.view_is written
+    put_work c.self.invariant (WithdrawnAll c.in_ok-stamps.stamps) c.put_at.new.accepted.items c.apply_next.new.self.state (state_after (state_of a) WithdrawAll)
+    c.apply_next.new.self.work (work_of a.env) c.in_ok-put_at.ensures.ok state c.apply_next.ensures.work in
+    subst (λ (n : NemesisValue). c.apply_next.new.self.work ≤ n.work + size_of_step n.state WithdrawAll) c.self.view_is written

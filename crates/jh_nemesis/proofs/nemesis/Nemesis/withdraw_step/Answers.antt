@@ -27,8 +27,8 @@ invariant_of-self-2 c =
     (put_true c.self.invariant (Withdrawn c.in-Some.stamp) (withdraw_room c.self.invariant c.args.id ok)
     (withdraw_right c.self.invariant (length a.env.names) c.in-Some.stamp inside))
 
-pub go_forth-requires : goal.go_forth-requires
-go_forth-requires c =
+pub apply_next-requires : goal.apply_next-requires
+apply_next-requires c =
     let a = c.self.inside in
     rw c.in_ok-put_at.ensures.ok (put_future c.self.invariant (Withdrawn c.in-Some.stamp))
 
@@ -41,10 +41,10 @@ returns-clause-ok c =
     let found : withdraw_answer c.args.self.now.state c.args.id ≡ StepAnswer.Ok = search rules in
     let ok : withdraw_answer (state_of a) c.args.id ≡ StepAnswer.Ok = rw (← c.self.view_is) at found in
     let state =
-    withdrawn_state c.self.invariant c.args.id c.in-Some.stamp c.put_at.new.accepted.items c.go_forth.new.self.state
+    withdrawn_state c.self.invariant c.args.id c.in-Some.stamp c.put_at.new.accepted.items c.apply_next.new.self.state
     c.in_ok-put_at.ensures.ok inside at
-    c.go_forth.ensures.state ok in
-    subst (λ (s : State). (StepAnswer.Ok ≡ withdraw_answer s c.args.id) × (c.go_forth.new.self.state ≡ state_after s (Withdraw c.args.id)))
+    c.apply_next.ensures.state ok in
+    subst (λ (s : State). (StepAnswer.Ok ≡ withdraw_answer s c.args.id) × (c.apply_next.new.self.state ≡ state_after s (Withdraw c.args.id)))
     (ap (λ (n : NemesisValue). n.state) c.self.view_is) (sym ok, state)
 
 pub returns-clause-work : goal.returns-clause-work
@@ -56,10 +56,10 @@ returns-clause-work c =
     let found : withdraw_answer c.args.self.now.state c.args.id ≡ StepAnswer.Ok = search rules in
     let ok : withdraw_answer (state_of a) c.args.id ≡ StepAnswer.Ok = rw (← c.self.view_is) at found in
     let state =
-    withdrawn_state c.self.invariant c.args.id c.in-Some.stamp c.put_at.new.accepted.items c.go_forth.new.self.state
+    withdrawn_state c.self.invariant c.args.id c.in-Some.stamp c.put_at.new.accepted.items c.apply_next.new.self.state
     c.in_ok-put_at.ensures.ok inside at
-    c.go_forth.ensures.state ok in
+    c.apply_next.ensures.state ok in
     let written =
-    put_work c.self.invariant (Withdrawn c.in-Some.stamp) c.put_at.new.accepted.items c.go_forth.new.self.state (state_after (state_of a) (Withdraw c.args.id))
-    c.go_forth.new.self.work (work_of a.env) c.in_ok-put_at.ensures.ok state c.go_forth.ensures.work in
-    subst (λ (n : NemesisValue). c.go_forth.new.self.work ≤ n.work + size_of_step n.state (Withdraw c.args.id)) c.self.view_is written
+    put_work c.self.invariant (Withdrawn c.in-Some.stamp) c.put_at.new.accepted.items c.apply_next.new.self.state (state_after (state_of a) (Withdraw c.args.id))
+    c.apply_next.new.self.work (work_of a.env) c.in_ok-put_at.ensures.ok state c.apply_next.ensures.work in
+    subst (λ (n : NemesisValue). c.apply_next.new.self.work ≤ n.work + size_of_step n.state (Withdraw c.args.id)) c.self.view_is written

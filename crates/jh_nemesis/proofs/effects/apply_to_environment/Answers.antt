@@ -5,7 +5,7 @@ use Rattle.jh_tables.specs.Standing.{AreInOrder}
 use Rattle.jh_nemesis.specs.AcceptedInside.{active_after, accepted_at, faults_with_stamps, IsRight}
 use Rattle.jh_nemesis.specs.declared.accepted.AcceptedStep.TheVariants.{Begun, Withdrawn, WithdrawnAll}
 use Rattle.jh_nemesis.proofs.EffectLemmas.{after_order, all_begins, all_size, begun_fits, begun_room, begun_size, begun_stamped, first, last, step_read, withdrawn_after, withdrawn_before, withdrawn_begin, withdrawn_size}
-use Rattle.jh_nemesis.proofs.effects.step_forth.Goals as goal
+use Rattle.jh_nemesis.proofs.effects.apply_to_environment.Goals as goal
 
 pub put_begun-requires : goal.put_begun-requires
 put_begun-requires c =

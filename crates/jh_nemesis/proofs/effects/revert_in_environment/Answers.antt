@@ -5,7 +5,7 @@ use Rattle.jh_tables.specs.Standing.{AreInOrder}
 use Rattle.jh_nemesis.specs.AcceptedInside.{active_after, accepted_at, faults_with_stamps, IsRight}
 use Rattle.jh_nemesis.specs.declared.accepted.AcceptedStep.TheVariants.{Begun, Withdrawn, WithdrawnAll}
 use Rattle.jh_nemesis.proofs.EffectLemmas.{all_begins, all_few, all_fit, all_rise, all_size, before_order, begun_size, begun_stamped, first, last, step_read, withdrawn_after, withdrawn_before, withdrawn_begin, withdrawn_fits, withdrawn_room, withdrawn_size}
-use Rattle.jh_nemesis.proofs.effects.step_back.Goals as goal
+use Rattle.jh_nemesis.proofs.effects.revert_in_environment.Goals as goal
 
 pub take_begun-requires-clause-stands : goal.take_begun-requires-clause-stands
 take_begun-requires-clause-stands c =
