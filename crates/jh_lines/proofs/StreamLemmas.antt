@@ -18,7 +18,7 @@ take_length : (bytes : List ℕ) → take (length bytes) bytes ≡ bytes
 take_length [] = refl
 take_length (byte ∷ bytes) = ap (λ l. byte ∷ l) (take_length bytes)
 
-slice_rest : (bytes : List ℕ) (n : ℕ) → take (length bytes - n) (drop n bytes) ≡ drop n bytes
+pub slice_rest : (bytes : List ℕ) (n : ℕ) → take (length bytes - n) (drop n bytes) ≡ drop n bytes
 slice_rest bytes n = ap (λ k. take k (drop n bytes)) (sym (length-drop n bytes)) ∙ take_length (drop n bytes)
 
 pub appends_more : (a b c : Option (List ℕ)) (bytes : List ℕ) (n m : ℕ) → Appends a b (take n bytes)

@@ -8,6 +8,7 @@ use Rattle.jh_lines.specs.Lines.{lines_from, rest_from, last_line, whole_lines, 
 use Rattle.jh_lines.specs.Answering.{after_lines, answers_to_lines, said_to_all}
 use Rattle.jh_lines.specs.Events.{TalkEvent, Told, Heard, Ended, TellFailed, ListenFailed, heard_in, told_in}
 use Rattle.jh_lines.specs.Events.{is_at_end, lines_heard, machine_after, due_in, Went, IsPrompt}
+use Rattle.jh_lines.specs.Events.{ListensOpen}
 use Rattle.jh_lines.specs.Endings.{IsConversation, IsEndingOf}
 use Rattle.jh_lines.specs.declared.ending.Ending.{Ending}
 use Rattle.jh_lines.specs.declared.ending.Ending.TheVariants.{Over, InputEnded, ReadFailed, WriteFailed, OutOfMemory}
@@ -46,12 +47,15 @@ lines_at_end past line goes_on cut = ap (λ l. whole_lines (heard_in past) ++ la
 module _ {P M : Type 0} (told heard : P → List ℕ → P → Type 0) (ended : P → P → Type 0)
     (tell_failed : P → List ℕ → Error → P → Type 0)
     (listen_failed : P → Error → P → Type 0) (opening : M → List ℕ) (after_line : M → List ℕ → M)
-    (answer_to : M → List ℕ → List ℕ) (begin : P) (first : M) where
+    (answer_to : M → List ℕ → List ℕ) (begin : P) (first : M) (has_finished : M → Bool) where
   abbrev due : List TalkEvent → List ℕ
   due = due_in opening after_line answer_to first
 
   abbrev after : List TalkEvent → M
   after = machine_after after_line first
+
+  abbrev finished : List TalkEvent → Bool
+  finished past = has_finished (after past)
 
   abbrev said_to_lines : M → List (List ℕ) → List ℕ
   said_to_lines = answers_to_lines after_line answer_to
@@ -62,6 +66,7 @@ module _ {P M : Type 0} (told heard : P → List ℕ → P → Type 0) (ended : 
     pub prompt : IsPrompt due past
     pub has_heard : machine ≡ after past
     pub is_due : told_in past ++ out ≡ due past
+    pub listens : ListensOpen finished past
 
   -- the same where the input goes on, and `line` has come of the next line
   pub record Stands (turns : ℕ) (peer : P) (line : List ℕ) (machine : M) (out : List ℕ) : Type 0 where
@@ -72,8 +77,8 @@ module _ {P M : Type 0} (told heard : P → List ℕ → P → Type 0) (ended : 
     pub answers : Answers past peer machine out
 
   -- the conversation as the contract has it
-  abbrev pub Holds : (M → Bool) → P → M → Ending → Type 0
-  Holds has_finished peer machine ending =
+  abbrev pub Holds : P → M → Ending → Type 0
+  Holds peer machine ending =
       (past : List TalkEvent) × Went told heard ended tell_failed listen_failed begin past peer
       × IsConversation opening after_line answer_to has_finished first past machine ending
 
@@ -83,7 +88,7 @@ module _ {P M : Type 0} (told heard : P → List ℕ → P → Type 0) (ended : 
     long = omega arith;
     goes_on = refl;
     cut = no_line;
-    answers = record { went = refl; prompt = tt; has_heard = refl; is_due = opened ∙ sym (append-nil (opening first)) };
+    answers = record { went = refl; prompt = tt; has_heard = refl; is_due = opened ∙ sym (append-nil (opening first)); listens = tt };
   }
 
   all_told : (past : List TalkEvent) (peer : P) (machine : M) → Answers past peer machine [] → told_in past ≡ due past
@@ -99,6 +104,7 @@ module _ {P M : Type 0} (told heard : P → List ℕ → P → Type 0) (ended : 
         prompt = (starts_with_all _ _ whole, a.prompt);
         has_heard = a.has_heard;
         is_due = append-nil (told_in past ++ shown) ∙ whole;
+        listens = a.listens;
       }
 
   -- what is due where there are more lines
@@ -123,34 +129,39 @@ module _ {P M : Type 0} (told heard : P → List ℕ → P → Type 0) (ended : 
       ∙ sym (after_lines-append after_line answer_to first (lines_heard past) lines)
       ∙ ap (after_lines after_line first) (sym more)
 
-  module _ (has_finished : M → Bool) (turns : ℕ) (peer next : P) (line : List ℕ) (machine : M) (out shown : List ℕ)
+  module _ (turns : ℕ) (peer next : P) (line : List ℕ) (machine : M) (out shown : List ℕ)
     where
       -- what was told before the machine listens
       on : (s : Stands turns peer line machine out) → shown ≡ out → told peer shown next
           → Answers (Told shown ∷ s.past) next machine []
       on s e step = answers_told s.past peer next machine out shown s.answers e step
 
+      -- it listens, since it has not finished
+      listens : (s : Stands turns peer line machine out) → has_finished machine ≡ false
+          → (finished (Told shown ∷ s.past) ≡ false) × ListensOpen finished (Told shown ∷ s.past)
+      listens s going = (ap has_finished (sym s.answers.has_heard) ∙ going, s.answers.listens)
+
       pub exit_unwritten : (error : Error) → Stands turns peer line machine out → shown ≡ out
-          → ((n : ℕ) × tell_failed peer (take n shown) error next) → Holds has_finished next machine (WriteFailed error)
+          → ((n : ℕ) × tell_failed peer (take n shown) error next) → Holds next machine (WriteFailed error)
       exit_unwritten error s e (n, step) = (
         TellFailed (take n shown) error ∷ s.past,
         (peer, s.answers.went, step),
         (
           (starts_with_some _ shown _ n (ap (λ l. told_in s.past ++ l) e ∙ s.answers.is_due), s.answers.prompt),
           (s.answers.has_heard, refl),
+          s.answers.listens,
         ),
       )
 
       pub exit_over : Stands turns peer line machine out → shown ≡ out → told peer shown next
-          → has_finished machine ≡ true → Holds has_finished next machine Over
+          → has_finished machine ≡ true → Holds next machine Over
       exit_over s e step over =
           let a = on s e step in
-          (Told shown ∷ s.past, a.went, (a.prompt, (all_told _ next machine a, a.has_heard, s.goes_on, over)))
+          (Told shown ∷ s.past, a.went, (a.prompt, (all_told _ next machine a, a.has_heard, s.goes_on, over), a.listens))
 
       pub exit_unread : (last : P) (error : Error) → Stands turns peer line machine out → shown ≡ out
-          → told peer shown next → listen_failed next error last
-          → Holds has_finished last machine (ReadFailed error)
-      exit_unread last error s e step failed =
+          → told peer shown next → has_finished machine ≡ false → listen_failed next error last → Holds last machine (ReadFailed error)
+      exit_unread last error s e step going failed =
           let a = on s e step in
           let same : due (ListenFailed error ∷ Told shown ∷ s.past) ≡ due s.past =
           ap (λ l. opening first ++ said_to_lines first l) (sym (lines_of s.past s.goes_on)) in (
@@ -163,16 +174,17 @@ module _ {P M : Type 0} (told heard : P → List ℕ → P → Type 0) (ended : 
                 a.has_heard ∙ ap (after_lines after_line first) (lines_of s.past s.goes_on),
                 refl,
               ),
+              listens s going,
             ),
           )
 
       -- the input has ended, and the last line is answered
       answers_end : (last : P) (machine' : M) (cleared out' bytes : List ℕ) (count : ℕ)
-          (s : Stands turns peer line machine out) → shown ≡ out → told peer shown next
+          (s : Stands turns peer line machine out) → shown ≡ out → told peer shown next → has_finished machine ≡ false
           → ((count ≡ 0 → ended next last) × (count ≢ 0 → heard next bytes last)) → count ≡ 0 → cleared ≡ []
           → machine' ≡ after_lines after_line machine (last_line line)
           → out' ≡ cleared ++ said_to_lines machine (last_line line) → Answers (Ended ∷ Told shown ∷ s.past) last machine' out'
-      answers_end last machine' cleared out' bytes count s e step h none clear taken said =
+      answers_end last machine' cleared out' bytes count s e step going h none clear taken said =
           let a = on s e step in
           let more = lines_at_end (Told shown ∷ s.past) line s.goes_on s.cut in
           record {
@@ -180,53 +192,55 @@ module _ {P M : Type 0} (told heard : P → List ℕ → P → Type 0) (ended : 
             prompt = (all_told _ next machine a, a.prompt);
             has_heard = after_more (Told shown ∷ s.past) next machine machine' (last_line line) _ a more taken;
             is_due = due_more (Told shown ∷ s.past) next machine out' cleared (last_line line) _ a more clear said;
+            listens = listens s going;
           }
 
       pub exit_told : (last final : P) (machine' : M) (cleared out' shown' bytes : List ℕ) (count : ℕ)
-          → Stands turns peer line machine out → shown ≡ out → told peer shown next
+          → Stands turns peer line machine out → shown ≡ out → told peer shown next → has_finished machine ≡ false
           → ((count ≡ 0 → ended next last) × (count ≢ 0 → heard next bytes last)) → count ≡ 0 → cleared ≡ []
           → machine' ≡ after_lines after_line machine (last_line line)
           → out' ≡ cleared ++ said_to_lines machine (last_line line) → shown' ≡ out' → told last shown' final
-          → (ending : Ending) → ending ≡ InputEnded → Holds has_finished final machine' ending
-      exit_told last final machine' cleared out' shown' bytes count s e step h none clear taken said e' step' ending is =
+          → (ending : Ending) → ending ≡ InputEnded → Holds final machine' ending
+      exit_told last final machine' cleared out' shown' bytes count s e step going h none clear taken said e' step' ending is =
           let b =
           answers_told _ last final machine' out' shown'
-          (answers_end last machine' cleared out' bytes count s e step h none clear taken said) e' step' in
-          subst (Holds has_finished final machine') (sym is) (
+          (answers_end last machine' cleared out' bytes count s e step going h none clear taken said) e' step' in
+          subst (Holds final machine') (sym is) (
             Told shown' ∷ Ended ∷ Told shown ∷ s.past,
             b.went,
-            (b.prompt, (all_told _ final machine' b, b.has_heard, refl)),
+            (b.prompt, (all_told _ final machine' b, b.has_heard, refl), b.listens),
           )
 
       pub exit_untold : (last final : P) (machine' : M) (cleared out' shown' bytes : List ℕ) (count : ℕ) (error : Error)
           → Stands turns peer line machine out → shown ≡ out
-          → told peer shown next → ((count ≡ 0 → ended next last) × (count ≢ 0 → heard next bytes last)) → count ≡ 0
+          → told peer shown next → has_finished machine ≡ false → ((count ≡ 0 → ended next last) × (count ≢ 0 → heard next bytes last)) → count ≡ 0
           → cleared ≡ []
           → machine' ≡ after_lines after_line machine (last_line line)
           → out' ≡ cleared ++ said_to_lines machine (last_line line) → shown' ≡ out'
           → ((n : ℕ) × tell_failed last (take n shown') error final) → (ending : Ending) → ending ≡ WriteFailed error
-          → Holds has_finished final machine' ending
-      exit_untold last final machine' cleared out' shown' bytes count error s e step h none clear taken said e' (n, step')
+          → Holds final machine' ending
+      exit_untold last final machine' cleared out' shown' bytes count error s e step going h none clear taken said e' (n, step')
           ending is =
-          let a = answers_end last machine' cleared out' bytes count s e step h none clear taken said in
-          subst (Holds has_finished final machine') (sym is) (
+          let a = answers_end last machine' cleared out' bytes count s e step going h none clear taken said in
+          subst (Holds final machine') (sym is) (
             TellFailed (take n shown') error ∷ Ended ∷ Told shown ∷ s.past,
             (last, a.went, step'),
             (
               (starts_with_some _ shown' _ n (ap (λ l. (told_in s.past ++ shown) ++ l) e' ∙ a.is_due), a.prompt),
               (a.has_heard, refl),
+              a.listens,
             ),
           )
 
       -- some bytes were heard, and the lines that end in them are answered
       pub stands_on : (last : P) (line' : List ℕ) (machine' : M) (cleared out' bytes : List ℕ) (count : ℕ)
-          → Stands turns peer line machine out → shown ≡ out → told peer shown next
+          → Stands turns peer line machine out → shown ≡ out → told peer shown next → has_finished machine ≡ false
           → ((count ≡ 0 → ended next last) × (count ≢ 0 → heard next bytes last)) → (count ≡ 0 → ⊥) → cleared ≡ []
           → line' ≡ rest_from line bytes
           → machine' ≡ after_lines after_line machine (lines_from line bytes)
           → out' ≡ cleared ++ said_to_lines machine (lines_from line bytes)
           → Stands (turns + 1) last line' machine' out'
-      stands_on last line' machine' cleared out' bytes count s e step h some clear cut taken said =
+      stands_on last line' machine' cleared out' bytes count s e step going h some clear cut taken said =
           let a = on s e step in
           let more = more_lines (Told shown ∷ s.past) line bytes s.goes_on s.cut in
           record {
@@ -240,25 +254,26 @@ module _ {P M : Type 0} (told heard : P → List ℕ → P → Type 0) (ended : 
               has_heard = after_more (Told shown ∷ s.past) next machine machine' (lines_from line bytes) _ a more taken;
               is_due =
                   due_more (Told shown ∷ s.past) next machine out' cleared (lines_from line bytes) _ a more clear said;
+              listens = listens s going;
             };
           }
 
       -- memory was refused where the end was heard, or some bytes
       pub exit_end_memory : (last : P) (other : M) (bytes : List ℕ) (count : ℕ) → Stands turns peer line machine out
-          → shown ≡ out → told peer shown next
+          → shown ≡ out → told peer shown next → has_finished machine ≡ false
           → ((count ≡ 0 → ended next last) × (count ≢ 0 → heard next bytes last)) → count ≡ 0
-          → Holds has_finished last other OutOfMemory
-      exit_end_memory last other bytes count s e step h none =
+          → Holds last other OutOfMemory
+      exit_end_memory last other bytes count s e step going h none =
           let a = on s e step in
-          (Ended ∷ Told shown ∷ s.past, (next, a.went, h.0 none), ((all_told _ next machine a, a.prompt), tt))
+          (Ended ∷ Told shown ∷ s.past, (next, a.went, h.0 none), ((all_told _ next machine a, a.prompt), tt, listens s going))
 
       pub exit_memory : (last : P) (other : M) (bytes : List ℕ) (count : ℕ) → Stands turns peer line machine out
-          → shown ≡ out → told peer shown next
+          → shown ≡ out → told peer shown next → has_finished machine ≡ false
           → ((count ≡ 0 → ended next last) × (count ≢ 0 → heard next bytes last)) → (count ≡ 0 → ⊥)
-          → Holds has_finished last other OutOfMemory
-      exit_memory last other bytes count s e step h some =
+          → Holds last other OutOfMemory
+      exit_memory last other bytes count s e step going h some =
           let a = on s e step in
-          (Heard bytes ∷ Told shown ∷ s.past, (next, a.went, h.1 some), ((all_told _ next machine a, a.prompt), tt))
+          (Heard bytes ∷ Told shown ∷ s.past, (next, a.went, h.1 some), ((all_told _ next machine a, a.prompt), tt, listens s going))
 
 -- what an ending says of what was told, where nothing failed
 module _ {M : Type 0} (opening : M → List ℕ) (after_line : M → List ℕ → M) (answer_to : M → List ℕ → List ℕ)

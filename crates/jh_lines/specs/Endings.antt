@@ -1,7 +1,7 @@
 -- How a conversation ends (this project's own).
 use Rattle.std.specs.Prelude.{◌≡◌, ◌≤◌, ◌-◌, ◌^◌, ℕ, Bool, true, false, List, length}
 use Rattle.jh_lines.specs.Events.{TalkEvent, told_in, is_at_end, HasFailedToTell}
-use Rattle.jh_lines.specs.Events.{HasFailedToListen, IsPrompt, due_in, machine_after}
+use Rattle.jh_lines.specs.Events.{HasFailedToListen, IsPrompt, ListensOpen, due_in, machine_after}
 use Rattle.jh_lines.specs.declared.ending.Ending.{Ending}
 use Rattle.jh_lines.specs.declared.ending.Ending.TheVariants.{Over, InputEnded, ReadFailed}
 use Rattle.jh_lines.specs.declared.ending.Ending.TheVariants.{WriteFailed, OutOfMemory, TooManyTurns}
@@ -24,10 +24,11 @@ IsEndingOf due after has_finished past machine TooManyTurns =
     (machine ≡ after past) × (2 ^ 64 - 1 ≤ length past)
 
 -- These events are a conversation of a machine, with all that is due told in time; it ended so, and
--- left this machine.
+-- left this machine, which listened until it had finished and no longer.
 abbrev pub IsConversation : {M : Type 0} → (M → List ℕ) → (M → List ℕ → M)
     → (M → List ℕ → List ℕ) → (M → Bool) → M → List TalkEvent → M → Ending → Type 0
 IsConversation opening after_line answer_to has_finished first past machine ending =
     IsPrompt (due_in opening after_line answer_to first) past
     × IsEndingOf (due_in opening after_line answer_to first) (machine_after after_line first)
     has_finished past machine ending
+    × ListensOpen (λ earlier. has_finished (machine_after after_line first earlier)) past

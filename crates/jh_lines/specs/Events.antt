@@ -91,3 +91,15 @@ IsPrompt due (Ended ∷ past) = (told_in past ≡ due past) × IsPrompt due past
 IsPrompt due (TellFailed bytes error ∷ past) =
     StartsWith (due past) (told_in past ++ bytes) × IsPrompt due past
 IsPrompt due (ListenFailed error ∷ past) = (told_in past ≡ due past) × IsPrompt due past
+
+-- Whenever it listened, the machine had not finished: so it never listens behind its end. `has_finished`
+-- tells it of the events before.
+abbrev pub ListensOpen : (List TalkEvent → Bool) → List TalkEvent → Type 0
+ListensOpen has_finished [] = Unit {0}
+ListensOpen has_finished (Told bytes ∷ past) = ListensOpen has_finished past
+ListensOpen has_finished (Heard bytes ∷ past) =
+    (has_finished past ≡ false) × ListensOpen has_finished past
+ListensOpen has_finished (Ended ∷ past) = (has_finished past ≡ false) × ListensOpen has_finished past
+ListensOpen has_finished (TellFailed bytes error ∷ past) = ListensOpen has_finished past
+ListensOpen has_finished (ListenFailed error ∷ past) =
+    (has_finished past ≡ false) × ListensOpen has_finished past

@@ -3,3 +3,4 @@ pub mod Answering
 pub mod Events
 pub mod Endings
 pub mod Laws
+pub mod ByLines
