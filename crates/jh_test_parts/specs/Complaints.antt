@@ -31,3 +31,4 @@ complaint_text complaint.OtherStep = Some (codes "not the answer of the step tha
 complaint_text complaint.NoCallOpen = Some (codes "no call of this process is open")
 complaint_text complaint.OtherCall = Some (codes "not the answer of the call that is open")
 complaint_text complaint.BadValue = Some (codes "bad value")
+complaint_text complaint.NotReady = Some (codes "not :ready")

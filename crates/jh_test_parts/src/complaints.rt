@@ -22,6 +22,8 @@ pub enum Complaint {
     NoCallOpen,
     OtherCall,
     BadValue,
+    /// The line of a test waits for `:ready`.
+    NotReady,
 }
 
 /// What is wrong with a text of EDN, without the line at which it is.
@@ -61,6 +63,7 @@ impl Display for Complaint {
             Complaint::NoCallOpen => f.write_str("no call of this process is open"),
             Complaint::OtherCall => f.write_str("not the answer of the call that is open"),
             Complaint::BadValue => f.write_str("bad value"),
+            Complaint::NotReady => f.write_str("not :ready"),
         }
     }
 }
