@@ -64,6 +64,10 @@ test_of_data fields = record {
   schedule = fields.schedule.items;
 }
 
+-- the test with another schedule and another seed, all else being the same
+abbrev pub test_with_schedule : TestValue → List TestEntry → ℕ → TestValue
+test_with_schedule t schedule seed = record t { schedule = schedule; seed = seed }
+
 -- Which tests can be made.
 
 abbrev pub HasTestClients : TestValue → Type 0

@@ -1,11 +1,12 @@
 //! What a test of a real database is set to. `specs/Test.antt` says what each part is and which tests
 //! can be made.
 
-ghost use Rattle.std.specs.Prelude.{◌≡◌, ◌↔◌, ◌<◌, [], All, IfSome, IsTrue, MatchResult, length};
-ghost use Rattle.std.specs.Prelude.{option_map};
+ghost use Rattle.std.specs.Prelude.{◌≡◌, ◌↔◌, ◌<◌, ◌≤◌, [], All, IfOk, IfSome, IsTrue, MatchResult};
+ghost use Rattle.std.specs.Prelude.{length, option_map};
 ghost use Rattle.jh_env.specs.Overlay.{StandsFor};
 ghost use Rattle.jh_nemesis.specs.Steps.{FitsNodes};
 ghost use Rattle.jh_gen.specs.View.{generator_of};
+ghost use Rattle.jh_test_parts.specs.Limits.{max_test_entries};
 ghost use Rattle.jh_test_parts.specs.Test as rule;
 ghost use Rattle.jh_test_parts.specs.Test.{IsFitTest, IsGoodShape, RefusesTest};
 
@@ -218,6 +219,23 @@ fn judge(fields: &TestData) -> Result<(), TestError>
     Ok(())
 }
 
+/// The same generator once more, to be held by another test.
+fn copied(alloc: Global, generator: &Inner) -> Result<Inner, AllocError>
+    ensures { IfOk result (λ copy. copy ≡ generator.now) }
+{
+    Inner::of(alloc, generator.as_gen().copy(alloc)?)
+}
+
+/// The same final calls once more, where there are some.
+fn copied_final(alloc: Global, final_calls: &Option<Inner>) -> Result<Option<Inner>, AllocError>
+    ensures { IfOk result (λ copy. copy ≡ final_calls.now) }
+{
+    match final_calls {
+        None => Ok(None),
+        Some(generator) => Ok(Some(copied(alloc, generator)?)),
+    }
+}
+
 impl Test {
     /// The test of this data.
     ///
@@ -265,6 +283,40 @@ impl Test {
             keys,
             transactions,
             recovery,
+            seed,
+            schedule,
+        })
+    }
+
+    /// The test with another schedule, of at most 1,024 entries whose faults name nodes of its
+    /// environment, and with another seed, all else being the same. Takes time and memory for every
+    /// cell of the environment and for the generators.
+    ///
+    /// Error: memory was refused.
+    pub fn with_schedule(
+        &self,
+        alloc: Global,
+        schedule: Vec<TestEntry>,
+        seed: u64,
+    ) -> Result<Test, AllocError>
+        requires few { length schedule.items ≤ max_test_entries }
+        requires fit { All (λ entry. FitsNodes (length self.now.start.names) entry.step)
+            schedule.items }
+        ensures { IfOk result
+            (λ made. made ≡ rule.test_with_schedule self.now schedule.items seed) }
+    {
+        Ok(Test {
+            environment: self.environment.copy(alloc)?,
+            workload: self.workload,
+            generator: copied(alloc, &self.generator)?,
+            final_calls: copied_final(alloc, &self.final_calls)?,
+            clients: self.clients,
+            ops: self.ops,
+            time_limit: self.time_limit,
+            rate: self.rate,
+            keys: self.keys,
+            transactions: self.transactions,
+            recovery: self.recovery,
             seed,
             schedule,
         })
