@@ -15,7 +15,7 @@ allowed_is : {A : Type 0} (b : Bool) (parsed : Option A) (x : A) → (if b then 
 allowed_is true parsed x e = e
 allowed_is false parsed x e = absurd (none_not x e)
 
-where_is : {A : Type 0} (may : TestWorkload → Bool) (key : Key) (document : Members) (parsed : Option A) (x : A) (workload : TestWorkload) → parsed_test_workload document ≡ Some workload → where_workload may key document parsed ≡ Some x → parsed ≡ Some x
+pub where_is : {A : Type 0} (may : TestWorkload → Bool) (key : Key) (document : Members) (parsed : Option A) (x : A) (workload : TestWorkload) → parsed_test_workload document ≡ Some workload → where_workload may key document parsed ≡ Some x → parsed ≡ Some x
 where_is may key document parsed x workload is e =
     allowed_is (may workload || is_missing document key) parsed x (
     sym (ap (option_and_then (λ (t : TestWorkload). if may t || is_missing document key then parsed else None)) is) ∙ e

@@ -11,4 +11,4 @@ mod settings;
 
 pub use laws::limits;
 pub use numbers::{MAX_RATE, MAX_RECOVERY_MS};
-pub use settings::{DriveSettings, drive_settings_of};
+pub use settings::{DriveSettings, drive_settings_in, drive_settings_of};

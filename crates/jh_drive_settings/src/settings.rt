@@ -15,7 +15,8 @@ ghost use Rattle.jh_drive_settings.specs.Inside.{RefusesDriveValues, RefusesShar
 ghost use Rattle.jh_drive_settings.specs.Parsed.{parsed_test_workload};
 ghost use Rattle.jh_drive_settings.specs.Refusals.{IsGoodForTest};
 ghost use Rattle.jh_drive_settings.specs.Settings.{AreDriveSettings, AreDriveSettingsOf};
-ghost use Rattle.jh_drive_settings.specs.Settings.{IsFinalAllowed, RefusesDriveSettings};
+ghost use Rattle.jh_drive_settings.specs.Settings.{IsFinalAllowed, RefusesDriveDocument};
+ghost use Rattle.jh_drive_settings.specs.Settings.{RefusesDriveSettings};
 
 use crate::choices::{final_under, model_under, test_initial_under, test_workload_under};
 use crate::numbers::{
@@ -268,17 +269,32 @@ fn settings_in(alloc: Global, table: &Table) -> Result<DriveSettings, SettingsEr
     })
 }
 
+/// The settings of a test that a table means.
+///
+/// Takes time and memory in proportion to the table.
+///
+/// Errors, in this order: `Unknown` with the first key, in byte order, that is none of `drive_keys`;
+/// `Missing` with the first needed key that does not stand there; `BadValue` with the first key, in
+/// their order, whose value is bad by itself; `Missing` with `ThreadsPerKey` or `OpsPerKey` where only
+/// the other one stands there; `BadValue` with `ThreadsPerKey` where it does not divide the clients,
+/// with `Generator` and then with `Final` where it does not suit the workload and the number of clients
+/// (`Gen::suits`), and with `Final` also where keys are independent; `OutOfMemory` where memory was
+/// refused before another error was found.
+pub fn drive_settings_in(alloc: Global, table: &Table) -> Result<DriveSettings, SettingsError>
+    ensures { MatchResult result
+        (λ settings. AreDriveSettings (table_view table.now)
+        settings.test settings.initial settings.model settings.budget)
+        (RefusesDriveDocument (table_view table.now)) }
+{
+    refuse_unknown_or_missing_keys(alloc, table, drive_keys(), needed_drive_keys())?;
+    settings_in(alloc, table)
+}
+
 /// The settings of a test that bytes mean, a TOML document in UTF-8.
 ///
 /// Takes time and memory in proportion to the bytes.
 ///
-/// Errors, in this order: `NotToml`; `Unknown` with the first key, in byte order, that is none of
-/// `drive_keys`; `Missing` with the first needed key that does not stand there; `BadValue` with the
-/// first key, in their order, whose value is bad by itself; `Missing` with `ThreadsPerKey` or
-/// `OpsPerKey` where only the other one stands there; `BadValue` with `ThreadsPerKey` where it does
-/// not divide the clients, with `Generator` and then with `Final` where it does not suit the workload
-/// and the number of clients (`Gen::suits`), and with `Final` also where keys are independent;
-/// `OutOfMemory` where memory was refused before another error was found.
+/// Errors, in this order: `NotToml`; those of `drive_settings_in`.
 pub fn drive_settings_of(alloc: Global, bytes: &[u8]) -> Result<DriveSettings, SettingsError>
     ensures { MatchResult result
         (λ settings. AreDriveSettingsOf bytes.now
@@ -286,6 +302,5 @@ pub fn drive_settings_of(alloc: Global, bytes: &[u8]) -> Result<DriveSettings, S
         (RefusesDriveSettings bytes.now) }
 {
     let table = table_of(alloc, bytes)?;
-    refuse_unknown_or_missing_keys(alloc, &table, drive_keys(), needed_drive_keys())?;
-    settings_in(alloc, &table)
+    drive_settings_in(alloc, &table)
 }
