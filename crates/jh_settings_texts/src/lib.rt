@@ -17,3 +17,4 @@ pub use printing::value_of_entry;
 pub use schedule::{Spread, schedule_to_text};
 pub use schedule_steps::steps_in_settings;
 pub use settings::{can_be_written, settings_to_text};
+pub use steps::{leads_to_others, step_has_text};

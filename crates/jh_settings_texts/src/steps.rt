@@ -18,7 +18,9 @@ fn is_any_self_link(links: &[(Node, Node)]) -> bool
 }
 
 /// Whether no link of the step's fault leads from a node to itself, as the text of a fault wants.
-pub(crate) fn leads_to_others(step: &Step) -> bool
+///
+/// Takes time linear in the links.
+pub fn leads_to_others(step: &Step) -> bool
     ensures { IsTrue result ↔ LeadsToOthers step.now }
 {
     let Step::Begin(_, fault) = step else {
@@ -32,7 +34,7 @@ pub(crate) fn leads_to_others(step: &Step) -> bool
 
 /// Does nothing. Its clause says that a step has a text over these nodes, if its fault names none but
 /// these, and no link of it leads from a node to itself.
-pub(crate) fn step_has_text(nodes: &Nodes, step: &Step)
+pub fn step_has_text(nodes: &Nodes, step: &Step)
     requires fits { FitsNodes (length nodes.now) step.now }
     requires others { LeadsToOthers step.now }
     ensures { IsStepOver (length nodes.now) step.now }
