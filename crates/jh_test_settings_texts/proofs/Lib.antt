@@ -1,0 +1,7 @@
+pub mod PutLemmas
+pub mod PlainLemmas
+pub mod PlainSettingsLemmas
+pub mod KeptLemmas
+pub mod LimitLemmas
+pub mod EntryLemmas
+pub mod SettingsLemmas

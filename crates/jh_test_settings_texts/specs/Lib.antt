@@ -1,0 +1,4 @@
+pub mod WritableEntries
+pub mod UpToSchedule
+pub mod DocumentWritten
+pub mod Inside
