@@ -3,7 +3,7 @@
 use Rattle.std.specs.Prelude.{ℕ, ◌==◌, Bool, List, codes, if◌then◌else◌, Option, Some, None, is_some}
 use Rattle.std.specs.List.{list_all, list_any, slice_split}
 use Rattle.std.specs.Str.{bytes_eq}
-use Rattle.jh_search.specs.declared.kinds.Palette.{Palette}
+use Rattle.jh_random_faults.specs.declared.kinds.Palette.{Palette}
 use Rattle.jh_step_texts.specs.Kinds.{fault_kind_named}
 
 -- what stands between commas

@@ -38,7 +38,8 @@ use jh_cli::{
     env_run, plot_run, run_run, search_run, shrink_run, timeline_run,
 };
 use jh_edn::Value;
-use jh_search::{Palette, SearchObserver};
+use jh_random_faults::Palette;
+use jh_search::SearchObserver;
 use jh_shrink::ShrinkObserver;
 use jh_timeline_sections::Choice;
 use jh_txn::ConsistencyModel;

@@ -5,7 +5,7 @@
 ghost use Rattle.std.specs.Prelude.{◌≡◌};
 ghost use Rattle.jh_arguments.specs.Palettes as rule;
 
-use jh_search::Palette;
+use jh_random_faults::Palette;
 use jh_step_texts::FaultKind;
 
 /// Whether a kind has this name.

@@ -8,7 +8,7 @@ use Rattle.std.specs.Fmt.{decimal}
 use Rattle.jh_simnode.specs.Plans.{PlanValue}
 use Rattle.jh_search.specs.Candidates.{candidate_of}
 use Rattle.jh_search.specs.Search.{IsSearched}
-use Rattle.jh_search.specs.declared.kinds.Palette.{Palette}
+use Rattle.jh_random_faults.specs.declared.kinds.Palette.{Palette}
 use Rattle.jh_search.specs.declared.options.Options.{Options}
 use Rattle.jh_search.specs.declared.serial.Searched.{Searched}
 use Rattle.jh_settings.specs.Keys.{IsDocument}

@@ -19,8 +19,9 @@ ghost use Rattle.jh_cli.specs.SearchText.{candidate_comment, search_options, spr
 use crate::error::CliError;
 use crate::output::{MAX_READS, finish};
 use jh_edn::read_bytes;
+use jh_random_faults::Palette;
 use jh_reports::{DONE, INVALID, Output, UNKNOWN};
-use jh_search::{Options, Palette, SearchError, SearchObserver, Searched, candidate, search};
+use jh_search::{Options, SearchError, SearchObserver, Searched, candidate, search};
 use jh_settings::settings_of;
 use jh_settings_texts::{Spread, can_be_written, schedule_to_text, settings_behind};
 use jh_simnode::Plan;

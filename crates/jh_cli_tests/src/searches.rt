@@ -4,7 +4,8 @@
 
 use crate::rows::{Texts, first_wrong};
 use jh_cli::{SearchQuestion, search_run};
-use jh_search::{Palette, SearchObserver};
+use jh_random_faults::Palette;
+use jh_search::SearchObserver;
 use std::alloc::Global;
 use std::sync::Wait;
 use std::thread::Threads;

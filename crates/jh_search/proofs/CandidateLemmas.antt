@@ -1,8 +1,8 @@
--- What is true of the entries and kinds of a candidate.
-use Rattle.std.proofs.Common.{◌≡◌, ℕ, ◌+◌, ◌<◌, Bool, true, false, List, [], ◌∷◌, ◌≤◌, ◌^◌, length, length-append, map, take, drop, refl, ap, subst, sym, arith}
-use Rattle.std.specs.Prelude.{◌||◌, not, nat_lt, if◌then◌else◌}
+-- What is true of the entries of a candidate.
+use Rattle.std.proofs.Common.{◌≡◌, ℕ, ◌+◌, ◌<◌, true, false, List, [], ◌∷◌, ◌≤◌, ◌^◌, length, length-append, map, take, drop, refl, ap, subst, sym, arith}
+use Rattle.std.specs.Prelude.{nat_lt, if◌then◌else◌}
 use Rattle.std.specs.List.{fold, insert, position_or_len, range_with_len}
-use Rattle.std.proofs.lemmas.Bool.{and_parts, ltb-true}
+use Rattle.std.proofs.lemmas.Bool.{ltb-true}
 use Rattle.std.proofs.lemmas.List.{length-map, take-append-drop}
 use Rattle.std.proofs.lemmas.List.Elements.{All-append, All-cons, All-drop, All-map, All-take, All-weaker}
 use Rattle.std.proofs.lemmas.List.Sums.{fold_push}
@@ -10,26 +10,16 @@ use Rattle.jh_nemesis.specs.Steps.{FitsNodes}
 use Rattle.jh_nemesis.specs.declared.steps.Step.{Step}
 use Rattle.jh_nemesis.specs.declared.steps.Step.TheVariants.{Begin, Withdraw, WithdrawAll, Undo, Redo}
 use Rattle.jh_step_texts.specs.StepWritten.{step_in_order}
-use Rattle.jh_env.specs.FaultOrder.{fault_in_order, is_link_before}
-use Rattle.jh_step_texts.proofs.FaultOrderLemmas.{in_order_fits, in_order_stays}
-use Rattle.jh_step_texts.proofs.LinkLemmas.{all_from, kept, range_more}
+use Rattle.jh_step_texts.proofs.LinkLemmas.{range_more}
 use Rattle.jh_simnode.specs.declared.schedule.Entry.{Entry}
 use Rattle.jh_simnode.specs.Limits.{max_entries}
 use Rattle.jh_simnode.specs.Plans.{PlanValue, RefusesSchedule}
 use Rattle.jh_simnode.specs.declared.plan.PlanError.TheVariants as PlanError
-use Rattle.jh_env.specs.Faults.{FaultValue, is_self_link}
-use Rattle.jh_env.specs.Faults.{Cut, Slow, Loss, Fix, Pause, Kill, Bump}
-use Rattle.jh_laws.specs.StepLines.{HasNoSelfLink}
-use Rattle.jh_laws.proofs.OrderLemmas.{none_in_order}
 use Rattle.jh_settings_texts.specs.SettingsWritten.{CanBeWritten, IsWritableEntry, LeadsToOthers, entry_in_order, plan_in_order}
-use Rattle.jh_step_texts.specs.declared.kinds.FaultKind.{FaultKind}
-use Rattle.jh_search.specs.declared.kinds.Palette.{Palette}
+use Rattle.jh_random_faults.proofs.StepLemmas.{fault_leads, step_fits, step_stays}
 use Rattle.jh_search.specs.declared.options.Options.{Options}
 use Rattle.jh_search.specs.Candidates.{candidate_plan, entries_with, entries_with_random}
 use Rattle.jh_search.specs.CandidatesInside.{AreEntriesFor}
-use Rattle.jh_search.specs.FaultsInside.{HasNamed, HaveNamed}
-use Rattle.jh_step_texts.specs.Kinds.{fault_kinds}
-use Rattle.jh_search.specs.Kinds.{has_kind, is_drawn, is_on_links, kinds_drawn}
 
 -- one fault more
 pub one_fault_more : (p : PlanValue) (options : Options) (seed n : ℕ)
@@ -37,18 +27,6 @@ pub one_fault_more : (p : PlanValue) (options : Options) (seed n : ℕ)
 one_fault_more p options seed n =
     let same : 0 + n ≡ n = omega arith in
     rw (← range_more 0 n, same) (fold_push (entries_with_random p options seed) p.schedule (range_with_len 0 n) n)
-
--- a kind that is drawn has something to name
-named_if_drawn : (palette : Palette) (count : ℕ) (kind : FaultKind) → is_drawn palette count kind ≡ true → HasNamed count kind
-named_if_drawn palette count kind drawn links = go (is_on_links kind) links (and_parts (has_kind palette kind) (not (is_on_links kind) || nat_lt 1 count) drawn).1 where
-  go : (b : Bool) → b ≡ true → (not b || nat_lt 1 count) ≡ true → 1 < count
-  go true is some = ltb-true 1 count some
-  go false is some = absurd cc
-
-pub drawn_named : (palette : Palette) (count : ℕ) → HaveNamed count (kinds_drawn palette count)
-drawn_named palette count =
-    all_from (HasNamed count) (kinds_drawn palette count)
-    (λ kind has. named_if_drawn palette count kind (kept (is_drawn palette count) fault_kinds kind has).1)
 
 -- entries with one more are such as a schedule of the plan may have
 pub one_entry_more : (p : PlanValue) (entries : List Entry) (entry : Entry) → AreEntriesFor p entries → FitsNodes (length p.env.names) entry.step
@@ -79,24 +57,7 @@ entries_refused p entries PlanError.BadGenerator are refused = absurd refused
 entries_refused p entries PlanError.BadStep are refused = absurd (refused are.fit)
 entries_refused p entries PlanError.OutOfMemory are refused = refl
 
--- in order, a step fits where it did
-step_fits : (count : ℕ) (step : Step) → FitsNodes count step → FitsNodes count (step_in_order step)
-step_fits count (Begin id fault) fits = in_order_fits count fault fits
-step_fits count (Withdraw id) fits = tt
-step_fits count WithdrawAll fits = tt
-step_fits count Undo fits = tt
-step_fits count Redo fits = tt
-
--- in order, no link of a fault leads from a node to itself where none did
-fault_leads : (fault : FaultValue) → HasNoSelfLink fault → HasNoSelfLink (fault_in_order fault)
-fault_leads (Cut links) none = none_in_order is_link_before is_self_link links none
-fault_leads (Slow ms links) none = none_in_order is_link_before is_self_link links none
-fault_leads (Loss level links) none = none_in_order is_link_before is_self_link links none
-fault_leads (Fix ms links) none = none_in_order is_link_before is_self_link links none
-fault_leads (Pause nodes) none = refl
-fault_leads (Kill nodes) none = refl
-fault_leads (Bump bumps) none = refl
-
+-- in order, no link of a step leads from a node to itself where none did
 step_leads : (step : Step) → LeadsToOthers step → LeadsToOthers (step_in_order step)
 step_leads (Begin id fault) others = fault_leads fault others
 step_leads (Withdraw id) others = tt
@@ -118,13 +79,6 @@ all_in_order p entries are =
     }
 
 -- what is in order stays as it is
-step_stays : (step : Step) → step_in_order (step_in_order step) ≡ step_in_order step
-step_stays (Begin id fault) = ap (Begin id) (in_order_stays fault)
-step_stays (Withdraw id) = refl
-step_stays WithdrawAll = refl
-step_stays Undo = refl
-step_stays Redo = refl
-
 entries_stay : (entries : List Entry) → map entry_in_order (map entry_in_order entries) ≡ map entry_in_order entries
 entries_stay [] = refl
 entries_stay (e ∷ es) = λ i. record e { step = step_stays e.step i } ∷ entries_stay es i

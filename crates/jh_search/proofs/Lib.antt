@@ -1,4 +1,2 @@
 mod CandidateLemmas
-mod DrawLemmas
-mod FaultLemmas
 mod SearchLemmas

@@ -2,22 +2,21 @@
 -- seed of a given plan raised by its number, and with random faults among the entries of its
 -- schedule. Each fault of a candidate, also one of the plan's own, has its links, nodes or bumps in
 -- the order of its text, so that what is written of a candidate means that candidate.
-use Rattle.std.specs.Prelude.{ℕ, ◌+◌, ◌-◌, ◌/◌, ◌%◌, ◌^◌, ◌==◌, Bool, nat_lt, List, length}
-use Rattle.std.specs.Prelude.{slice_get, Option, Some, None, if◌then◌else◌}
+use Rattle.std.specs.Prelude.{ℕ, nat_lt, List, length, Option, Some, None, if◌then◌else◌}
 use Rattle.std.specs.List.{fold, insert, position_or_len, range_with_len}
-use Rattle.jh_nemesis.specs.declared.steps.Step.{Step}
-use Rattle.jh_nemesis.specs.declared.steps.Step.TheVariants.{Begin, Withdraw, WithdrawAll, Undo}
-use Rattle.jh_nemesis.specs.declared.steps.Step.TheVariants.{Redo}
+use Rattle.jh_nemesis.specs.declared.steps.Step.TheVariants.{Begin, Withdraw, WithdrawAll}
 use Rattle.jh_simnode.specs.declared.schedule.Entry.{Entry}
 use Rattle.jh_simnode.specs.Limits.{max_entries}
 use Rattle.jh_simnode.specs.Plans.{PlanValue}
 use Rattle.jh_settings_texts.specs.SettingsWritten.{plan_in_order}
-use Rattle.jh_search.specs.declared.draws.Draw.{Draw}
 use Rattle.jh_step_texts.specs.declared.kinds.FaultKind.{FaultKind}
+use Rattle.jh_random_faults.specs.declared.draws.Draw.{Draw}
+use Rattle.jh_random_faults.specs.Draws.{candidate_seed, draw_of, random_number}
+use Rattle.jh_random_faults.specs.Ids.{fault_id, greater_id}
+use Rattle.jh_random_faults.specs.Kinds.{drawn_kind, kinds_drawn}
+use Rattle.jh_random_faults.specs.RandomFaults.{fault_drawn}
+use Rattle.jh_random_faults.specs.Times.{begin_within, end_within, heal_within, heals, stays}
 use Rattle.jh_search.specs.declared.options.Options.{Options}
-use Rattle.jh_search.specs.Draws.{draw_of, random_number}
-use Rattle.jh_search.specs.Kinds.{kinds_drawn}
-use Rattle.jh_search.specs.RandomFaults.{fault_drawn}
 
 -- ---- entries among others
 
@@ -29,46 +28,23 @@ entries_with entries entry =
     then insert entries (position_or_len (λ other. nat_lt entry.at other.at) entries) entry
     else entries
 
--- ---- ids
-
--- the id that a step begins or withdraws, and 0 where it names none
-abbrev pub id_named : Step → ℕ
-id_named (Begin id fault) = id
-id_named (Withdraw id) = id
-id_named WithdrawAll = 0
-id_named Undo = 0
-id_named Redo = 0
-
-abbrev pub greater_id : ℕ → Entry → ℕ
-greater_id id entry = if nat_lt id (id_named entry.step) then id_named entry.step else id
-
--- the greatest id of a schedule
+-- the greatest id that a step of a schedule names
 abbrev pub greatest_id : List Entry → ℕ
-greatest_id entries = fold greater_id 0 entries
+greatest_id entries = fold (λ id entry. greater_id id entry.step) 0 entries
 
--- The faults of a candidate have the ids that follow the greatest of the plan's own. Behind the
--- greatest id of all comes 0.
-abbrev pub fault_id : PlanValue → ℕ → ℕ
-fault_id p fault = (greatest_id p.schedule + 1 + fault) % 2 ^ 32
+-- ---- when a fault begins, and when it is withdrawn: within the calls of the plan
 
--- ---- when a fault begins, and when it is withdrawn
-
--- after how many answered calls a candidate heals, where it does: when a quarter of the calls is
--- left
+-- after how many answered calls a candidate heals, where it does
 abbrev pub calls_before_heal : PlanValue → ℕ
-calls_before_heal p = p.ops - p.ops / 4
+calls_before_heal p = heal_within p.ops
 
--- a fault begins before that
+-- after how many a fault begins
 abbrev pub calls_before_begin : PlanValue → Draw → ℕ
-calls_before_begin p d = d.begin % calls_before_heal p
+calls_before_begin p d = begin_within p.ops d
 
--- and ends after more calls, at the latest after all
+-- and after how many it is withdrawn
 abbrev pub calls_before_end : PlanValue → Draw → ℕ
-calls_before_end p d = calls_before_begin p d + 1 + d.length % (p.ops - calls_before_begin p d)
-
--- one fault in four stays to the end
-abbrev pub stays : Draw → Bool
-stays d = (d.stay % 4) == 0
+calls_before_end p d = end_within p.ops d
 
 -- ---- the schedule
 
@@ -89,13 +65,10 @@ abbrev pub entries_with_drawn : PlanValue → ℕ → Draw → List Entry → Op
 entries_with_drawn p id d entries None = entries
 entries_with_drawn p id d entries (Some kind) = entries_with_fault p id d entries kind
 
-abbrev pub drawn_kind : List FaultKind → Draw → Option FaultKind
-drawn_kind kinds d = slice_get kinds (d.kind % length kinds)
-
 -- with the fault of this index, by a candidate's seed
 abbrev pub entries_with_random : PlanValue → Options → ℕ → List Entry → ℕ → List Entry
 entries_with_random p options seed entries fault =
-    entries_with_drawn p (fault_id p fault) (draw_of seed fault) entries
+    entries_with_drawn p (fault_id (greatest_id p.schedule) fault) (draw_of seed fault) entries
     (drawn_kind (kinds_drawn options.palette (length p.env.names)) (draw_of seed fault))
 
 -- the plan's own entries, with as many random faults as are asked for
@@ -103,22 +76,18 @@ abbrev pub entries_with_faults : PlanValue → Options → ℕ → List Entry
 entries_with_faults p options seed =
     fold (entries_with_random p options seed) p.schedule (range_with_len 0 options.faults)
 
--- two candidates in three heal, by their first random number: they withdraw all faults that are
--- active then
+-- with the withdrawal of all faults, where the first random number says that the candidate heals
 abbrev pub healed_entries : PlanValue → ℕ → List Entry → List Entry
 healed_entries p number entries =
-    if (number % 3) == 0 then entries
-    else entries_with entries (record { at = calls_before_heal p; step = WithdrawAll })
+    if heals number
+    then entries_with entries (record { at = calls_before_heal p; step = WithdrawAll })
+    else entries
 
 abbrev pub random_schedule : PlanValue → Options → ℕ → List Entry
 random_schedule p options seed =
     healed_entries p (random_number seed 0) (entries_with_faults p options seed)
 
 -- ---- the candidate
-
--- the seed of the candidate of this number; behind the greatest that settings may have comes 0
-abbrev pub seed_of : PlanValue → ℕ → ℕ
-seed_of p candidate = (p.seed + candidate) % 2 ^ 63
 
 -- the plan with this seed and this schedule, all else being the same
 abbrev pub candidate_plan : PlanValue → List Entry → ℕ → PlanValue
@@ -127,5 +96,5 @@ candidate_plan p schedule seed = record p { schedule = schedule; seed = seed }
 -- the candidate of this number, with what each fault of its schedule names in order
 abbrev pub candidate_of : PlanValue → Options → ℕ → PlanValue
 candidate_of p options candidate =
-    plan_in_order
-    (candidate_plan p (random_schedule p options (seed_of p candidate)) (seed_of p candidate))
+    (let seed = candidate_seed p.seed candidate in
+    plan_in_order (candidate_plan p (random_schedule p options seed) seed))

@@ -1,50 +1,42 @@
 //! The candidates of a search. `specs/Candidates.antt` says which plan each is,
 //! `specs/CandidatesInside.antt` what is known of entries while one is made.
 
-ghost use Rattle.std.specs.Prelude.{◌≡◌, ◌<◌, ◌≤◌, ◌+◌, ◌%◌, ◌^◌, ℕ, IfErr, IfOk, Ok, OnOk, length};
+ghost use Rattle.std.specs.Prelude.{◌≡◌, ◌<◌, ◌≤◌, ℕ, IfErr, IfOk, Ok, OnOk, length};
 ghost use Rattle.jh_simnode.specs.declared.plan.PlanError.TheVariants.{OutOfMemory};
 ghost use Rattle.jh_settings.specs.Limits.{max_due_at};
 ghost use Rattle.jh_settings_texts.specs.SettingsWritten.{CanBeWritten, plan_in_order};
+ghost use Rattle.jh_random_faults.specs.Draws.{numbers_after};
+ghost use Rattle.jh_random_faults.specs.Kinds.{drawn_kind};
+ghost use Rattle.jh_random_faults.specs.Named.{HasNamed, HaveNamed};
 ghost use Rattle.jh_search.specs.Candidates as rule;
 ghost use Rattle.jh_search.specs.CandidatesInside.{AreEntriesFor};
-ghost use Rattle.jh_search.specs.FaultsInside.{HasNamed, HaveNamed};
-ghost use Rattle.jh_search.specs.Draws.{numbers_after};
 
-use crate::draws::{Draw, next, next_draw, numbers_of};
 use crate::entries::{entries_in_order, greatest_id, put_entry};
-use crate::kinds::kinds_of;
 use crate::options::Options;
-use crate::random_faults::fault_drawn;
 use jh_nemesis::Step;
+use jh_random_faults::{
+    Draw, begin_within, candidate_seed, drawn_kind, end_within, fault_drawn, fault_id, heal_within,
+    heals, kinds_of, next_draw, next_number, numbers_of, stays,
+};
 use jh_simnode::{Entry, Plan, PlanError, Schedule};
 use jh_step_texts::FaultKind;
 use rand_pcg::Lcg128Xsl64;
 use std::alloc::{AllocError, Global};
 
-/// The id of a fault, where the greatest of the plan's own is given.
-fn fault_id(last_id: u32, fault: u32) -> u32
-    ensures { result ≡ (last_id + 1 + fault) % 2 ^ 32 }
-{
-    let id = u64::from(last_id) + 1 + u64::from(fault);
-    (id % (1 << 32)) as u32
-}
-
 /// After how many calls a candidate heals, where it does.
 fn calls_before_heal(plan: &Plan) -> u32
     ensures at { result ≡ rule.calls_before_heal plan.now }
-    ensures within { (1 ≤ result) × (result ≤ plan.now.ops) }
     ensures few { result ≤ max_due_at }
 {
-    plan.ops() - plan.ops() / 4
+    heal_within(plan.ops())
 }
 
 /// After how many calls a fault begins.
 fn calls_before_begin(plan: &Plan, draw: Draw) -> u32
     ensures at { result ≡ rule.calls_before_begin plan.now draw }
-    ensures within { result < plan.now.ops }
     ensures few { result ≤ max_due_at }
 {
-    (draw.begin % u64::from(calls_before_heal(plan))) as u32
+    begin_within(plan.ops(), draw)
 }
 
 /// After how many calls it is withdrawn.
@@ -52,27 +44,7 @@ fn calls_before_end(plan: &Plan, draw: Draw) -> u32
     ensures at { result ≡ rule.calls_before_end plan.now draw }
     ensures few { result ≤ max_due_at }
 {
-    let begin = calls_before_begin(plan, draw);
-    let left = plan.ops() - begin;
-    begin + 1 + (draw.length % u64::from(left)) as u32
-}
-
-/// Whether it stays to the end.
-fn stays(draw: Draw) -> bool
-    ensures { result ≡ rule.stays draw }
-{
-    draw.stay % 4 == 0
-}
-
-/// The kind that is drawn, where there is one.
-fn drawn_kind(kinds: &[FaultKind], draw: Draw) -> Option<FaultKind>
-    ensures { result ≡ rule.drawn_kind kinds.now draw }
-{
-    if kinds.is_empty() {
-        return None;
-    }
-    let index = draw.kind % kinds.len() as u64;
-    Some(kinds[index as usize])
+    end_within(plan.ops(), draw)
 }
 
 /// Puts the begin of a fault of this kind among entries, and its withdrawal.
@@ -119,7 +91,7 @@ fn put_drawn(
     requires named { HaveNamed (length plan.now.env.names) kinds.now }
     ensures put { OnOk result (entries.new.items
         ≡ rule.entries_with_drawn plan.now id draw entries.old.items
-        (rule.drawn_kind kinds.now draw)) }
+        (drawn_kind kinds.now draw)) }
     ensures kept { OnOk result (AreEntriesFor plan.now entries.new.items) }
 {
     match drawn_kind(kinds, draw) {
@@ -149,15 +121,15 @@ fn entries_with_faults(
     Ok(entries)
 }
 
-/// Puts the withdrawal of all faults among entries, where the candidate heals: two candidates in
-/// three do, as their first random number says.
+/// Puts the withdrawal of all faults among entries, where the first random number says that the
+/// candidate heals.
 fn put_heal(plan: &Plan, first_number: u64, entries: &mut Vec<Entry>) -> Result<(), AllocError>
     requires kept { AreEntriesFor plan.now entries.old.items }
     ensures put { OnOk result
         (entries.new.items ≡ rule.healed_entries plan.now first_number entries.old.items) }
     ensures kept { OnOk result (AreEntriesFor plan.now entries.new.items) }
 {
-    if first_number % 3 == 0 {
+    if !heals(first_number) {
         return Ok(());
     }
     let heal = Entry {
@@ -179,7 +151,7 @@ fn random_entries(
     ensures kept { IfOk result (λ entries. AreEntriesFor plan.now entries.items) }
 {
     let mut numbers = numbers_of(seed);
-    let first_number = next(&mut numbers);
+    let first_number = next_number(&mut numbers);
     let mut entries = entries_with_faults(alloc, plan, options, &mut numbers)?;
     put_heal(plan, first_number, &mut entries)?;
     Ok(entries)
@@ -214,14 +186,6 @@ fn candidate_plan(
     Ok(made.with_seed(seed))
 }
 
-/// The seed of the candidate of this number, which settings may have.
-fn seed_of(plan: &Plan, number: u64) -> u64
-    ensures { result ≡ rule.seed_of plan.now number }
-{
-    let raised = u128::from(plan.seed()) + u128::from(number);
-    (raised % (1 << 63)) as u64
-}
-
 /// The candidate of this number, from 0: the plan with its seed raised by the number, modulo 2^63,
 /// and with random faults among the entries of its schedule. A schedule has at most `MAX_ENTRIES`
 /// entries; what it has no room for is left out. Each fault, also one of the plan's own, has its
@@ -244,7 +208,7 @@ pub fn candidate(
     ensures written { CanBeWritten plan.now → IfOk result CanBeWritten }
     ensures read_back { IfOk result (λ made. plan_in_order made ≡ made) }
 {
-    let seed = seed_of(plan, number);
+    let seed = candidate_seed(plan.seed(), number);
     let drawn = random_entries(alloc, plan, *options, seed)?;
     let entries = entries_in_order(alloc, &drawn)?;
     candidate_plan(alloc, plan, entries, seed)

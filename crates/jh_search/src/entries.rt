@@ -5,7 +5,7 @@ ghost use Rattle.std.specs.Prelude.{◌≡◌, IfOk, OnOk, map};
 ghost use Rattle.jh_settings_texts.specs.SettingsWritten.{entry_in_order};
 ghost use Rattle.jh_search.specs.Candidates as rule;
 
-use jh_nemesis::Step;
+use jh_random_faults::greater_id;
 use jh_simnode::{Entry, MAX_ENTRIES};
 use jh_step_texts::step_in_order;
 use std::alloc::{AllocError, Global};
@@ -21,26 +21,13 @@ pub(crate) fn put_entry(entries: &mut Vec<Entry>, entry: Entry) -> Result<(), Al
     Ok(())
 }
 
-/// The id that a step begins or withdraws, and 0 where it names none.
-fn id_named(step: &Step) -> u32
-    ensures { result ≡ rule.id_named step.now }
-{
-    match step {
-        Step::Begin(id, _) | Step::Withdraw(id) => *id,
-        Step::WithdrawAll | Step::Undo | Step::Redo => 0,
-    }
-}
-
-/// The greatest id of a schedule.
+/// The greatest id that a step of a schedule names.
 pub(crate) fn greatest_id(entries: &[Entry]) -> u32
     ensures { result ≡ rule.greatest_id entries.now }
 {
     let mut greatest = 0;
     for entry in entries {
-        let id = id_named(&entry.step);
-        if greatest < id {
-            greatest = id;
-        }
+        greatest = greater_id(greatest, &entry.step);
     }
     greatest
 }

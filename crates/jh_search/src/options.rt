@@ -1,7 +1,7 @@
 //! What a search takes. `specs/Candidates.antt` and `specs/Search.antt` say what its fields
 //! mean.
 
-use crate::kinds::Palette;
+use jh_random_faults::Palette;
 
 /// What a search takes beside a plan: which candidates are made and tried, and by which budget each is
 /// judged. On how many threads they are tried is no option, for the answer is the same. What a

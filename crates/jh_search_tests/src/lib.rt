@@ -1,5 +1,5 @@
-//! Tests of `jh_search` and `jh_tasks` in `search`, and of `jh_settings_texts`, with which what was found is written, in a module of that
-//! name. `plain_search` is a plain slow program of which nothing is claimed: `search` compares with it.
+//! Tests of `jh_search` and `jh_tasks` in `search`, of `jh_settings_texts`, with which what was found is written, and of
+//! `jh_test_candidates`, in modules of these names. `plain_search` is a plain slow program of which nothing is claimed: `search` compares with it.
 #![tactic(auto)]
 
 #[cfg(test)]
@@ -8,3 +8,5 @@ mod plain_search;
 mod search;
 #[cfg(test)]
 mod settings_texts;
+#[cfg(test)]
+mod test_candidates;

@@ -6,7 +6,7 @@
 
 mod candidates;
 mod first;
-mod fixtures;
+pub(crate) mod fixtures;
 mod order;
 mod searches;
 mod tasks;

@@ -4,7 +4,8 @@
 use crate::plain_search::plain_candidate;
 use crate::search::fixtures::{FIVE, ONE, THREE, options_of, plan_of, plan_text};
 use jh_nemesis::Step;
-use jh_search::{Options, Palette, candidate};
+use jh_random_faults::Palette;
+use jh_search::{Options, candidate};
 use jh_simnode::{Entry, Plan, Schedule};
 use std::alloc::Global;
 

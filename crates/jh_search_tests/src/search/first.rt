@@ -1,7 +1,8 @@
 //! The first call that the README of `jh_search` shows.
 
 use crate::search::fixtures::{THREE, plan_of};
-use jh_search::{Options, Palette, search_serial};
+use jh_random_faults::Palette;
+use jh_search::{Options, search_serial};
 use jh_simnode::Plan;
 use std::alloc::Global;
 

@@ -6,7 +6,8 @@ ghost use Rattle.std.specs.Prelude.{◌≡◌, length};
 ghost use Rattle.jh_nemesis.specs.Steps.{FitsNodes};
 
 use jh_edn::write as write_value;
-use jh_search::{Options, Palette};
+use jh_random_faults::Palette;
+use jh_search::Options;
 use jh_settings::settings_of;
 use jh_simnode::{Entry, Plan};
 use jh_step_texts::value_of_step;

@@ -1,6 +1,5 @@
-use Rattle.std.proofs.Common.{◌≡◌, ◌<◌, ◌+◌, ◌^◌, List, subst, sym, ap, ◌∙◌, arith}
+use Rattle.std.proofs.Common.{◌≡◌, List, subst, sym, ap, ◌∙◌}
 use Rattle.std.specs.Prelude.{map}
-use Rattle.std.proofs.lemmas.Nat.{mod_below}
 use Rattle.std.proofs.lemmas.Result.{IfOk-weaker}
 use Rattle.jh_settings_texts.specs.SettingsWritten.{CanBeWritten, entry_in_order, plan_in_order}
 use Rattle.jh_simnode.specs.declared.schedule.Entry.{Entry}
@@ -21,13 +20,12 @@ returns-clause-written c can =
     let ordered = c.in_ok-entries.ensures ∙ ap (map entry_in_order) c.deref.ensures.value in
     let entries = c.in_ok-entries.entries.items in
     let are : AreEntriesFor p entries = subst (AreEntriesFor p) (sym ordered) (all_in_order p c.in_ok-drawn.drawn.items c.in_ok-drawn.ensures.kept) in
-    let small : c.seed_of-seed.result < 2 ^ 63 = subst (λ n. n < 2 ^ 63) (sym c.seed_of-seed.ensures) (mod_below (p.seed + c.args.number) (2 ^ 63) (omega arith)) in
-    IfOk-weaker c.candidate_plan.result _ _ (λ made is. subst CanBeWritten (sym is) (replanned_written p entries c.seed_of-seed.result can small are)) c.candidate_plan.ensures
+    IfOk-weaker c.candidate_plan.result _ _ (λ made is. subst CanBeWritten (sym is) (replanned_written p entries c.candidate_seed-seed.result can c.candidate_seed-seed.ensures.small are)) c.candidate_plan.ensures
 
 pub returns-clause-read_back : goal.returns-clause-read_back
 returns-clause-read_back c =
     let p = c.args.plan.now in
-    let seed = c.seed_of-seed.result in
+    let seed = c.candidate_seed-seed.result in
     let drawn = candidate_plan p c.in_ok-drawn.drawn.items seed in
     let ordered = c.in_ok-entries.ensures ∙ ap (map entry_in_order) c.deref.ensures.value in
     IfOk-weaker c.candidate_plan.result _ _

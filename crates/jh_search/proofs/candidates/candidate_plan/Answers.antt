@@ -1,7 +1,7 @@
-use Rattle.std.proofs.Common.{rules, ◌≡◌, ap, subst, sym, ◌∙◌}
+use Rattle.std.proofs.Common.{rules, ◌≡◌, ap, subst, ◌∙◌}
 use Rattle.jh_simnode.specs.Plans.{PlanValue, RefusesSchedule, plan_with_schedule, plan_with_seed}
 use Rattle.jh_search.proofs.CandidateLemmas.{entries_refused}
-use Rattle.jh_search.proofs.FaultLemmas.{only_memory}
+use Rattle.jh_random_faults.proofs.FaultLemmas.{only_memory}
 use Rattle.jh_search.proofs.candidates.candidate_plan.Goals as goal
 
 pub made_plan-requires : goal.made_plan-requires

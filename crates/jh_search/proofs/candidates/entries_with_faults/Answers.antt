@@ -1,19 +1,17 @@
 use Rattle.std.proofs.Common.{rules, ◌≡◌, ◌+◌, ◌*◌, length, ap, refl, subst, sym, ◌∙◌, arith}
 use Rattle.std.specs.List.{fold, range_with_len}
-use Rattle.jh_search.specs.Candidates.{fault_id, entries_with_random}
-use Rattle.jh_search.specs.FaultsInside.{HaveNamed}
-use Rattle.jh_search.specs.Kinds.{kinds_drawn}
-use Rattle.jh_search.proofs.CandidateLemmas.{drawn_named, one_fault_more}
+use Rattle.jh_random_faults.specs.Ids.{fault_id}
+use Rattle.jh_random_faults.specs.Kinds.{kinds_drawn}
+use Rattle.jh_random_faults.specs.Named.{HaveNamed}
+use Rattle.jh_search.specs.Candidates.{entries_with_random, greatest_id}
+use Rattle.jh_search.proofs.CandidateLemmas.{one_fault_more}
 use Rattle.jh_search.proofs.candidates.entries_with_faults.Goals as goal
 
 pub put_drawn-requires-clause-named : goal.put_drawn-requires-clause-named
 put_drawn-requires-clause-named c =
-    let palette = c.args.options.palette in
-    let count = length c.args.plan.now.env.names in
     let names = c.nodes.ensures.names ∙ ap (λ env. env.names) c.environment.ensures.environment in
-    let kinds : c.deref.result.now ≡ kinds_drawn palette count =
-    c.deref.ensures.value ∙ c.in_ok-kinds.ensures ∙ ap (kinds_drawn palette) (c.len.ensures.len ∙ ap length names) in
-    subst (HaveNamed count) (sym kinds) (drawn_named palette count)
+    let count = c.len.ensures.len ∙ ap length names in
+    rw (← count) (subst (HaveNamed c.len.result) (sym c.deref.ensures.value) c.in_ok-kinds.ensures.named)
 
 pub loop-fault-preserved : goal.loop-fault-preserved
 loop-fault-preserved c =
@@ -24,8 +22,8 @@ loop-fault-preserved c =
     let count = length p.env.names in
     let names = c.nodes.ensures.names ∙ ap (λ env. env.names) c.environment.ensures.environment in
     let kinds : c.deref.result.now ≡ kinds_drawn palette count =
-    c.deref.ensures.value ∙ c.in_ok-kinds.ensures ∙ ap (kinds_drawn palette) (c.len.ensures.len ∙ ap length names) in
-    let id : c.fault_id-id.result ≡ fault_id p fault = search rules in
+    c.deref.ensures.value ∙ c.in_ok-kinds.ensures.kinds ∙ ap (kinds_drawn palette) (c.len.ensures.len ∙ ap length names) in
+    let id : c.fault_id-id.result ≡ fault_id (greatest_id p.schedule) fault = search rules in
     record {
       so_far = λ seed at.
           let before = c.loop-fault.invariant.so_far seed at in

@@ -2,7 +2,7 @@ use Rattle.std.proofs.Common.{◌≡◌, ◌*◌, ◌+◌, ℕ}
 use Rattle.std.specs.List.{fold, range_with_len}
 use Rattle.jh_search.specs.Candidates.{entries_with_random}
 use Rattle.jh_search.specs.CandidatesInside.{AreEntriesFor}
-use Rattle.jh_search.specs.Draws.{numbers_after}
+use Rattle.jh_random_faults.specs.Draws.{numbers_after}
 use Rattle.jh_search.proofs.candidates.entries_with_faults.Given as goal
 
 abbrev pub invariant-loop-fault : goal.invariant-loop-fault

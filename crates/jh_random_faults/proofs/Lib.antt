@@ -1,0 +1,4 @@
+mod DrawLemmas
+pub mod FaultLemmas
+mod KindLemmas
+pub mod StepLemmas
