@@ -63,6 +63,26 @@ IsNotJudged true judging history =
     (error : KeysError) × RefusesKeys (keys_question judging history) error
     × (error ≢ KeysErrors.OutOfMemory)
 
+-- why a history has no last line: it is not judged, or memory was refused
+abbrev pub RefusesToJudge : Bool → Judging → List Operation → DriveError → Type 0
+RefusesToJudge by_keys judging history OutOfMemory = Unit {0}
+RefusesToJudge by_keys judging history Mismatch = IsNotJudged by_keys judging history
+RefusesToJudge by_keys judging history _ = ⊥
+
+-- why a report is not written to its end
+abbrev pub RefusesReport : Judging → ConversationValue → DriveError → Type 0
+RefusesReport judging c Write = Unit {0}
+RefusesReport judging c OutOfMemory = Unit {0}
+RefusesReport judging c Mismatch =
+    IsNotJudged (is_some c.test.keys) judging (recorded_history c.test c.machine)
+RefusesReport judging c _ = ⊥
+
+-- why what was found is not written
+abbrev pub IsNotWritten : DriveError → Type 0
+IsNotWritten Write = Unit {0}
+IsNotWritten OutOfMemory = Unit {0}
+IsNotWritten _ = ⊥
+
 -- by what the history of a test is judged
 abbrev pub judging_of : TestValue → Option ℤ → ConsistencyModel → ℕ → Judging
 judging_of t initial model budget =

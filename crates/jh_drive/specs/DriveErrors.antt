@@ -8,6 +8,7 @@ use Rattle.jh_settings.specs.declared.error.SettingsError.TheVariants as Setting
 use Rattle.jh_test_parts.specs.Complaints.{complaint_text}
 use Rattle.jh_drive.specs.declared.error.DriveError.{DriveError}
 use Rattle.jh_drive.specs.declared.error.DriveError.TheVariants.{Settings, SettingsRead, Reply}
+use Rattle.jh_drive.specs.declared.error.DriveError.TheVariants.{BadPalette}
 use Rattle.jh_drive.specs.declared.error.DriveError.TheVariants.{RepliesEnded, Read, TooManyTurns}
 use Rattle.jh_drive.specs.declared.error.DriveError.TheVariants.{Mismatch}
 use Rattle.jh_drive.specs.declared.error.DriveError.TheVariants.{Write, OutOfMemory}
@@ -15,6 +16,7 @@ use Rattle.jh_drive.specs.declared.error.DriveError.TheVariants.{Write, OutOfMem
 abbrev pub drive_status : DriveError → ℕ
 drive_status (Settings error) = 3
 drive_status SettingsRead = 4
+drive_status BadPalette = 3
 drive_status (Reply number why) = 3
 drive_status RepliesEnded = 4
 drive_status Read = 4
@@ -27,6 +29,8 @@ drive_status OutOfMemory = 4
 abbrev pub drive_text : DriveError → Option (List ℕ)
 drive_text (Settings error) = None
 drive_text SettingsRead = Some (codes "settings: read failed")
+drive_text BadPalette =
+    Some (codes "--palette: not kinds of cut, slow, loss, fix, pause, kill, bump, with commas between")
 drive_text (Reply number why) =
     option_map (λ text. codes "reply " ++ (decimal number ++ (codes ": " ++ text)))
     (complaint_text why)

@@ -10,7 +10,7 @@ ghost use Rattle.jh_drive.specs.declared.error.DriveError.TheVariants as DriveEr
 
 use crate::calls::CallObserver;
 use crate::error::DriveError;
-use crate::report::report;
+use crate::report::report_test;
 use jh_checkers::Judging;
 use jh_conversation::{BadLine, Conversation};
 use jh_drive_settings::{DriveSettings, drive_settings_of};
@@ -20,8 +20,9 @@ use jh_txn::ConsistencyModel;
 use std::alloc::Global;
 use std::io::{Read, Write};
 
-/// By what the history of a test is judged.
-fn judging_of(
+/// By what the history of a test is judged: from what a register holds at first, by the model that
+/// transactions are to keep, reaching at most so many configurations.
+pub fn judging_of(
     test: &Test,
     initial: Option<i64>,
     model: ConsistencyModel,
@@ -51,8 +52,9 @@ fn ended_early(ending: Ending) -> DriveError
     }
 }
 
-/// The answer of a test whose report is written.
-fn drive_answer(
+/// How a test ends whose conversation is held: by the first line that was no reply, where there was one;
+/// else by the exit status of its verdict, where it came to its end, and by what ended it early, where not.
+pub fn drive_answer(
     bad: Option<BadLine>,
     is_over: bool,
     ending: Ending,
@@ -90,7 +92,7 @@ fn hold<R: Read, W: Write, O: CallObserver>(
     }
     let bad = conversation.bad();
     let is_over = conversation.is_over();
-    match report(alloc, conversation, judging, &mut streams.writer, observer) {
+    match report_test(alloc, conversation, judging, &mut streams.writer, observer) {
         Ok(status) => drive_answer(bad, is_over, ending, status),
         Err(error) => Err(error),
     }

@@ -22,6 +22,8 @@ pub enum DriveError {
     Settings(SettingsError),
     /// The settings could not be read.
     SettingsRead,
+    /// What a search of tests names as kinds of faults are none.
+    BadPalette,
     /// The first line that is no reply, by its number from 1.
     Reply { number: u64, why: Complaint },
     /// The input ended before the test did.
@@ -44,7 +46,7 @@ impl DriveError {
         ensures { result ≡ drive_status self.now }
     {
         match self {
-            DriveError::Settings(_) | DriveError::Reply { .. } => REFUSED,
+            DriveError::Settings(_) | DriveError::BadPalette | DriveError::Reply { .. } => REFUSED,
             DriveError::SettingsRead
             | DriveError::RepliesEnded
             | DriveError::Read
@@ -63,6 +65,9 @@ impl Display for DriveError {
         match self {
             DriveError::Settings(error) => write!(f, "settings: {error}"),
             DriveError::SettingsRead => f.write_str("settings: read failed"),
+            DriveError::BadPalette => f.write_str(
+                "--palette: not kinds of cut, slow, loss, fix, pause, kill, bump, with commas between",
+            ),
             DriveError::Reply { number, why } => write!(f, "reply {number}: {why}"),
             DriveError::RepliesEnded => f.write_str("replies ended"),
             DriveError::Read => f.write_str("read failed"),

@@ -8,5 +8,6 @@ mod error;
 mod report;
 
 pub use calls::{CallCounts, CallObserver};
-pub use conducting::drive;
+pub use conducting::{drive, drive_answer, judging_of};
 pub use error::DriveError;
+pub use report::{judge_test, report_test, write_report};

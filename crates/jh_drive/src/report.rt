@@ -1,12 +1,10 @@
 //! The report of a test. `specs/Drive.antt` has the rule.
-//!
-//! What is known is written before the history is judged, so that it is there where judging fails.
 
 ghost use Rattle.std.specs.Prelude.{◌≡◌, ◌++◌, List, ℕ, IfErr, IfOk, MatchResult, OnOk, false, is_some, true};
 ghost use Rattle.std.specs.Io.KnownBytes.{Appends};
 ghost use Rattle.jh_conversation.specs.Text.{recorded_history};
-ghost use Rattle.jh_drive.specs.Drive.{IsReportOf, end_if_missing};
-ghost use Rattle.jh_drive.specs.DriveInside.{IsFirstPart, RefusesToJudge, RefusesReport};
+ghost use Rattle.jh_drive.specs.Drive.{IsNotWritten, IsReportOf, RefusesReport, RefusesToJudge, end_if_missing};
+ghost use Rattle.jh_drive.specs.DriveInside.{IsFirstPart};
 ghost use Rattle.jh_drive.specs.declared.error.DriveError.TheVariants as DriveErrors;
 ghost use Rattle.jh_ops.specs.Operation.{operations};
 ghost use Rattle.jh_reports.specs.Judged.{IsKeysText, IsTextBy, IsWholeText};
@@ -72,8 +70,11 @@ fn judge_one(alloc: Global, history: &[Op], judging: Judging<'_>) -> Result<Outp
     }
 }
 
-/// Judges the history of a test, of which an observer is told first.
-fn judge_history<O: CallObserver>(
+/// Judges the history of a test as one, or by its keys where they are independent: the last line of its
+/// report, and the exit status of the verdict. An observer is told first how its calls ended.
+///
+/// Errors: `Mismatch` where the history can't be judged; `OutOfMemory`.
+pub fn judge_test<O: CallObserver>(
     alloc: Global,
     conversation: &Conversation,
     judging: Judging<'_>,
@@ -94,11 +95,52 @@ fn judge_history<O: CallObserver>(
     }
 }
 
-/// Writes the report of a test, and gives the exit status of its verdict.
+/// Writes the report of a test but for its last line.
+///
+/// Errors: `Write`; `OutOfMemory`.
+fn write_known<W: Write>(
+    alloc: Global,
+    conversation: &Conversation,
+    writer: &mut W,
+) -> Result<(), DriveError>
+    ensures { MatchResult result
+        (λ _. (text : List ℕ) × IsFirstPart conversation.now text
+        × Appends (W.contents writer.old) (W.contents writer.new) text)
+        IsNotWritten }
+{
+    let known = known_of(alloc, conversation)?;
+    write(writer, &known)?;
+    Ok(())
+}
+
+/// Writes the report of a test that was judged: its history, what is left of its faults, and the line of
+/// what was found.
+///
+/// Errors: `Write`; `OutOfMemory`. A part of it may be written before either.
+pub fn write_report<W: Write>(
+    alloc: Global,
+    conversation: &Conversation,
+    judged: &Output,
+    writer: &mut W,
+) -> Result<(), DriveError>
+    ensures { MatchResult result
+        (λ _. (judging : Judging) → IsTextBy (is_some conversation.now.test.keys) judging
+        (recorded_history conversation.now.test conversation.now.machine)
+        judged.now.status judged.now.text.items
+        → (report : List ℕ) × IsReportOf judging conversation.now judged.now.status report
+        × Appends (W.contents writer.old) (W.contents writer.new) report)
+        IsNotWritten }
+{
+    write_known(alloc, conversation, writer)?;
+    write(writer, &judged.text)?;
+    Ok(())
+}
+
+/// Judges a test and writes its report, and gives the exit status of its verdict.
 ///
 /// Errors: `Write`; `Mismatch` where the history can't be judged; `OutOfMemory`. All but the last line
 /// may be written before any of them.
-pub(crate) fn report<W: Write, O: CallObserver>(
+pub fn report_test<W: Write, O: CallObserver>(
     alloc: Global,
     conversation: &Conversation,
     judging: Judging<'_>,
@@ -110,11 +152,10 @@ pub(crate) fn report<W: Write, O: CallObserver>(
         × Appends (W.contents writer.old) (W.contents writer.new) report)
         (RefusesReport judging.entry conversation.now) }
 {
-    let known = known_of(alloc, conversation)?;
-    write(writer, &known)?;
-    // The text of a long history takes as much memory as judging it: it is given back first.
-    drop(known);
-    let output = judge_history(alloc, conversation, judging, observer)?;
+    // What is known is written first, so that it is there where judging fails. Its text takes as much memory
+    // as judging, and is given back before.
+    write_known(alloc, conversation, writer)?;
+    let output = judge_test(alloc, conversation, judging, observer)?;
     write(writer, &output.text)?;
     Ok(output.status)
 }
