@@ -1,0 +1,2 @@
+pub mod TrialLemmas
+pub mod HeldLemmas
