@@ -1,0 +1,2 @@
+pub mod TriedLemmas
+pub mod FoundLemmas

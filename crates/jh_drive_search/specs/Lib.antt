@@ -1,0 +1,2 @@
+pub mod DriveSearch
+pub mod SearchInside
