@@ -1,0 +1,171 @@
+//! Searches by rows: all that is written to some replies, and how it ends.
+
+use jh_drive::DriveError;
+use jh_drive_search::{TrialOptions, search_drive, search_settings_of};
+use jh_lines::{ByLines, LineStreams};
+use jh_random_faults::Palette;
+use std::alloc::Global;
+use std::io::Write;
+
+/// Two nodes and a register; a write and a read by one client; and the first node cut off from the second one behind
+/// the first answered call.
+const SETTINGS: &str = "\
+    start = '{:nodes [\"n1\" \"n2\"]}'\n\
+    workload = \"register\"\n\
+    initial = 0\n\
+    clients = 1\n\
+    ops = 2\n\
+    generator = '[:seq [:once [:write 5]] [:once :read]]'\n\
+    schedule = ['[1 [:begin 1 [:cut [[\"n1\" \"n2\"]]]]]']\n";
+
+/// Faults of one kind, of which none are asked for.
+const KILLS: Palette = Palette {
+    cut: false,
+    slow: false,
+    loss: false,
+    fix: false,
+    pause: false,
+    kill: true,
+    bump: false,
+};
+
+/// What was written, and behind it the message and the status. None: memory was refused.
+fn with_end(mut text: Vec<u8>, ended: Result<u8, DriveError>) -> Option<Vec<u8>> {
+    match ended {
+        Ok(status) => writeln!(text, "status {status}").ok()?,
+        // What is written goes to memory too.
+        Err(DriveError::OutOfMemory | DriveError::Write) => return None,
+        Err(error) => writeln!(text, "jeprun: {error}\nstatus {}", error.status()).ok()?,
+    }
+    Some(text)
+}
+
+/// All that a search of so many candidates writes to these replies. None: memory was refused.
+fn searched_once(alloc: Global, runs: u64, replies: &[u8]) -> Option<Vec<u8>> {
+    let Ok(settings) = search_settings_of(alloc, SETTINGS.as_bytes()) else {
+        return None;
+    };
+    let options = TrialOptions {
+        from: 0,
+        runs,
+        faults: 0,
+        palette: KILLS,
+    };
+    let mut streams = LineStreams {
+        lines: ByLines::new(alloc, replies),
+        writer: Vec::new(alloc),
+    };
+    let ended = search_drive(alloc, settings, &options, &mut streams);
+    with_end(streams.writer, ended)
+}
+
+/// Whether a search writes exactly this; made once more where memory was refused.
+fn says(alloc: Global, runs: u64, replies: &str, expected: &str) -> bool {
+    let replies = replies.as_bytes();
+    let text = searched_once(alloc, runs, replies).or_else(|| searched_once(alloc, runs, replies));
+    text.is_some_and(|text| text.as_slice() == expected.as_bytes())
+}
+
+/// The rows that are not written as they should be.
+fn wrong_rows(alloc: Global, runs: u64, rows: &str) -> usize {
+    rows.split('\x1e')
+        .filter(|row| match row.split_once('\x1f') {
+            Some((replies, expected)) => !says(alloc, runs, replies, expected),
+            None => true,
+        })
+        .count()
+}
+
+/// The read of the second test is of the value from before the write.
+#[test]
+fn finds_the_second_test(rt: HostRuntime) {
+    let rows = "\
+        :ready\n\
+        {:type :ok, :process 0, :f :write, :value 5, :time 7}\n\
+        {:type :info, :process :nemesis, :f :step, :value 0}\n\
+        {:type :ok, :process 0, :f :read, :value 5}\n\
+        {:type :info, :process :nemesis, :f :step, :value 1}\n\
+        :ready\n\
+        {:type :ok, :process 0, :f :write, :value 5, :time 7}\n\
+        {:type :info, :process :nemesis, :f :step, :value 0}\n\
+        {:type :ok, :process 0, :f :read, :value 0}\n\
+        {:type :info, :process :nemesis, :f :step, :value 1}\n\
+        \x1f\
+        {:type :test, :number 0, :seed 0}\n\
+        {:index 0, :time 0, :type :invoke, :process 0, :f :write, :value 5, :node \"n1\"}\n\
+        {:index 2, :time 7, :type :info, :process :nemesis, :f :step, :value 0, :step [:begin 1 [:cut [[\"n1\" \"n2\"]]]], :links [[\"n1\" \"n2\" {:cut true, :delay 0, :loss 0}]], :nodes []}\n\
+        {:index 3, :time 7, :type :invoke, :process 0, :f :read, :value nil, :node \"n1\"}\n\
+        {:index 6, :time 7, :type :info, :process :nemesis, :f :step, :value 1, :step [:withdraw-all], :links [[\"n1\" \"n2\" {:cut false, :delay 0, :loss 0}]], :nodes []}\n\
+        :end\n\
+        {:type :test, :number 1, :seed 1}\n\
+        {:index 0, :time 0, :type :invoke, :process 0, :f :write, :value 5, :node \"n1\"}\n\
+        {:index 2, :time 7, :type :info, :process :nemesis, :f :step, :value 0, :step [:begin 1 [:cut [[\"n1\" \"n2\"]]]], :links [[\"n1\" \"n2\" {:cut true, :delay 0, :loss 0}]], :nodes []}\n\
+        {:index 3, :time 7, :type :invoke, :process 0, :f :read, :value nil, :node \"n1\"}\n\
+        {:index 6, :time 7, :type :info, :process :nemesis, :f :step, :value 1, :step [:withdraw-all], :links [[\"n1\" \"n2\" {:cut false, :delay 0, :loss 0}]], :nodes []}\n\
+        :end\n\
+        {:index 0, :time 0, :type :invoke, :process 0, :f :write, :value 5, :node \"n1\"}\n\
+        {:index 1, :time 7, :type :ok, :process 0, :f :write, :value 5}\n\
+        {:index 2, :time 7, :type :info, :process :nemesis, :f :step, :value 0, :step [:begin 1 [:cut [[\"n1\" \"n2\"]]]], :links [[\"n1\" \"n2\" {:cut true, :delay 0, :loss 0}]], :nodes []}\n\
+        {:index 3, :time 7, :type :invoke, :process 0, :f :read, :value nil, :node \"n1\"}\n\
+        {:index 4, :time 7, :type :info, :process :nemesis, :f :step, :value [0 0]}\n\
+        {:index 5, :time 7, :type :ok, :process 0, :f :read, :value 0}\n\
+        {:index 6, :time 7, :type :info, :process :nemesis, :f :step, :value 1, :step [:withdraw-all], :links [[\"n1\" \"n2\" {:cut false, :delay 0, :loss 0}]], :nodes []}\n\
+        {:index 7, :time 7, :type :info, :process :nemesis, :f :step, :value [1 0]}\n\
+        :active []\n\
+        {:nodes [\"n1\" \"n2\"], :cut [], :slow [], :loss [], :down [], :clock []}\n\
+        {:valid? false}\n\
+        :found\n\
+        clients = 1\n\
+        generator = \"[:seq [:once [:write 5]] [:once :read]]\"\n\
+        initial = 0\n\
+        ops = 2\n\
+        schedule = ['[1 [:begin 1 [:cut [[\"n1\" \"n2\"]]]]]']\n\
+        seed = 1\n\
+        start = '{:nodes [\"n1\" \"n2\"]}'\n\
+        workload = \"register\"\n\
+        status 1\n\
+    ";
+    assert_eq!(rt; wrong_rows(rt.alloc(), 2, rows), 0);
+}
+
+/// One test alone, which is valid; and one behind it whose adapter answers something else in place of `:ready`.
+#[test]
+fn tells_what_is_not_found(rt: HostRuntime) {
+    let none = "\
+        :ready\n\
+        {:type :ok, :process 0, :f :write, :value 5, :time 7}\n\
+        {:type :info, :process :nemesis, :f :step, :value 0}\n\
+        {:type :ok, :process 0, :f :read, :value 5}\n\
+        {:type :info, :process :nemesis, :f :step, :value 1}\n\
+        \x1f\
+        {:type :test, :number 0, :seed 0}\n\
+        {:index 0, :time 0, :type :invoke, :process 0, :f :write, :value 5, :node \"n1\"}\n\
+        {:index 2, :time 7, :type :info, :process :nemesis, :f :step, :value 0, :step [:begin 1 [:cut [[\"n1\" \"n2\"]]]], :links [[\"n1\" \"n2\" {:cut true, :delay 0, :loss 0}]], :nodes []}\n\
+        {:index 3, :time 7, :type :invoke, :process 0, :f :read, :value nil, :node \"n1\"}\n\
+        {:index 6, :time 7, :type :info, :process :nemesis, :f :step, :value 1, :step [:withdraw-all], :links [[\"n1\" \"n2\" {:cut false, :delay 0, :loss 0}]], :nodes []}\n\
+        :end\n\
+        :none {:tried 1, :unknown 0}\n\
+        status 0\n\
+    ";
+    assert_eq!(rt; wrong_rows(rt.alloc(), 1, none), 0);
+    let bad = "\
+        :ready\n\
+        {:type :ok, :process 0, :f :write, :value 5, :time 7}\n\
+        {:type :info, :process :nemesis, :f :step, :value 0}\n\
+        {:type :ok, :process 0, :f :read, :value 5}\n\
+        {:type :info, :process :nemesis, :f :step, :value 1}\n\
+        5\n\
+        {:type :ok}\n\
+        \x1f\
+        {:type :test, :number 0, :seed 0}\n\
+        {:index 0, :time 0, :type :invoke, :process 0, :f :write, :value 5, :node \"n1\"}\n\
+        {:index 2, :time 7, :type :info, :process :nemesis, :f :step, :value 0, :step [:begin 1 [:cut [[\"n1\" \"n2\"]]]], :links [[\"n1\" \"n2\" {:cut true, :delay 0, :loss 0}]], :nodes []}\n\
+        {:index 3, :time 7, :type :invoke, :process 0, :f :read, :value nil, :node \"n1\"}\n\
+        {:index 6, :time 7, :type :info, :process :nemesis, :f :step, :value 1, :step [:withdraw-all], :links [[\"n1\" \"n2\" {:cut false, :delay 0, :loss 0}]], :nodes []}\n\
+        :end\n\
+        {:type :test, :number 1, :seed 1}\n\
+        jeprun: reply 7: f missing\n\
+        status 3\n\
+    ";
+    assert_eq!(rt; wrong_rows(rt.alloc(), 3, bad), 0);
+}
