@@ -131,18 +131,14 @@ show = given_rule (codes "show") (Unsigned 0 max_candidates)
 abbrev pub spread : Rule
 spread = given_rule (codes "ms") (Unsigned 1 max_spread_ms)
 
--- the file with the settings of a test of a real database, whose candidates are tried
-abbrev pub tried_test_file : Rule
-tried_test_file = option (codes "drive")
-
 abbrev pub search : App
 search =
-    with_rule (with_rule (with_rule (with_rule (with_rule (with_rule
+    with_rule (with_rule (with_rule (with_rule (with_rule
     (with_rule (with_rule (with_rule (new_app (codes "search"))
     (number_rule (codes "runs") (Unsigned 1 max_candidates) (codes "10000")))
     (number_rule (codes "faults") (Unsigned 0 max_faults) (codes "8"))) palette)
     (number_rule (codes "from") (Unsigned 0 max_candidates) (codes "0"))) given_threads)
-    show) spread) tried_test_file) verbose
+    show) spread) verbose
 
 -- the file with the settings of a test, which is given by its place
 abbrev pub test_settings_file : Rule

@@ -1,46 +1,40 @@
 //! From the arguments to what is written and the exit status, over any reader and any writer: one call.
 //! `specs/Answers.antt` has the rule.
 
-ghost use Rattle.std.specs.Prelude.{◌≡◌, ◌≢◌, ◌⊎◌, ◌<◌, ◌+◌, ◌^◌, List, ℕ, Option, IfErr, IfOk};
-ghost use Rattle.std.specs.Prelude.{IsErrAnd, IsErrOf, map};
+ghost use Rattle.std.specs.Prelude.{◌≡◌, ◌≢◌, ◌⊎◌, List, ℕ, IfErr, IfOk, IsErrAnd, IsErrOf, map};
 ghost use Rattle.clap.specs.Words.{Text, subcommand_rows_of};
 ghost use Rattle.clap.specs.declared.error.Error.{Error};
 ghost use Rattle.jh_edn.specs.View.{views};
 ghost use Rattle.jh_settings_texts.specs.ScheduleSteps.{AreStepsIn};
 ghost use Rattle.jh_cli.specs.declared.error.CliError.{CliError as CliErrorData};
 ghost use Rattle.jh_cli.specs.declared.error.CliError.TheVariants as CliErrors;
+ghost use Rattle.jh_drive.specs.Drive.{IsDriven};
 ghost use Rattle.jh_drive.specs.declared.error.DriveError.{DriveError as DriveErrorData};
 ghost use Rattle.jh_drive.specs.declared.error.DriveError.TheVariants as DriveErrors;
 ghost use Rattle.jh_settings.specs.declared.error.SettingsError.{SettingsError};
 ghost use Rattle.jh_arguments.specs.Answers as rule;
-ghost use Rattle.jh_drive_search.specs.DriveSearch.{IsSearchBy, MeansSettings};
-ghost use Rattle.jh_arguments.specs.Answers.{AreAskedTo, IsTestDone};
 ghost use Rattle.jh_arguments.specs.Answers.{IsConductedTo, IsCommandDone, IsFailed, IsFileUnread};
 ghost use Rattle.jh_arguments.specs.Answers.{GivesSteps, HasNoAccounts, HasNoSteps};
 ghost use Rattle.jh_arguments.specs.Answers.{IsRunSettingsError, IsUnfinished};
-ghost use Rattle.jh_arguments.specs.Commands.{HasNumbers, SubcommandHasRunSettings, test_asked};
+ghost use Rattle.jh_arguments.specs.Commands.{SubcommandHasRunSettings};
 ghost use Rattle.jh_arguments.specs.Line.{IsRefused};
 ghost use Rattle.jh_arguments.specs.declared.answers.Refusal.TheVariants as Refusals;
 
 use crate::accounts::accounts_of;
-use crate::commands::{
-    Command, TestQuestion, TrialQuestion, command_of, do_command, run_settings_path_of,
-    test_question_of,
-};
+use crate::commands::{Command, command_of, do_command, run_settings_path_of, test_path_of};
 use crate::line::parse;
 use clap::ArgMatches;
 use jh_cli::{CliError, HistoryObserver};
 use jh_drive::{CallObserver, DriveError, drive};
-use jh_drive_search::{SearchSettings, TrialOptions, search_drive, search_settings_of};
 use jh_edn::Value;
-use jh_lines::{ByLines, LineStreams, Streams};
+use jh_lines::Streams;
 use jh_search::SearchObserver;
 use jh_settings_texts::steps_in_settings;
 use jh_shrink::ShrinkObserver;
 use std::alloc::Global;
 use std::convert::AsStr;
 use std::fs::{self, Files};
-use std::io::{self, BufReader, Read, Write};
+use std::io::{self, Read, Write};
 use std::sync::Wait;
 use std::thread::Threads;
 
@@ -68,91 +62,12 @@ pub trait CommandObserver {
     fn see_test(&mut self);
 }
 
-/// The settings of a test that a file holds.
+/// Conducts the test that a file of settings sets.
 ///
-/// Errors: `OutOfMemory`, `SettingsRead`.
-fn settings_in_file<T>(rt: &T, path: &str) -> Result<Vec<u8>, DriveError>
-where
-    T: Files + Alloc<A = Global>,
-    ensures { IfErr result IsFileUnread }
-{
-    match fs::read(rt, path) {
-        Ok(settings) => Ok(settings),
-        Err(error) if error.kind() == io::ErrorKind::OutOfMemory => Err(DriveError::OutOfMemory),
-        Err(_) => Err(DriveError::SettingsRead),
-    }
-}
-
-/// Tries candidates of the test that settings set, and reads the reader in pieces of its own.
-fn try_candidates<R, W>(
-    alloc: Global,
-    settings: SearchSettings,
-    options: &TrialOptions,
-    streams: &mut Streams<R, W>,
-) -> Result<u8, DriveError>
-where
-    R: Read,
-    W: Write,
-    requires within { options.now.from + options.now.runs < 2 ^ 64 }
-    requires means { MeansSettings settings }
-    ensures tried { (left : Option (List ℕ)) × IsSearchBy settings options.now
-        (R.remaining streams.old.reader) left
-        (W.contents streams.old.writer) (W.contents streams.new.writer) result }
-    ensures taken { (error : SettingsError) → IfErr result (λ e. e ≢ DriveErrors.Settings error) }
-{
-    let Ok(reader) = BufReader::new(alloc, &mut streams.reader) else {
-        return Err(DriveError::OutOfMemory);
-    };
-    let mut lines = LineStreams {
-        lines: ByLines::new(alloc, reader),
-        writer: &mut streams.writer,
-    };
-    search_drive(alloc, settings, options, &mut lines)
-}
-
-/// Tries these candidates of the test that bytes set.
-///
-/// Errors: `BadPalette`, then those of `search_settings_of`, before anything is told or read; else those of
-/// `search_drive`.
-fn try_test<R, W>(
-    alloc: Global,
-    settings: &[u8],
-    candidates: TrialQuestion,
-    streams: &mut Streams<R, W>,
-) -> Result<u8, DriveError>
-where
-    R: Read,
-    W: Write,
-    requires { candidates.from + candidates.runs < 2 ^ 64 }
-    ensures tried { AreAskedTo settings.now candidates candidates.palette
-        (R.remaining streams.old.reader)
-        (W.contents streams.old.writer) (W.contents streams.new.writer) result }
-    ensures streams_kept { (error : SettingsError) → IsErrOf result (DriveErrors.Settings error)
-        → (streams.new.reader ≡ streams.old.reader) × (streams.new.writer ≡ streams.old.writer) }
-{
-    let Some(palette) = candidates.palette else {
-        return Err(DriveError::BadPalette);
-    };
-    let settings = match search_settings_of(alloc, settings) {
-        Ok(settings) => settings,
-        Err(error) => return Err(error),
-    };
-    let options = TrialOptions {
-        from: candidates.from,
-        runs: candidates.runs,
-        faults: candidates.faults,
-        palette,
-    };
-    try_candidates(alloc, settings, &options, streams)
-}
-
-/// Does what is asked of the test that a file of settings sets.
-///
-/// Errors: `OutOfMemory` and `SettingsRead`, before anything is told or read; else those of `drive` or of
-/// `try_test`.
-fn answer_test<T, R, W, O>(
+/// Errors: `OutOfMemory` and `SettingsRead`, before anything is told or read; else those of `drive`.
+fn conduct_file<T, R, W, O>(
     rt: &T,
-    question: TestQuestion<'_>,
+    path: &str,
     streams: &mut Streams<R, W>,
     observer: &mut O,
 ) -> Result<u8, DriveError>
@@ -161,26 +76,22 @@ where
     R: Read,
     W: Write,
     O: CommandObserver + CallObserver,
-    requires { HasNumbers question }
     ensures ended { (IsErrAnd result IsFileUnread × (streams.new.reader ≡ streams.old.reader) × (streams.new.writer ≡ streams.old.writer))
-        ⊎ ((settings : List ℕ) × IsTestDone (test_asked question.entry) settings
+        ⊎ ((settings : List ℕ) × IsDriven settings
         (R.remaining streams.old.reader) (R.remaining streams.new.reader)
         (W.contents streams.old.writer) (W.contents streams.new.writer) result) }
     ensures streams_kept { (error : SettingsError) → IsErrOf result (DriveErrors.Settings error)
         → (streams.new.reader ≡ streams.old.reader) × (streams.new.writer ≡ streams.old.writer) }
 {
-    match question {
-        TestQuestion::Conduct { path } => {
-            let settings = settings_in_file(rt, path)?;
-            observer.see_test();
-            drive(rt.alloc(), &settings, streams, observer)
+    let settings = match fs::read(rt, path) {
+        Ok(settings) => settings,
+        Err(error) if error.kind() == io::ErrorKind::OutOfMemory => {
+            return Err(DriveError::OutOfMemory);
         }
-        TestQuestion::Try { path, candidates } => {
-            let settings = settings_in_file(rt, path)?;
-            observer.see_test();
-            try_test(rt.alloc(), &settings, candidates, streams)
-        }
-    }
+        Err(_) => return Err(DriveError::SettingsRead),
+    };
+    observer.see_test();
+    drive(rt.alloc(), &settings, streams, observer)
 }
 
 /// The steps of the schedule that the settings in a file have.
@@ -300,8 +211,8 @@ where
         Ok(matches) => matches,
         Err(error) => return Err(Refusal::Arguments(error)),
     };
-    if let Some(question) = test_question_of(&matches) {
-        return of_test(answer_test(rt, question, streams, observer));
+    if let Some(path) = test_path_of(&matches) {
+        return of_test(conduct_file(rt, path, streams, observer));
     }
     let accounts = match accounts_of(rt.alloc(), &matches) {
         Ok(accounts) => accounts,

@@ -2,7 +2,7 @@
 //!
 //! `line.rt` has the commands and their options as `clap` reads them, `help.rt` what stands at the end
 //! of their help, `accounts.rt` how the accounts of a bank are read, and `commands.rt` what each command is and
-//! does. `drive` is no `Command`, nor is `search --drive`: it has a file of settings, and `answers.rt` conducts its test. `answer` in
+//! does. `drive` is no `Command`: it has a file of settings, and `answers.rt` conducts its test. `answer` in
 //! `answers.rt` is the whole in one call, from the arguments to the exit status; `program.rt` has the standard
 //! streams, `teller.rt` what a terminal is told, and `reasons.rt` what `--verbose` says of a refusal.
 //!
@@ -25,8 +25,8 @@ mod teller;
 
 pub use answers::{CommandObserver, Refusal, answer};
 pub use commands::{
-    Command, TestQuestion, TrialQuestion, check_question_of, command_of, do_command, is_verbose,
-    search_question_of, test_question_of, timeline_question_of, trial_question_of,
+    Command, check_question_of, command_of, do_command, is_verbose, search_question_of,
+    test_path_of, timeline_question_of,
 };
 pub use jh_cli::{
     CheckQuestion, CliError, HistoryCounts, HistoryObserver, JudgingOption, SearchQuestion,

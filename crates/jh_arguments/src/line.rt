@@ -238,7 +238,6 @@ fn search_command<'a>(alloc: Global) -> Result<Command<'a>, Error>
         .arg(given_threads_option(alloc))?
         .arg(show_option(alloc))?
         .arg(spread_option(alloc))?
-        .arg(tried_test_option(alloc))?
         .arg(verbose_option(alloc))?;
     Ok(search)
 }
@@ -293,17 +292,6 @@ fn run_settings_option<'a>(alloc: Global) -> Arg<'a>
         .long("settings")
         .value_name("FILE")
         .help("The settings of the run that is shown, to name its steps")
-}
-
-/// The file with the settings of a test of a real database, whose candidates are tried.
-fn tried_test_option<'a>(alloc: Global) -> Arg<'a>
-    ensures rule { rule_of result ≡ text.tried_test_file }
-    ensures local { result.global ≡ false }
-{
-    Arg::new(alloc, "drive")
-        .long("drive")
-        .value_name("FILE")
-        .help("The settings of a test as drive has them, to try tests by lines")
 }
 
 /// How many candidates are tried at most: one, or more.

@@ -349,7 +349,6 @@ Options:
       --threads <N>      How many threads try candidates; as many as there are processors where it is left out
       --show <N>         Writes the schedule of this candidate, and runs none
       --ms <N>           With --show: spreads the schedule over so many milliseconds, for drive
-      --drive <FILE>     The settings of a test as drive has them, to try tests by lines
       --verbose          Says on standard error where and why an input is refused
   -h, --help             Print help
 
@@ -359,21 +358,13 @@ settings of the first that is not valid, which run and shrink read, or a comment
 none. The answer does not depend on the number of threads. With --show it runs nothing, and
 writes the schedule of one candidate, which settings of run take, and with --ms those of drive.
 
-With --drive it tries tests of a database of yours, whose settings are in FILE, as drive conducts
-them, one after another: before each it writes the line {:type :test, :number I, :seed S}, and the
-adapter sets its database back to the beginning and answers :ready. Behind the last one it writes
-:none, or the report of the first that is not valid, the line :found, and its settings. There
---threads, --show and --ms mean nothing.
-
-Exit status: 0 none found, 1 found, 2 none found and some unknown, 3 refused arguments,
-settings or reply, 4 where the replies ended early, memory ran out, a read or a write failed, or a
-thread could not be had
+Exit status: 0 none found, 1 found, 2 none found and some unknown, 3 refused arguments or
+settings, 4 where memory ran out, a read or a write failed, or a thread could not be had
 
 Examples:
   jeprun search < examples/search/quorum-volatile.toml > found.toml
   jeprun search --runs 200 --faults 12 --palette cut,kill < examples/search/quorum-volatile.toml
   jeprun search --show 7 --ms 60000 < examples/search/quorum-volatile.toml
-  jeprun search --drive examples/drive/register.toml --runs 2 --faults 0 < examples/search/register.edn
 § jeprun check --help → 0
 Judges a history of operations, read from standard input as EDN
 
