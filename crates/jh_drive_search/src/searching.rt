@@ -23,7 +23,7 @@ use crate::settings::SearchSettings;
 use jh_checkers::Judging;
 use jh_drive::{DriveError, judging_of, write_report};
 use jh_drive_settings::DriveSettings;
-use jh_lines::LineStreams;
+use jh_lines::ByLines;
 use jh_reports::{DONE, INVALID, Output, UNKNOWN};
 use jh_test_candidates::test_candidate;
 use jh_test_parts::Test;
@@ -54,16 +54,17 @@ fn try_candidates<B: BufRead, W: Write>(
     test: &Test,
     judging: Judging<'_>,
     options: &TrialOptions,
-    streams: &mut LineStreams<B, W>,
+    lines: &mut ByLines<B>,
+    writer: &mut W,
 ) -> Result<Searched, DriveError>
     requires { options.now.from + options.now.runs < 2 ^ 64 }
     ensures { MatchResult result
         (HasEnded test.now judging.entry options.now
-        (left_by_lines B.remaining streams.old.lines) (left_by_lines B.remaining streams.new.lines)
-        (W.contents streams.old.writer) (W.contents streams.new.writer))
+        (left_by_lines B.remaining lines.old) (left_by_lines B.remaining lines.new)
+        (W.contents writer.old) (W.contents writer.new))
         (rule.BreaksOff test.now judging.entry options.now
-        (left_by_lines B.remaining streams.old.lines) (left_by_lines B.remaining streams.new.lines)
-        (W.contents streams.old.writer) (W.contents streams.new.writer)) }
+        (left_by_lines B.remaining lines.old) (left_by_lines B.remaining lines.new)
+        (W.contents writer.old) (W.contents writer.new)) }
 {
     let mut unknown = 0;
     let mut read = 0;
@@ -71,7 +72,7 @@ fn try_candidates<B: BufRead, W: Write>(
         let number = options.from + index;
         let candidate = test_candidate(alloc, test, options.palette, options.faults, number)?;
         let mut trial = Trial::begin(alloc, candidate, number, read)?;
-        let judged = hold_trial(alloc, &mut trial, judging, streams)?;
+        let judged = hold_trial(alloc, &mut trial, judging, lines, writer)?;
         if judged.status == INVALID {
             return Ok(Searched::Failing {
                 number,
@@ -221,13 +222,14 @@ pub fn search_drive<B: BufRead, W: Write>(
     alloc: Global,
     settings: SearchSettings,
     options: &TrialOptions,
-    streams: &mut LineStreams<B, W>,
+    lines: &mut ByLines<B>,
+    writer: &mut W,
 ) -> Result<u8, DriveError>
     requires within { options.now.from + options.now.runs < 2 ^ 64 }
     requires means { MeansSettings settings }
     ensures searched { IsSearchBy settings options.now
-        (left_by_lines B.remaining streams.old.lines) (left_by_lines B.remaining streams.new.lines)
-        (W.contents streams.old.writer) (W.contents streams.new.writer) result }
+        (left_by_lines B.remaining lines.old) (left_by_lines B.remaining lines.new)
+        (W.contents writer.old) (W.contents writer.new) result }
     ensures taken { (error : SettingsError) → IfErr result (λ e. e ≢ DriveErrors.Settings error) }
 {
     let DriveSettings {
@@ -237,6 +239,6 @@ pub fn search_drive<B: BufRead, W: Write>(
         budget,
     } = &settings.settings;
     let judging = judging_of(test, *initial, *model, *budget);
-    let searched = try_candidates(alloc, test, judging, options, streams)?;
-    write_searched(alloc, settings, options, &searched, &mut streams.writer)
+    let searched = try_candidates(alloc, test, judging, options, lines, writer)?;
+    write_searched(alloc, settings, options, &searched, writer)
 }

@@ -2,7 +2,7 @@
 
 use jh_drive::DriveError;
 use jh_drive_search::{TrialOptions, search_drive, search_settings_of};
-use jh_lines::{ByLines, LineStreams};
+use jh_lines::ByLines;
 use jh_random_faults::Palette;
 use std::alloc::Global;
 use std::io::Write;
@@ -51,12 +51,10 @@ fn searched_once(alloc: Global, runs: u64, replies: &[u8]) -> Option<Vec<u8>> {
         faults: 0,
         palette: KILLS,
     };
-    let mut streams = LineStreams {
-        lines: ByLines::new(alloc, replies),
-        writer: Vec::new(alloc),
-    };
-    let ended = search_drive(alloc, settings, &options, &mut streams);
-    with_end(streams.writer, ended)
+    let mut lines = ByLines::new(alloc, replies);
+    let mut text = Vec::new(alloc);
+    let ended = search_drive(alloc, settings, &options, &mut lines, &mut text);
+    with_end(text, ended)
 }
 
 /// Whether a search writes exactly this; made once more where memory was refused.

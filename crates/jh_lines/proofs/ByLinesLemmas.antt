@@ -232,63 +232,88 @@ module _ {M : Type 0} (opening : M → List ℕ) (after_line : M → List ℕ �
       ends_with_line after_line answer_to has_finished stays_over first past pieces over.2 ended.2
       (ap has_finished (sym ended.1) ∙ ended.3)
 
-module _ {S R W : Type 0} (reader : S → R) (writer : S → W) (left : R → Option (List ℕ)) (contents : W → Option (List ℕ)) where
+module _ {S R W N : Type 0} (reader : S → R) (writer : S → W) (left : R → Option (List ℕ)) (contents : W → Option (List ℕ))
+    (reader_name : R → N) (writer_name : W → N) where
   abbrev pub TellsTo : S → List ℕ → S → Type 0
-  TellsTo s bytes t = (reader t ≡ reader s) × Appends (contents (writer s)) (contents (writer t)) bytes
+  TellsTo s bytes t =
+      (reader t ≡ reader s) × (writer_name (writer t) ≡ writer_name (writer s)) × Appends (contents (writer s)) (contents (writer t)) bytes
 
   abbrev pub HearsFrom : S → List ℕ → S → Type 0
-  HearsFrom s bytes t = (writer t ≡ writer s) × Consumes (left (reader s)) (left (reader t)) bytes × StopsAtFeed bytes
+  HearsFrom s bytes t =
+      (writer t ≡ writer s) × (reader_name (reader t) ≡ reader_name (reader s)) × Consumes (left (reader s)) (left (reader t)) bytes
+      × StopsAtFeed bytes
 
   abbrev pub EndsAt : S → S → Type 0
-  EndsAt s t = (writer t ≡ writer s) × Consumes (left (reader s)) (left (reader t)) [] × IsAtEnd (left (reader s))
+  EndsAt s t =
+      (writer t ≡ writer s) × (reader_name (reader t) ≡ reader_name (reader s)) × Consumes (left (reader s)) (left (reader t)) []
+      × IsAtEnd (left (reader s))
 
   abbrev pub FailsToTell : S → List ℕ → Error → S → Type 0
   FailsToTell s bytes error t = TellsTo s bytes t
 
   abbrev pub FailsToListen : S → Error → S → Type 0
-  FailsToListen s error t = (writer t ≡ writer s) × Keeps (left (reader s)) (left (reader t))
+  FailsToListen s error t =
+      (writer t ≡ writer s) × (reader_name (reader t) ≡ reader_name (reader s)) × Keeps (left (reader s)) (left (reader t))
+
+  abbrev pub WentOn : S → List TalkEvent → S → Type 0
+  WentOn s past t = Went TellsTo HearsFrom EndsAt FailsToTell FailsToListen s past t
 
   -- what passed by turns was taken from the lines, and went to the writer
-  pub went_by_lines : (s t : S) (past : List TalkEvent)
-      → Went TellsTo HearsFrom EndsAt FailsToTell FailsToListen s past t
+  pub went_by_lines : (s t : S) (past : List TalkEvent) → WentOn s past t
       → Consumes (left (reader s)) (left (reader t)) (heard_in past)
       × Appends (contents (writer s)) (contents (writer t)) (told_in past)
   went_by_lines s t [] same =
       subst (λ u. Consumes (left (reader s)) (left (reader u)) [] × Appends (contents (writer s)) (contents (writer u)) [])
       (sym same) (Consumes-nil (left (reader s)), Appends-nil (contents (writer s)))
-  went_by_lines s t (Told bytes ∷ past) (mid, before, (kept, step)) =
+  went_by_lines s t (Told bytes ∷ past) (mid, before, (kept, named, step)) =
       let first = went_by_lines s mid past before in (
         subst (λ r. Consumes (left (reader s)) (left r) (heard_in past)) (sym kept) first.0,
         Appends-trans _ _ _ (told_in past) bytes first.1 step,
       )
-  went_by_lines s t (Heard bytes ∷ past) (mid, before, (kept, step, stops)) =
+  went_by_lines s t (Heard bytes ∷ past) (mid, before, (kept, named, step, stops)) =
       let first = went_by_lines s mid past before in (
         Consumes-trans _ _ _ (heard_in past) bytes first.0 step,
         subst (λ w. Appends (contents (writer s)) (contents w) (told_in past)) (sym kept) first.1,
       )
-  went_by_lines s t (Ended ∷ past) (mid, before, (kept, step, end)) =
+  went_by_lines s t (Ended ∷ past) (mid, before, (kept, named, step, end)) =
       let first = went_by_lines s mid past before in (
         subst (Consumes (left (reader s)) (left (reader t))) (append-nil (heard_in past))
             (Consumes-trans _ _ _ (heard_in past) [] first.0 step),
         subst (λ w. Appends (contents (writer s)) (contents w) (told_in past)) (sym kept) first.1,
       )
-  went_by_lines s t (TellFailed bytes error ∷ past) (mid, before, (kept, step)) =
+  went_by_lines s t (TellFailed bytes error ∷ past) (mid, before, (kept, named, step)) =
       let first = went_by_lines s mid past before in (
         subst (λ r. Consumes (left (reader s)) (left r) (heard_in past)) (sym kept) first.0,
         Appends-trans _ _ _ (told_in past) bytes first.1 step,
       )
-  went_by_lines s t (ListenFailed error ∷ past) (mid, before, (kept, step)) =
+  went_by_lines s t (ListenFailed error ∷ past) (mid, before, (kept, named, step)) =
       let first = went_by_lines s mid past before in (
         Consumes-kept _ _ _ (heard_in past) first.0 step,
         subst (λ w. Appends (contents (writer s)) (contents w) (told_in past)) (sym kept) first.1,
       )
 
+  -- the lines and the writer are those that were lent
+  abbrev NamedAs : S → S → Type 0
+  NamedAs s t = (reader_name (reader t) ≡ reader_name (reader s)) × (writer_name (writer t) ≡ writer_name (writer s))
+
+  pub named_as : (s t : S) (past : List TalkEvent) → WentOn s past t → NamedAs s t
+  named_as s t [] same = (ap (λ u. reader_name (reader u)) same, ap (λ u. writer_name (writer u)) same)
+  named_as s t (Told bytes ∷ past) (mid, before, (kept, named, step)) =
+      let first = named_as s mid past before in (ap reader_name kept ∙ first.0, named ∙ first.1)
+  named_as s t (Heard bytes ∷ past) (mid, before, (kept, named, step, stops)) =
+      let first = named_as s mid past before in (named ∙ first.0, ap writer_name kept ∙ first.1)
+  named_as s t (Ended ∷ past) (mid, before, (kept, named, step, end)) =
+      let first = named_as s mid past before in (named ∙ first.0, ap writer_name kept ∙ first.1)
+  named_as s t (TellFailed bytes error ∷ past) (mid, before, (kept, named, step)) =
+      let first = named_as s mid past before in (ap reader_name kept ∙ first.0, named ∙ first.1)
+  named_as s t (ListenFailed error ∷ past) (mid, before, (kept, named, step)) =
+      let first = named_as s mid past before in (named ∙ first.0, ap writer_name kept ∙ first.1)
+
   -- each time bytes of one line were heard
-  pub pieces_of : (s t : S) (past : List TalkEvent) → Went TellsTo HearsFrom EndsAt FailsToTell FailsToListen s past t
-      → ArePieces past
+  pub pieces_of : (s t : S) (past : List TalkEvent) → WentOn s past t → ArePieces past
   pieces_of s t [] same = tt
   pieces_of s t (Told bytes ∷ past) (mid, before, step) = pieces_of s mid past before
-  pieces_of s t (Heard bytes ∷ past) (mid, before, (kept, step, stops)) = (stops, pieces_of s mid past before)
+  pieces_of s t (Heard bytes ∷ past) (mid, before, (kept, named, step, stops)) = (stops, pieces_of s mid past before)
   pieces_of s t (Ended ∷ past) (mid, before, step) = pieces_of s mid past before
   pieces_of s t (TellFailed bytes error ∷ past) (mid, before, step) = pieces_of s mid past before
   pieces_of s t (ListenFailed error ∷ past) (mid, before, step) = pieces_of s mid past before

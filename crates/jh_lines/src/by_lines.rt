@@ -92,35 +92,34 @@ impl<B: BufRead> ByLines<B> {
     }
 }
 
-/// A reader and a writer. What is told is written and flushed, and what is heard ends with a line, so
-/// that several conversations can be held one behind another: each leaves the lines behind the one
-/// that ended it to the next.
+/// The lines of a reader and a writer, lent for one conversation. What is told is written and flushed,
+/// and what is heard ends with a line.
 #[derive(Drop)]
-pub struct LineStreams<B, W> {
-    pub lines: ByLines<B>,
-    pub writer: W,
+struct LinePeer<'a, B, W> {
+    lines: &'a mut ByLines<B>,
+    writer: &'a mut W,
 }
 
-impl<B: BufRead, W: Write> Peer for LineStreams<B, W> {
-    ghost told = { λ s bytes t. (t.lines ≡ s.lines)
-        × Appends (W.contents s.writer) (W.contents t.writer) bytes };
+impl<'a, B: BufRead, W: Write> Peer for LinePeer<'a, B, W> {
+    ghost told = { λ s bytes t. (t.lines ≡ s.lines) × (t.writer.ghost_name ≡ s.writer.ghost_name)
+        × Appends (W.contents s.writer.now) (W.contents t.writer.now) bytes };
 
-    ghost heard = { λ s bytes t. (t.writer ≡ s.writer)
-        × Consumes (left_by_lines B.remaining s.lines) (left_by_lines B.remaining t.lines) bytes
+    ghost heard = { λ s bytes t. (t.writer ≡ s.writer) × (t.lines.ghost_name ≡ s.lines.ghost_name)
+        × Consumes (left_by_lines B.remaining s.lines.now) (left_by_lines B.remaining t.lines.now) bytes
         × StopsAtFeed bytes };
 
-    ghost ended = { λ s t. (t.writer ≡ s.writer)
-        × Consumes (left_by_lines B.remaining s.lines) (left_by_lines B.remaining t.lines) []
-        × IsAtEnd (left_by_lines B.remaining s.lines) };
+    ghost ended = { λ s t. (t.writer ≡ s.writer) × (t.lines.ghost_name ≡ s.lines.ghost_name)
+        × Consumes (left_by_lines B.remaining s.lines.now) (left_by_lines B.remaining t.lines.now) []
+        × IsAtEnd (left_by_lines B.remaining s.lines.now) };
 
-    ghost tell_failed = { λ s bytes _ t. (t.lines ≡ s.lines)
-        × Appends (W.contents s.writer) (W.contents t.writer) bytes };
+    ghost tell_failed = { λ s bytes _ t. (t.lines ≡ s.lines) × (t.writer.ghost_name ≡ s.writer.ghost_name)
+        × Appends (W.contents s.writer.now) (W.contents t.writer.now) bytes };
 
-    ghost listen_failed = { λ s _ t. (t.writer ≡ s.writer)
-        × Keeps (left_by_lines B.remaining s.lines) (left_by_lines B.remaining t.lines) };
+    ghost listen_failed = { λ s _ t. (t.writer ≡ s.writer) × (t.lines.ghost_name ≡ s.lines.ghost_name)
+        × Keeps (left_by_lines B.remaining s.lines.now) (left_by_lines B.remaining t.lines.now) };
 
     fn tell(&mut self, bytes: &[u8]) -> io::Result<()> {
-        write_whole(&mut self.writer, bytes)
+        write_whole(self.writer, bytes)
     }
 
     fn listen(&mut self, buffer: &mut [u8]) -> io::Result<usize> {
@@ -128,20 +127,22 @@ impl<B: BufRead, W: Write> Peer for LineStreams<B, W> {
     }
 }
 
-/// Holds a conversation over a reader and a writer. Where it is over, what was heard ends with the line
-/// that ended it, so the lines behind it are left to the reader.
+/// Holds a conversation over the lines of a reader and a writer. Where it is over, what was heard ends with
+/// the line that ended it, so the lines behind it are left to the next conversation.
 pub fn converse_by_lines<B: BufRead, W: Write, M: Machine>(
     alloc: Global,
-    streams: &mut LineStreams<B, W>,
+    lines: &mut ByLines<B>,
+    writer: &mut W,
     machine: &mut M,
 ) -> Ending
     ensures { (past : List TalkEvent)
-        × Consumes (left_by_lines B.remaining streams.old.lines)
-        (left_by_lines B.remaining streams.new.lines) (heard_in past)
-        × Appends (W.contents streams.old.writer) (W.contents streams.new.writer) (told_in past)
+        × Consumes (left_by_lines B.remaining lines.old)
+        (left_by_lines B.remaining lines.new) (heard_in past)
+        × Appends (W.contents writer.old) (W.contents writer.new) (told_in past)
         × IsConversation M.opening M.after_line M.answer_to M.has_finished
         machine.old past machine.new result
         × (result ≡ Ending.Over → rest_from [] (heard_in past) ≡ []) }
 {
-    converse(alloc, streams, machine)
+    let mut peer = LinePeer { lines, writer };
+    converse(alloc, &mut peer, machine)
 }

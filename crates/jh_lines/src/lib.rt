@@ -12,7 +12,7 @@ mod streams;
 mod talking;
 mod writing;
 
-pub use by_lines::{ByLines, LineStreams, converse_by_lines};
+pub use by_lines::{ByLines, converse_by_lines};
 pub use ending::Ending;
 pub use hearing::Hearing;
 pub use laws::{cuts_lines, hears_no_more, tells_first};

@@ -7,7 +7,7 @@ ghost use Rattle.jh_trials.specs.Held as rule;
 use crate::trial::Trial;
 use jh_checkers::Judging;
 use jh_drive::{CallCounts, CallObserver, DriveError, drive_answer, judge_test, report_test};
-use jh_lines::{Ending, LineStreams, Machine, converse_by_lines};
+use jh_lines::{ByLines, Ending, Machine, converse_by_lines};
 use jh_reports::Output;
 use std::alloc::Global;
 use std::io::{BufRead, Write};
@@ -30,18 +30,19 @@ pub fn hold_trial<B: BufRead, W: Write>(
     alloc: Global,
     trial: &mut Trial,
     judging: Judging<'_>,
-    streams: &mut LineStreams<B, W>,
+    lines: &mut ByLines<B>,
+    writer: &mut W,
 ) -> Result<Output, DriveError>
     ensures { MatchResult result
         (λ output. rule.IsJudged judging.entry trial.old trial.new
-        (left_by_lines B.remaining streams.old.lines) (left_by_lines B.remaining streams.new.lines)
-        (W.contents streams.old.writer) (W.contents streams.new.writer)
+        (left_by_lines B.remaining lines.old) (left_by_lines B.remaining lines.new)
+        (W.contents writer.old) (W.contents writer.new)
         output.status output.text.items)
         (rule.FailsTrial judging.entry trial.old trial.new
-        (left_by_lines B.remaining streams.old.lines) (left_by_lines B.remaining streams.new.lines)
-        (W.contents streams.old.writer) (W.contents streams.new.writer)) }
+        (left_by_lines B.remaining lines.old) (left_by_lines B.remaining lines.new)
+        (W.contents writer.old) (W.contents writer.new)) }
 {
-    let ending = converse_by_lines(alloc, streams, trial);
+    let ending = converse_by_lines(alloc, lines, writer, trial);
     match ending {
         Ending::WriteFailed(_) => return Err(DriveError::Write),
         Ending::OutOfMemory => return Err(DriveError::OutOfMemory),
@@ -49,13 +50,7 @@ pub fn hold_trial<B: BufRead, W: Write>(
     }
     if let Err(error) = drive_answer(trial.bad(), trial.is_over(), ending, 0) {
         if trial.has_begun() {
-            report_test(
-                alloc,
-                trial.conversation(),
-                judging,
-                &mut streams.writer,
-                &mut Nobody,
-            )?;
+            report_test(alloc, trial.conversation(), judging, writer, &mut Nobody)?;
         }
         return Err(error);
     }

@@ -17,7 +17,7 @@ returns-in-Err g c =
       | then-has_begun+in_ok-report_test w ↦
           let report = w.in_ok-report_test.ensures in
           let is_report = rw w.conversation.ensures at report.1 in
-          rw w.streams-is (fails_broken c.args.judging c.args.trial.now last _ _ _ _ c.in-Err.error (record {
+          rw w.writer-is (fails_broken c.args.judging c.args.trial.now last _ _ _ _ c.in-Err.error (record {
             past = talk.0;
             ending = ending;
             talked = record { talk = talk.3; by_lines = talk.4 };
@@ -28,7 +28,7 @@ returns-in-Err g c =
             answer = answer;
           }))
       | else-has_begun w ↦
-          rw w.streams-is (fails_broken c.args.judging c.args.trial.now last _ _ _ _ c.in-Err.error (record {
+          rw w.writer-is (fails_broken c.args.judging c.args.trial.now last _ _ _ _ c.in-Err.error (record {
             past = talk.0;
             ending = ending;
             talked = record { talk = talk.3; by_lines = talk.4 };
