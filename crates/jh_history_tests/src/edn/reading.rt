@@ -119,17 +119,17 @@ fn limits_depth(rt: HostRuntime) -> Result<(), Fail> {
     ask_all(rt.alloc(), &Ask::Nested, rows)
 }
 
-/// The bytes that are read one by one, asked as `TURNS BYTES`.
-pub(crate) fn in_turns(alloc: Global, question: &str) -> Result<Vec<u8>, EdnError> {
-    let (turns, text) = numbered(question).ok_or(MALFORMED)?;
+/// The bytes that are read one by one, asked as `READS BYTES`: at most so many reads are made.
+pub(crate) fn in_reads(alloc: Global, question: &str) -> Result<Vec<u8>, EdnError> {
+    let (reads, text) = numbered(question).ok_or(MALFORMED)?;
     let mut reader = OneByOne {
         left: text.as_bytes(),
     };
-    read_bytes(alloc, &mut reader, turns)
+    read_bytes(alloc, &mut reader, reads)
 }
 
 #[test]
-fn takes_turns(rt: HostRuntime) -> Result<(), Fail> {
+fn makes_few_reads(rt: HostRuntime) -> Result<(), Fail> {
     let rows = "\
         3 abc\x1finput too long\
         \x1e0 \x1finput too long\
@@ -137,7 +137,7 @@ fn takes_turns(rt: HostRuntime) -> Result<(), Fail> {
         \x1e4 ab!c\x1finput too long\
         \x1e4 abc\x1fabc\
         \x1e5 ab!c\x1fabc";
-    ask_all(rt.alloc(), &Ask::Turns, rows)
+    ask_all(rt.alloc(), &Ask::Reads, rows)
 }
 
 /// The bytes that are the numbers of a text's characters.
