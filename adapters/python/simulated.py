@@ -76,7 +76,8 @@ class Program:
 
     Nothing in its output says that no more comes. But all that it says to a line has left it before it reads on, and
     that it has read on can be seen: its input is a pipe of packets, and each read takes one. So behind each line a
-    blank one is written, which means nothing. When that was read, it is done with the line before it.
+    space is written, with which the next line begins, and which means nothing there. When that was read, it is done
+    with the line before it.
     """
 
     def __init__(self, program: str, settings: pathlib.Path) -> None:
@@ -96,15 +97,16 @@ class Program:
         self._given = 0  # so many bytes of it were given as lines, all of them whole
         self.is_over = False  # whether it wrote `:end`, and begins its report
 
-    def say(self, line: str) -> list[str]:
-        """Writes a line, and gives the lines that are said to it."""
+    def say(self, line: str | None) -> list[str]:
+        """Writes a line, and gives the lines that are said to it; with None those that are said before any."""
         with contextlib.suppress(BrokenPipeError):  # it has ended
-            os.write(self._input, f"{line}\n".encode())
-            os.write(self._input, b"\n")
+            if line is not None:
+                os.write(self._input, f"{line}\n".encode())
+            os.write(self._input, b" ")
             self._wait_for_room()  # now it has read the line
             if not self.is_over and unread(self._input):
-                os.write(self._input, b"\n")
-                self._wait_for_room()  # now it has read the first blank line
+                os.write(self._input, b" ")
+                self._wait_for_room()  # now it has read the first space
         self._take()
         if self.is_over:
             return []
@@ -332,7 +334,7 @@ class Simulation:
         try:
             for name, node in self._network.nodes.items():
                 node.set(nodes.get(name, jeprun.NodeCell()))
-            self._lines.extend(self._program.say(""))
+            self._lines.extend(self._program.say(None))
             for time in times_of(self._test.settings):
                 self._clock.after(time, self._tell_time)
             self._tick()

@@ -336,9 +336,18 @@ class WholeTests(unittest.TestCase):
         ]
     """
 
-    def run_once(self, seed: int, **others: str) -> simulated.Result:
+    # Here threads wait for others. Each time that one is asked, it takes a random number.
+    PHASES = """
+        start = '{:nodes ["n1" "n2" "n3"]}'
+        workload = "register"
+        generator = '[:phases [:once :read] [:mix [:forever :read] [:rising-write 1]]]'
+        clients = 6
+        ops = 40
+    """
+
+    def run_once(self, seed: int, text: str = SETTINGS) -> simulated.Result:
         path = pathlib.Path(self.enterContext(tempfile.TemporaryDirectory())) / "settings.toml"
-        path.write_text(self.SETTINGS)
+        path.write_text(text)
         known = jeprun.read_settings(path, PROGRAM or "")
         test = simulated.Test(PROGRAM or "", path, known, "lin-kv", simulated.load(RAFT), [], seed)
         return simulated.Simulation(test).run()
@@ -352,11 +361,12 @@ class WholeTests(unittest.TestCase):
         self.assertGreater(first.replies.count(b":ok"), 5)
 
     def test_its_replies_played_again_are_the_same_test(self) -> None:
-        result = self.run_once(9)
-        path = pathlib.Path(self.enterContext(tempfile.TemporaryDirectory())) / "settings.toml"
-        path.write_text(self.SETTINGS)
-        played = jeprun.run_program(PROGRAM or "", "drive", str(path), given=result.replies)
-        self.assertEqual((played.returncode, played.stdout), (result.status, result.written))
+        for text in self.SETTINGS, self.PHASES:
+            result = self.run_once(9, text)
+            path = pathlib.Path(self.enterContext(tempfile.TemporaryDirectory())) / "settings.toml"
+            path.write_text(text)
+            played = jeprun.run_program(PROGRAM or "", "drive", str(path), given=result.replies)
+            self.assertEqual((played.returncode, played.stdout), (result.status, result.written))
 
 
 if __name__ == "__main__":
