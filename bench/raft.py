@@ -1,34 +1,33 @@
 #!/usr/bin/env python3
-"""After how many schedules each mistake of a register by Raft is found, in the simulation of adapters/python.
+"""After how many candidates each mistake of a register by Raft is found, in the simulation of adapters/python.
 
-    bench/raft.py [PROGRAM] [--candidates N] [--bugs WORD,..] [--log FILE] [--seconds N] [--found FOLDER]
+    bench/raft.py [PROGRAM] [--candidates N] [--bugs WORD,..] [--jobs N] [--log FILE] [--seconds N] [--found FOLDER]
 
-Run it at the top of the repository; PROGRAM is `crates/jeprun/out/jeprun` where it is left out. Each bug of
-nodes/raft.py is tried with candidates 0, 1, 2 and so on, N of them (1,000), up to the first whose history is not
-valid; so is the node without a bug, which is called `none`, in the settings of all of them, and of it all N are
-tried.
+Run it at the top of the repository; PROGRAM is `crates/jeprun/out/jeprun` where it is left out. For each bug of
+nodes/raft.py candidates are tried up to the first whose history is not valid, N of them (1,000) at most. Of the node
+without a bug, which is called `none`, all N are tried, in the settings of each bug.
 
-Candidate i has the settings that are named in its row, of adapters/python/nodes, with the schedule that `jeprun
-search --show i` makes of theirs: three random faults of all kinds, among those that stand there. The seed of the
-simulation is i too. So any of them can be run again by simulated.py; --found keeps the settings of those that are not
-valid.
+The candidates are those of `jeprun search --drive`, of the settings in adapters/python/nodes that the row names: three
+random faults of all kinds, among those that stand there. They are tried in parts of 200, each by one search as
+`simulated.py --search` makes it, and --jobs says how many parts at once (1). --found keeps the settings of those that
+are not valid.
 
 A row has how many candidates were tried, the number of the first one that is not valid, how many verdicts are
-unknown, how many calls a candidate had answered with `:ok`, and the seconds of processor time that one takes, with
-those of `jeprun`. A line for each candidate is written to the log, and those that are there are not tried again. So a
-long search may be done in parts, none of which begins a candidate after so many seconds.
+unknown in the parts where none was found, how many calls a candidate had answered with `:ok`, and the seconds of
+processor time that one takes, with those of `jeprun`. A line for each part is written to the log, and those that are
+there are not tried again. So a long search may be done in pieces, none of which begins a part after so many seconds.
 """
 
 import argparse
+import concurrent.futures
 import dataclasses
 import itertools
 import pathlib
+import re
 import resource
-import subprocess
 import sys
 import tempfile
 import time
-import tomllib
 
 TOP = pathlib.Path(__file__).resolve().parent.parent
 PYTHON = TOP / "adapters" / "python"
@@ -39,7 +38,7 @@ import raft  # noqa: E402
 import simulated  # noqa: E402
 
 NONE = "none"
-FAULTS, CALLS_A_SECOND = 3, 100
+FAULTS, PART = 3, 200
 LATENCY = 10.0  # milliseconds
 # The settings in which bugs are looked for, and how many seconds a client waits there. The right node is tried in all.
 SETTINGS = {"raft_cut": 0.5, "raft_race": 0.8, "raft_crash": 0.3}
@@ -50,35 +49,31 @@ OF_BUG = {
     "counts-old": "raft_race",
     "forgets-vote": "raft_crash",
 }
-# What settings of a run need too, and no schedule hangs on.
-OF_A_RUN = """
-    store = "local"
-    workload = "register"
-    generator = '[:forever :read]'
-    clients = 1
-"""
 ROWS = [(NONE, name) for name in SETTINGS] + [*OF_BUG.items()]
-INVALID, UNKNOWN = 1, 2  # statuses of `jeprun drive`
+INVALID, UNKNOWN = 1, 2  # statuses of `jeprun search --drive`
+UNKNOWN_LINE = re.compile(r":none {:tried \d+, :unknown (\d+)}")
 
 
 @dataclasses.dataclass
-class Tried:
-    """What became of a candidate: a line of the log."""
+class Part:
+    """What became of candidates from one on: a line of the log."""
 
     bug: str
     settings: str
-    number: int
-    status: int
+    first: int
+    tried: int
+    found: int  # the number of the one that is not valid, or -1
+    unknown: int
     calls: int
     seconds: float
 
     def __str__(self):
-        return f"{self.bug} {self.settings} {self.number} {self.status} {self.calls} {self.seconds:.3f}"
+        return " ".join(map(str, dataclasses.astuple(self)))
 
 
 def read_log(path):
     rows = [line.split() for line in path.read_text().splitlines()] if path.exists() else []
-    return [Tried(bug, name, *map(int, numbers), float(seconds)) for bug, name, *numbers, seconds in rows]
+    return [Part(bug, name, *map(int, numbers), float(seconds)) for bug, name, *numbers, seconds in rows]
 
 
 def processor_seconds():
@@ -86,78 +81,68 @@ def processor_seconds():
     return sum(use.ru_utime + use.ru_stime for use in used)
 
 
-class Candidates:
-    """The candidates of settings, each made when it is tried."""
-
-    def __init__(self, program, room, name):
-        self.program, self.name, self.timeout = program, name, SETTINGS[name]
-        self.path = pathlib.Path(room, "settings.toml")
-        settings = PYTHON / "nodes" / f"{name}.toml"
-        self.settings = jeprun.read_settings(settings, program)
-        self.text = settings.read_text().partition("schedule = [")[0]  # the rest is a part of each schedule
-
-    def schedule(self, number):
-        """The schedule of a candidate: the entries of the settings, and random faults."""
-        table = self.settings.table
-        entries = ", ".join(f"'{entry}'" for entry in table["schedule"])
-        given = f"""
-            start = '{table["start"]}'
-            ops = {table["ops"]}
-            schedule = [{entries}]
-            {OF_A_RUN}
-        """
-        words = [self.program, "search", "--show", str(number), "--faults", str(FAULTS)]
-        words += ["--ms", str(table["ops"] * 1_000 // CALLS_A_SECOND)]
-        return subprocess.run(words, input=given, capture_output=True, text=True, check=True).stdout
-
-    def run(self, number, bug):
-        """Runs a candidate, and says what became of it."""
-        began, schedule = processor_seconds(), self.schedule(number)
-        self.path.write_text(self.text + schedule)
-        table = self.settings.table | tomllib.loads(schedule)
-        settings = jeprun.Settings(table, self.settings.nodes, self.settings.start, self.settings.needs)
-        words = [] if bug == NONE else [bug]
-        test = simulated.Test(
-            self.program, self.path, settings, "lin-kv", raft.start, words, number, LATENCY, self.timeout
-        )
-        result = simulated.Simulation(test).run()
-        if result.status not in (0, INVALID, UNKNOWN):
-            raise SystemExit(f"candidate {number} of {bug}: status {result.status}")
-        calls = result.replies.count(b":type :ok")
-        return Tried(bug, self.name, number, result.status, calls, processor_seconds() - began)
+def try_part(program, bug, name, first):
+    """Tries a part, and says what became of it, with the settings that were found."""
+    began, calls = processor_seconds(), []
+    path, words = PYTHON / "nodes" / f"{name}.toml", [] if bug == NONE else [bug]
+    test = simulated.Test(program, path, jeprun.read_settings(path, program), "lin-kv", raft.start, words,
+                          latency=LATENCY, timeout=SETTINGS[name])  # fmt: skip
+    asked = [f"--from={first}", f"--runs={PART}", f"--faults={FAULTS}"]
+    result = simulated.search(test, asked, lambda replies: calls.append(replies.count(b":type :ok")))
+    if result.status not in (0, INVALID, UNKNOWN):
+        raise SystemExit(f"candidates of {bug} from {first} on: status {result.status}")
+    found = result.begun[0] if result.status == INVALID else -1
+    unknown = 0 if result.status == INVALID else int(UNKNOWN_LINE.fullmatch(result.verdict())[1])
+    seconds = round(processor_seconds() - began, 3)
+    return Part(bug, name, first, len(calls), found, unknown, sum(calls), seconds), result.found()
 
 
-def try_all(tried, room, options):
-    """Tries the candidates of all rows in turn: candidate 0 of each, then 1 of each, and so on."""
-    began, done = time.monotonic(), {(it.bug, it.settings, it.number) for it in tried}
-    found = {it.bug for it in tried if it.status == INVALID} - {NONE}
-    of_settings = {name: Candidates(options.program, room, name) for name in SETTINGS}
-    with open(options.log, "a") as log:
-        for number, (bug, name) in itertools.product(range(options.candidates), ROWS):
-            if bug in found or bug not in options.bugs.split(",") or (bug, name, number) in done:
-                continue
+def parts_of(options, tried):
+    """The parts that are to be tried, in turn: the first of each row, then the second of each, and so on, of a bug
+    until it is found."""
+    done = {(it.bug, it.settings, it.first) for it in tried}
+    for first, (bug, name) in itertools.product(range(0, options.candidates, PART), ROWS):
+        found = bug != NONE and any(it.bug == bug and it.found >= 0 for it in tried)
+        if not found and bug in options.bugs.split(",") and (bug, name, first) not in done:
+            yield bug, name, first
+
+
+def try_all(tried, options):
+    """Tries the parts, so many at once, until the time is up."""
+    began, pending = time.monotonic(), set()
+    with concurrent.futures.ProcessPoolExecutor(options.jobs) as pool, open(options.log, "a") as log:
+
+        def take(count):
+            """Waits until at most so many are under way, and takes what became of the others."""
+            nonlocal pending
+            while len(pending) > count:
+                done, pending = concurrent.futures.wait(pending, return_when=concurrent.futures.FIRST_COMPLETED)
+                for future in done:
+                    part, settings = future.result()
+                    tried.append(part)
+                    print(part, file=log, flush=True)
+                    keep(options.found, part, settings)
+
+        for part in parts_of(options, tried):
             if options.seconds and time.monotonic() - began > options.seconds:
-                return
-            tried.append(of_settings[name].run(number, bug))
-            print(tried[-1], file=log, flush=True)
-            if tried[-1].status == INVALID:
-                found |= {bug} - {NONE}
-                keep(options.found, f"{bug}-{name}-{number}.toml", of_settings[name].path)
+                break
+            pending.add(pool.submit(try_part, options.program, *part))
+            take(options.jobs - 1)
+        take(0)
 
 
-def keep(folder, name, path):
-    if folder:
+def keep(folder, part, settings):
+    if folder and part.found >= 0:
         folder.mkdir(parents=True, exist_ok=True)
-        (folder / name).write_bytes(path.read_bytes())
+        (folder / f"{part.bug}-{part.settings}-{part.found}.toml").write_bytes(settings)
 
 
-def row(bug, name, tried):
+def row(bug, name, parts):
     """The row of a bug in these settings."""
-    invalid = [it.number for it in tried if it.status == INVALID]
-    unknown = sum(it.status == UNKNOWN for it in tried)
-    calls, seconds = (sum(getattr(it, key) for it in tried) / len(tried) for key in ("calls", "seconds"))
-    least = min(invalid) if invalid else "none"
-    return f"| `{bug}` | `{name}.toml` | {len(tried):,} | {least} | {unknown} | {calls:.0f} | {seconds:.2f} |"
+    tried, unknown = sum(it.tried for it in parts), sum(it.unknown for it in parts)
+    calls, seconds = sum(it.calls for it in parts) / tried, sum(it.seconds for it in parts) / tried
+    found = min((it.found for it in parts if it.found >= 0), default="none")
+    return f"| `{bug}` | `{name}.toml` | {tried:,} | {found} | {unknown} | {calls:.0f} | {seconds:.3f} |"
 
 
 def parse():
@@ -166,6 +151,7 @@ def parse():
     option("program", nargs="?", default=str(TOP / "crates" / "jeprun" / "out" / "jeprun"))
     option("--candidates", type=int, default=1_000, metavar="N")
     option("--bugs", default=",".join([NONE, *raft.BUGS]), metavar="WORD,..")
+    option("--jobs", type=int, default=1, metavar="N")
     option("--log", type=pathlib.Path, default=None, metavar="FILE")
     option("--seconds", type=float, default=0, metavar="N")
     option("--found", type=pathlib.Path, metavar="FOLDER")
@@ -177,11 +163,11 @@ def main():
     with tempfile.TemporaryDirectory() as room:
         options.log = options.log or pathlib.Path(room, "log")
         tried = read_log(options.log)
-        try_all(tried, room, options)
+        try_all(tried, options)
     print("| Bug | Settings | Tried | Found | Unknown | Calls `:ok` | Seconds |\n|---" + "|---" * 6 + "|")
     for bug, name in ROWS:
-        if of_row := [it for it in tried if (it.bug, it.settings) == (bug, name)]:
-            print(row(bug, name, of_row))
+        if parts := [it for it in tried if (it.bug, it.settings) == (bug, name)]:
+            print(row(bug, name, parts))
 
 
 if __name__ == "__main__":

@@ -3,11 +3,13 @@
 time.
 
     simulated.py --node nodes/raft.py [--seed N] SETTINGS [-- WORD ..]
+    simulated.py --node nodes/raft.py --search [--from I] [--runs N] [--faults K] [--palette KINDS] SETTINGS ..
 
 The node is an actor, as nodes/actor.py says: the same file runs as a process, by `maelstrom.py --bin`. Here its nodes
 are objects. What happens, happens as an event at a time of its own, and when one is done the clock jumps to the next.
 How long a message takes, whether it is lost, and the random numbers of nodes follow from the seed. So the settings
-and the seed are the whole test. docs/simulated.md says more.
+and the seed are the whole test. With --search many tests are tried, each with another seed and other faults, up to the
+first whose history is not valid. docs/simulated.md says more.
 """
 
 import argparse
@@ -26,9 +28,9 @@ import select
 import subprocess
 import sys
 import termios
-from collections.abc import Callable
-from dataclasses import dataclass
-from typing import Any
+from collections.abc import Callable, Iterator
+from dataclasses import dataclass, field, replace
+from typing import Any, NamedTuple
 
 import jeprun
 import maelstrom
@@ -37,10 +39,11 @@ from maelstrom_network import Body, Malformed, error
 
 NODES = pathlib.Path(__file__).with_name("nodes")
 MILLISECOND, SECOND = 10**6, 10**9  # nanoseconds
-TICK, TICK_WITH_RATE = 50 * MILLISECOND, 2 * MILLISECOND
+TICK, TICK_WITH_RATE = 10 * MILLISECOND, 2 * MILLISECOND
 CALL = re.compile(r'.*, :process (\d+), :f :(\S+), :value (.*), :node "(.*)"}')
+BEGIN = re.compile(rb"{:type :test, :number (\d+), :seed (\d+)}\n")
+END, FOUND = b"\n:end\n", b"\n:found\n"
 Work = Callable[[], None]
-Journal = Callable[[dict[str, Any]], None]
 # Maelstrom's workloads whose nodes need neither a topology nor a service.
 WORKLOADS = ["g-counter", "g-set", "lin-kv", "txn-list-append", "unique-ids"]
 Start = Callable[[Any, list[str]], Any]  # of nodes/actor.py: makes an actor from its world and words
@@ -72,7 +75,7 @@ def unread(pipe: int) -> int:
 
 
 class Program:
-    """`jeprun drive`, which is given a line and gives all that it has to say to it.
+    """`jeprun drive` or `jeprun search --drive`, which is given a line and gives all that it has to say to it.
 
     Nothing in its output says that no more comes. But all that it says to a line has left it before it reads on, and
     that it has read on can be seen: its input is a pipe of packets, and each read takes one. So behind each line a
@@ -80,12 +83,10 @@ class Program:
     with the line before it.
     """
 
-    def __init__(self, program: str, settings: pathlib.Path) -> None:
+    def __init__(self, *words: str) -> None:
         reader, self._input = os.pipe2(os.O_DIRECT | os.O_CLOEXEC)
         fcntl.fcntl(self._input, fcntl.F_SETPIPE_SZ, 2 * os.sysconf("SC_PAGESIZE"))  # room for two packets
-        self._program = subprocess.Popen(
-            [program, "drive", str(settings)], stdin=reader, stdout=subprocess.PIPE, start_new_session=True
-        )
+        self._program = subprocess.Popen(words, stdin=reader, stdout=subprocess.PIPE, start_new_session=True)
         os.close(reader)
         assert self._program.stdout is not None
         self._output = self._program.stdout
@@ -93,9 +94,22 @@ class Program:
         self._poll = select.poll()
         self._poll.register(self._input, select.POLLOUT)
         self._poll.register(self._output, select.POLLIN)
-        self.written = b""  # all that it wrote
+        self.written = bytearray()  # all that it wrote, of a search since its last test began
         self._given = 0  # so many bytes of it were given as lines, all of them whole
-        self.is_over = False  # whether it wrote `:end`, and begins its report
+        self.is_over = False  # whether the test is over: it wrote `:end`
+        self._behind_end = 0  # how far the lines of the test go in `written`, where it is over
+
+    def next_test(self) -> tuple[int, int] | None:
+        """Waits for the next test of a search, and gives its number and its seed, or None where no other comes."""
+        os.set_blocking(self._output.fileno(), True)
+        while b"\n" not in self.written[self._behind_end :] and (some := os.read(self._output.fileno(), 1 << 16)):
+            self.written += some
+        os.set_blocking(self._output.fileno(), False)
+        begun = BEGIN.match(self.written, self._behind_end)
+        if not begun:
+            return None
+        self.written, self._given, self._behind_end, self.is_over = self.written[begun.end() :], 0, 0, False
+        return int(begun[1]), int(begun[2])
 
     def say(self, line: str | None) -> list[str]:
         """Writes a line, and gives the lines that are said to it; with None those that are said before any."""
@@ -142,9 +156,10 @@ class Program:
             while some := os.read(self._output.fileno(), 1 << 16):
                 self.written += some
             has_ended = True
-        self.is_over = self.is_over or b"\n:end\n" in b"\n" + self.written[self._given :]
+        if not self.is_over and (place := (b"\n" + self.written[self._given :]).find(END)) >= 0:
+            self.is_over, self._behind_end = True, self._given + place + len(END) - 1
         if has_ended and not self.is_over:
-            raise TestFailed("jeprun drive ended in the midst of the test")
+            raise TestFailed("jeprun ended in the midst of the test")
 
 
 # --- nodes and links in virtual time
@@ -168,6 +183,21 @@ class Clock:
         work()
 
 
+class Arrival(NamedTuple):
+    """A message that has arrived, or would have, and what became of it."""
+
+    now: int
+    fate: str
+    number: int
+    source: str
+    destination: str
+    text: str
+
+    def line(self) -> str:
+        message = {"id": self.number, "src": self.source, "dest": self.destination, "body": json.loads(self.text)}
+        return json.dumps({"seconds": self.now / SECOND, "fate": self.fate, "message": message}) + "\n"
+
+
 @dataclass
 class Test:
     """What a simulation is made from."""
@@ -181,7 +211,7 @@ class Test:
     seed: int = 0
     latency: float = 5  # milliseconds
     timeout: float = 1  # seconds
-    journal: Journal | None = None
+    arrivals: list[Arrival] = field(default_factory=list)  # of its messages, when they have arrived
 
 
 class Network:
@@ -189,7 +219,7 @@ class Network:
 
     def __init__(self, test: Test, clock: Clock, hear: Callable[[Body], None]) -> None:
         self.cells: dict[tuple[str, str], jeprun.LinkCell] = {}
-        self._clock, self._hear, self._journal = clock, hear, test.journal
+        self._clock, self._hear, self._arrivals = clock, hear, test.arrivals
         self._random = random.Random(f"{test.seed} network")
         self._most = int(2 * test.latency * MILLISECOND)
         self._numbers = itertools.count()
@@ -212,9 +242,7 @@ class Network:
             fate = "lost"
         else:
             fate = self._hand_over(source, destination, text)
-        if self._journal:
-            message = {"id": number, "src": source, "dest": destination, "body": json.loads(text)}
-            self._journal({"seconds": self._clock.now / SECOND, "fate": fate, "message": message})
+        self._arrivals.append(Arrival(self._clock.now, fate, number, source, destination, text))
 
     def _hand_over(self, source: str, destination: str, text: str) -> str:
         node = self.nodes.get(destination)
@@ -302,25 +330,12 @@ class Node:
 # --- a test
 
 
-@dataclass
-class Result:
-    """What became of a test."""
-
-    status: int
-    written: bytes  # by `jeprun drive`
-    replies: bytes
-
-    def verdict(self) -> str:
-        return self.written.decode().splitlines()[-1]
-
-
 class Simulation:
-    """One test: clients, nodes and links, and the conversation with `jeprun drive`."""
+    """One test: clients, nodes and links, and the conversation with the program."""
 
-    def __init__(self, test: Test) -> None:
-        self._test, self._clock = test, Clock()
+    def __init__(self, test: Test, program: Program) -> None:
+        self._test, self._program, self._clock = test, program, Clock()
         self._network = Network(test, self._clock, self._hear_answer)
-        self._program = Program(test.program, test.path)
         self._lines: collections.deque[str] = collections.deque()
         self._open: dict[int, tuple[jeprun.Operation, Any]] = {}  # by the msg_id of its message: a call and its value
         self._ids = itertools.count(1)
@@ -328,25 +343,21 @@ class Simulation:
         self._told = 0  # the time of the last reply
         self._ticks = TICK_WITH_RATE if "rate" in test.settings.table else TICK
 
-    def run(self) -> Result:
+    def run(self, first: str | None) -> bytes:
+        """Holds the conversation, which begins with this line of the adapter, if there is one. Gives all replies
+        behind it."""
         links, nodes = self._test.settings.start
         self._network.cells.update(links)
-        try:
-            for name, node in self._network.nodes.items():
-                node.set(nodes.get(name, jeprun.NodeCell()))
-            self._lines.extend(self._program.say(None))
-            for time in times_of(self._test.settings):
-                self._clock.after(time, self._tell_time)
-            self._tick()
-            while not self._program.is_over:
-                if self._lines:
-                    self._hear(self._lines.popleft())
-                else:
-                    self._clock.step()
-        except BaseException:
-            self._program.kill()
-            raise
-        return Result(self._program.end(), self._program.written, "".join(self._replies).encode())
+        for name, node in self._network.nodes.items():
+            node.set(nodes.get(name, jeprun.NodeCell()))
+        self._lines.extend(self._program.say(first))
+        self._tick()
+        while not self._program.is_over:
+            if self._lines:
+                self._hear(self._lines.popleft())
+            else:
+                self._clock.step()
+        return "".join(self._replies).encode()
 
     def _say(self, text: str) -> None:
         """Writes a reply. What is said to it is heard next, at the same time."""
@@ -417,28 +428,95 @@ class Simulation:
         self._say(f"{{{call}, :time {self._clock.now}{other}}}")
 
 
-def times_of(settings: jeprun.Settings) -> list[int]:
-    """The times, in nanoseconds, at which entries of the schedule are due."""
-    entries = [re.search(r":ms\s+(\d+)", entry) for entry in settings.table.get("schedule", [])]
-    return sorted({int(entry[1]) * MILLISECOND for entry in entries if entry})
+@dataclass
+class Result:
+    """What became of a test, or of a search, of which it has the last test alone."""
+
+    status: int
+    written: bytes  # by the program
+    replies: bytes
+    begun: tuple[int, int] | None = None  # the number and the seed of the last test of a search
+
+    def report(self) -> bytes:
+        """All that was written of the test, up to the verdict."""
+        return self.written.partition(FOUND)[0].removesuffix(b"\n") + b"\n"
+
+    def found(self) -> bytes:
+        """The settings of the test that a search has found."""
+        return self.written.partition(FOUND)[2]
+
+    def verdict(self) -> str:
+        return self.report().decode().splitlines()[-1]
+
+
+@contextlib.contextmanager
+def started(*words: str) -> Iterator[Program]:
+    """The program, which is ended where the test can't go on."""
+    program = Program(*words)
+    try:
+        yield program
+    except BaseException:
+        program.kill()
+        raise
+
+
+def run(test: Test) -> Result:
+    """Runs a test."""
+    with started(test.program, "drive", str(test.path)) as program:
+        replies = Simulation(test, program).run(None)
+        return Result(program.end(), bytes(program.written), replies)
+
+
+def search(test: Test, options: list[str], see: Callable[[bytes], None] = lambda replies: None) -> Result:
+    """Runs candidates of a test one after another, each from the beginning and with the seed that the program names,
+    up to the first whose history is not valid. It lets see the replies of each."""
+    replies, begun = b"", None
+    with started(test.program, "search", "--drive", str(test.path), *options) as program:
+        while following := program.next_test():
+            begun = following
+            test.arrivals.clear()
+            try:
+                replies = Simulation(replace(test, seed=begun[1]), program).run(":ready")
+            except TestFailed as fault:
+                raise TestFailed(f"test {begun[0]}: {fault}") from fault
+            see(replies)
+        return Result(program.end(), bytes(program.written), replies, begun)
 
 
 # --- the command
+
+# What a search is told, with what stands for its value and what it means.
+OF_A_SEARCH = {
+    "from": ("I", "the number of the first test (0)"),
+    "runs": ("N", "how many tests are tried (10000)"),
+    "faults": ("K", "how many random faults each has (8)"),
+    "palette": ("KINDS", "of which kinds they are, with commas between (all)"),
+}
 
 
 def parse(words: list[str] | None = None) -> argparse.Namespace:
     parser = Parser(description="Tests a node that speaks Maelstrom's messages in a simulation, in virtual time.")
     option = parser.add_argument
     option("--node", required=True, type=pathlib.Path, metavar="FILE", help="the file of a node that is an actor")
-    option("--seed", type=int, default=0, metavar="N", help="from which all that is random follows (0)")
+    option("--seed", type=int, metavar="N", help="from which all that is random follows (the seed of the settings)")
     option("--workload", choices=WORKLOADS, help="Maelstrom's name of the workload; needed with settings of a set")
     option("--latency", type=float, default=5, metavar="MS", help="how long a message takes on average (5)")
     option("--timeout", type=float, default=1, metavar="SECONDS", help="how long a client waits for an answer (1)")
+    option("--search", action="store_true", help="tries tests with random faults up to the first that is not valid")
+    for name, (metavar, means) in OF_A_SEARCH.items():
+        option(f"--{name}", metavar=metavar, help=f"with --search: {means}")
     option("--store", default="store", metavar="FOLDER", help="where the folders of tests are (store)")
     option("--jeprun", default="jeprun", metavar="PROGRAM", help="the program jeprun (the one on the PATH)")
     option("settings", type=pathlib.Path, metavar="SETTINGS", help="the settings of the test, a file")
     option("words", nargs="*", metavar="WORD", help="what the node is given, behind --")
-    return parser.parse_args(words)
+    options = parser.parse_args(words)
+    given = {name: vars(options)[name] for name in OF_A_SEARCH if vars(options)[name] is not None}
+    if given and not options.search:
+        parser.error(f"--{next(iter(given))}: only with --search")
+    if options.search and options.seed is not None:
+        parser.error("--seed: not with --search, where each test has a seed of its own")
+    options.candidates = [f"--{name}={value}" for name, value in given.items()]
+    return options
 
 
 def workload_of(settings: jeprun.Settings, named: str | None) -> str:
@@ -450,30 +528,52 @@ def workload_of(settings: jeprun.Settings, named: str | None) -> str:
     return workload
 
 
+def check_search(options: argparse.Namespace) -> None:
+    """Has the program judge what a search is told, before there is a folder."""
+    words = [options.jeprun, "search", "--drive", str(options.settings), *options.candidates]
+    # Without any reply the program names the first test and ends. Where it refuses what it is told, it writes nothing.
+    tried = jeprun.run_program(*words)
+    if not tried.stdout:
+        raise jeprun.Unsupported(tried.stderr.decode(errors="replace").partition("\n")[0], tried.returncode)
+
+
+def keep(folder: jeprun.Folder, result: Result, table: dict[str, Any]) -> None:
+    """Keeps what became of a test or a search, and prints the last lines of the command."""
+    lines = [str(folder.path), result.verdict()]
+    folder.write("replies.edn", result.replies)
+    if result.found():
+        folder.write("found.toml", result.found())
+    if not lines[-1].startswith(":none"):
+        folder.keep_report(result.report().splitlines(keepends=True), lambda line: None)
+        folder.draw(table)
+        if result.begun:
+            lines.insert(1, "{:type :test, :number %d, :seed %d}" % result.begun)
+    print(*lines, sep="\n", flush=True)
+
+
 def main() -> int:
     options = parse()
-    messages: list[str] = []
     try:
         settings = jeprun.read_settings(options.settings, options.jeprun)
         workload = workload_of(settings, options.workload)
+        if options.search:
+            check_search(options)
         folder = jeprun.Folder(pathlib.Path(options.store, options.node.stem), options.settings, options.jeprun)
     except jeprun.Unsupported as refusal:
         jeprun.complain(str(refusal.args[0]))
         return int(refusal.args[1]) if len(refusal.args) > 1 else jeprun.ADAPTER_FAILED
-    test = Test(options.jeprun, options.settings, settings, workload, load(options.node), options.words, options.seed,
-                options.latency, options.timeout, lambda record: messages.append(json.dumps(record)))  # fmt: skip
+    seed = settings.table.get("seed", 0) if options.seed is None else options.seed
+    test = Test(options.jeprun, options.settings, settings, workload, load(options.node), options.words, seed,
+                options.latency, options.timeout)  # fmt: skip
     try:
-        result = Simulation(test).run()
+        result = search(test, options.candidates) if options.search else run(test)
     except TestFailed as fault:
         folder.log(str(fault), fault)
         jeprun.complain(f"{fault}: {folder.path}/test.log has more")
         return jeprun.ADAPTER_FAILED
     finally:
-        folder.write("messages.jsonl", "".join(f"{message}\n" for message in messages).encode())
-    folder.write("replies.edn", result.replies)
-    folder.keep_report(result.written.splitlines(keepends=True), lambda line: None)
-    folder.draw(settings.table)
-    print(folder.path, result.verdict(), sep="\n", flush=True)
+        folder.write("messages.jsonl", "".join(arrival.line() for arrival in test.arrivals).encode())
+    keep(folder, result, settings.table)
     return result.status
 
 

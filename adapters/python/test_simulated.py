@@ -5,15 +5,20 @@
 Whole tests need the program: that of crates/jeprun/out, or the one on the PATH. Where there is none, they are skipped.
 """
 
+import contextlib
+import io
 import json
 import os
 import pathlib
 import random
+import re
 import shutil
 import subprocess
 import sys
 import tempfile
+import tomllib
 import unittest
+from collections.abc import Sequence
 from typing import Any
 
 import jeprun
@@ -62,9 +67,9 @@ class VirtualTime(unittest.TestCase):
     """Two nodes that keep what they hear, and a client."""
 
     def setUp(self) -> None:
-        self.clock, self.answers, self.fates = Clock(), list[Body](), list[str]()
-        test = make_test(Echo, ["n1", "n2"], latency=1, journal=lambda record: self.fates.append(record["fate"]))
-        self.network = Network(test, self.clock, self.answers.append)
+        self.clock, self.answers = Clock(), list[Body]()
+        test = make_test(Echo, ["n1", "n2"], latency=1)
+        self.arrivals, self.network = test.arrivals, Network(test, self.clock, self.answers.append)
         self.nodes = self.network.nodes
         for node in self.nodes.values():
             node.set(NodeCell())
@@ -78,6 +83,9 @@ class VirtualTime(unittest.TestCase):
     def actor(self, name: str) -> Any:
         return self.nodes[name]._actor
 
+    def fates(self) -> list[str]:
+        return [arrival.fate for arrival in self.arrivals]
+
     def test_cut_delay_and_loss(self) -> None:
         for cell, fate, milliseconds in [
             (LinkCell(), "delivered", 2),
@@ -89,10 +97,10 @@ class VirtualTime(unittest.TestCase):
             self.network.send("n1", "n2", {"type": "x"})
             self.network.send("n2", "n1", {"type": "y"})
             self.pass_time(milliseconds - 2)
-            self.assertEqual(len(self.fates), milliseconds > 2, "a slow message comes late, the other one in time")
+            self.assertEqual(len(self.fates()), milliseconds > 2, "a slow message comes late, the other one in time")
             self.pass_time(2)
-            self.assertCountEqual(self.fates, [fate, "delivered"])
-            self.fates.clear()
+            self.assertCountEqual(self.fates(), [fate, "delivered"])
+            self.arrivals.clear()
         self.assertEqual(self.actor("n2").heard, ["x", "x"])
         self.assertEqual(self.actor("n1").heard, ["y"] * 4)
 
@@ -101,7 +109,7 @@ class VirtualTime(unittest.TestCase):
         for _ in range(200):
             self.network.send("n1", "n2", {"type": "x"})
         self.pass_time(2)
-        self.assertTrue(60 < self.fates.count("lost") < 140)
+        self.assertTrue(60 < self.fates().count("lost") < 140)
 
     def test_a_paused_node_does_later_what_came_meanwhile(self) -> None:
         self.nodes["n2"].set(NodeCell("paused"))
@@ -122,7 +130,7 @@ class VirtualTime(unittest.TestCase):
         self.network.send("n1", "n2", {"type": "lost"})
         self.network.send("c0", "n2", {"type": "read", "msg_id": 7})
         self.pass_time(4)
-        self.assertCountEqual(self.fates, ["delivered", "dropped", "refused", "delivered"])
+        self.assertCountEqual(self.fates(), ["delivered", "dropped", "refused", "delivered"])
         self.assertEqual([(answer["code"], answer["in_reply_to"]) for answer in self.answers], [(1, 7)])
         self.nodes["n2"].set(NodeCell())
         self.assertEqual((self.actor("n2").was, self.actor("n2").heard), ("x", []))
@@ -135,8 +143,8 @@ class VirtualTime(unittest.TestCase):
         self.assertEqual((self.nodes["n1"].now(), self.nodes["n2"].now()), (0.5, 0.3))
 
     def test_the_program_ends_in_the_midst(self) -> None:
-        program = simulated.Program("true", pathlib.Path("settings.toml"))
-        with self.assertRaisesRegex(simulated.TestFailed, "^jeprun drive ended in the midst of the test$"):
+        program = simulated.Program("true")
+        with self.assertRaisesRegex(simulated.TestFailed, "^jeprun ended in the midst of the test$"):
             for _ in range(2):
                 program.say("0")
         program.kill()
@@ -145,6 +153,31 @@ class VirtualTime(unittest.TestCase):
         self.network.send("n1", "n2", {"type": "fail"})
         with self.assertRaisesRegex(simulated.TestFailed, r"^n2 failed at \d+ ns: ValueError\('no such thing'\)$"):
             self.pass_time(2)
+
+
+class Playback(unittest.TestCase):
+    """What is heard of a program that says what a test has written down, and reads nothing."""
+
+    TESTS = "{:type :test, :number 6, :seed 7}\n:end\n{:type :test, :number 7, :seed 8}\n:end\n"
+
+    def test_tests_of_a_search(self) -> None:
+        for behind, verdict, settings in [
+            (":none {:tried 2, :unknown 0}\n", ":none {:tried 2, :unknown 0}", ""),
+            (":active []\n{}\n{:valid? false}\n:found\nseed = 8\n", "{:valid? false}", "seed = 8\n"),
+        ]:
+            program = simulated.Program("printf", "%s", self.TESTS + behind)
+            for begun in (6, 7), (7, 8):
+                self.assertEqual(program.next_test(), begun)
+                self.assertEqual((program.say(":ready"), program.is_over), ([], True))
+            self.assertIsNone(program.next_test())
+            result = simulated.Result(program.end(), bytes(program.written), b"")
+            self.assertEqual(result.written.decode(), f":end\n{behind}", "it has the last test alone")
+            self.assertEqual((result.verdict(), result.found().decode()), (verdict, settings))
+
+    def test_no_test_at_all(self) -> None:
+        program = simulated.Program("true")
+        self.assertIsNone(program.next_test())
+        self.assertEqual(program.end(), 0)
 
 
 class World:
@@ -315,8 +348,44 @@ class AsProcess(unittest.TestCase):
                 process.kill()
 
 
+class Options(unittest.TestCase):
+    def test_what_a_search_alone_is_told(self) -> None:
+        rows = [
+            (["--search", "--from=3", "--palette", "cut,kill"], ["--from=3", "--palette=cut,kill"]),
+            (["--search"], []),
+            (["--seed=4"], []),
+            (["--runs=3"], "--runs: only with --search\n"),
+            (["--palette=cut"], "--palette: only with --search\n"),
+            (["--search", "--seed=3"], "--seed: not with --search, where each test has a seed of its own\n"),
+        ]
+        for words, told in rows:
+            parsed = [*words, "--node=n", "settings.toml"]
+            if isinstance(told, list):
+                self.assertEqual(simulated.parse(parsed).candidates, told)
+                continue
+            with self.assertRaises(SystemExit) as ended, contextlib.redirect_stderr(io.StringIO()) as said:
+                simulated.parse(parsed)
+            self.assertEqual(ended.exception.code, 3)
+            self.assertEqual(said.getvalue().splitlines(keepends=True)[-1].partition(": ")[2], told)
+
+
 @unittest.skipUnless(PROGRAM, "there is no jeprun")
-class WholeTests(unittest.TestCase):
+class Whole(unittest.TestCase):
+    """What tests with `jeprun` have in common."""
+
+    def make_test(self, text: str, seed: int = 0, words: Sequence[str] = (), **others: float) -> simulated.Test:
+        path = pathlib.Path(self.enterContext(tempfile.TemporaryDirectory())) / "settings.toml"
+        path.write_text(text)
+        known, start = jeprun.read_settings(path, PROGRAM or ""), simulated.load(RAFT)
+        return simulated.Test(PROGRAM or "", path, known, "lin-kv", start, [*words], seed, **others)
+
+    def play_again(self, text: str, result: simulated.Result) -> tuple[int, bytes]:
+        """The status and the output of `jeprun drive` with the replies of a test."""
+        ran = jeprun.run_program(PROGRAM or "", "drive", str(self.make_test(text).path), given=result.replies)
+        return ran.returncode, ran.stdout
+
+
+class WholeTests(Whole):
     """Tests with faults of all kinds, with `jeprun drive`."""
 
     SETTINGS = """
@@ -335,7 +404,6 @@ class WholeTests(unittest.TestCase):
           '[[:ms 910] [:begin 5 [:slow 50 [["n2" "n3"]]]]]',
         ]
     """
-
     # Here threads wait for others. Each time that one is asked, it takes a random number.
     PHASES = """
         start = '{:nodes ["n1" "n2" "n3"]}'
@@ -345,28 +413,97 @@ class WholeTests(unittest.TestCase):
         ops = 40
     """
 
-    def run_once(self, seed: int, text: str = SETTINGS) -> simulated.Result:
-        path = pathlib.Path(self.enterContext(tempfile.TemporaryDirectory())) / "settings.toml"
-        path.write_text(text)
-        known = jeprun.read_settings(path, PROGRAM or "")
-        test = simulated.Test(PROGRAM or "", path, known, "lin-kv", simulated.load(RAFT), [], seed)
-        return simulated.Simulation(test).run()
-
     def test_the_same_seed_is_the_same_test(self) -> None:
-        first, again, other = self.run_once(7), self.run_once(7), self.run_once(8)
-        self.assertEqual((first.written, first.replies), (again.written, again.replies))
-        self.assertNotEqual(first.replies, other.replies)
-        self.assertEqual((first.status, other.status), (0, 0))
-        self.assertEqual(first.replies.count(b":nemesis"), 8, "the steps, and that which ends all faults")
-        self.assertGreater(first.replies.count(b":ok"), 5)
+        for text in self.SETTINGS, self.PHASES:
+            first, again, other = (simulated.run(self.make_test(text, seed)) for seed in (7, 7, 8))
+            self.assertEqual((first.written, first.replies), (again.written, again.replies))
+            self.assertNotEqual(first.replies, other.replies)
+            self.assertEqual((first.status, other.status), (0, 0))
+            self.assertGreater(first.replies.count(b":ok"), 5)
+
+    def test_each_step_is_told_and_answered(self) -> None:
+        result = simulated.run(self.make_test(self.SETTINGS, 7))
+        self.assertEqual(result.replies.count(b":nemesis"), 8, "the steps, and that which ends all faults")
 
     def test_its_replies_played_again_are_the_same_test(self) -> None:
         for text in self.SETTINGS, self.PHASES:
-            result = self.run_once(9, text)
-            path = pathlib.Path(self.enterContext(tempfile.TemporaryDirectory())) / "settings.toml"
-            path.write_text(text)
-            played = jeprun.run_program(PROGRAM or "", "drive", str(path), given=result.replies)
-            self.assertEqual((played.returncode, played.stdout), (result.status, result.written))
+            for seed in range(4):
+                result = simulated.run(self.make_test(text, seed))
+                self.assertEqual(self.play_again(text, result), (result.status, result.written))
+
+    def test_a_line_that_is_longer_than_a_packet(self) -> None:
+        settings = self.PHASES.replace("register", "set").replace("6", "1").replace("[:rising-write 1]", "")
+        reply = f"{{:type :ok, :process 0, :f :read, :value {[*range(9_999)]}}}"
+        path = self.make_test(settings.replace("40", "3")).path
+        with simulated.started(PROGRAM or "", "drive", str(path)) as program:
+            self.assertEqual([len(program.say(line)) for line in (None, reply, reply, reply)], [1, 1, 1, 0])
+            self.assertEqual((program.is_over, program.end()), (True, 1))
+
+
+class Searches(Whole):
+    """Tests of `jeprun search --drive`, in one conversation."""
+
+    SETTINGS = (simulated.NODES / "raft_cut.toml").read_text()
+
+    def search(self, *options: str, words: Sequence[str] = ()) -> tuple[simulated.Result, list[bytes], simulated.Test]:
+        test, seen = self.make_test(self.SETTINGS, words=words, latency=10, timeout=0.5), list[bytes]()
+        return simulated.search(test, ["--faults=3", *options], seen.append), seen, test
+
+    def test_none_is_found(self) -> None:
+        result, seen, _ = self.search("--runs=4")
+        self.assertEqual((result.status, result.verdict()), (0, ":none {:tried 4, :unknown 0}"))
+        self.assertEqual((len({*seen}), seen[-1], result.begun), (4, result.replies, (3, 3)))
+
+    def test_a_test_of_a_search_is_as_if_it_were_alone(self) -> None:
+        _, seen, all_of_them = self.search("--runs=3")
+        _, (last,), alone = self.search("--from=2", "--runs=1")
+        self.assertEqual((seen[2], all_of_them.arrivals), (last, alone.arrivals))
+
+    def test_what_is_found_is_the_same_test_again(self) -> None:
+        words = ["reads-alone"]
+        result, _, searched = self.search(words=words)
+        found = result.found().decode()
+        self.assertEqual((result.status, result.verdict()), (1, "{:valid? false}"))
+        again = self.make_test(found, tomllib.loads(found)["seed"], words, latency=10, timeout=0.5)
+        played = simulated.run(again)
+        self.assertEqual((played.status, played.written), (1, result.report()))
+        self.assertEqual((played.replies, again.arrivals), (result.replies, searched.arrivals))
+        self.assertEqual(self.play_again(found, result), (1, result.report()))
+
+    def test_a_node_that_fails(self) -> None:
+        test = self.make_test(self.SETTINGS)
+        test.start = Echo
+        with self.assertRaisesRegex(simulated.TestFailed, "^test 7: n1 answered write by echo_ok$"):
+            simulated.search(test, ["--from=7", "--faults=0"])
+
+    def run_command(self, *words: str) -> tuple[int, str, str]:
+        """The status of a command, and what it writes, but for the name of its folder."""
+        command = [sys.executable, simulated.__file__, f"--node={RAFT}", f"--jeprun={PROGRAM}"]
+        words = *command, f"--store={self.store}", *words
+        ran = subprocess.run(words, capture_output=True, text=True, check=False)
+        return ran.returncode, re.sub(r".*/raft/\d.*", "FOLDER", ran.stdout), ran.stderr
+
+    def test_the_command(self) -> None:
+        self.store = pathlib.Path(self.enterContext(tempfile.TemporaryDirectory()))
+        settings, folder = str(simulated.NODES / "raft_cut.toml"), self.store / "raft" / "latest"
+        options = ["--latency=10", "--timeout=0.5", "--search", "--faults=3"]
+        found = "FOLDER\n{:type :test, :number 1, :seed 1}\n{:valid? false}\n"
+        self.assertEqual(self.run_command(*options, settings, "--", "reads-alone"), (1, found, ""))
+        files = {file.name: file.read_bytes() for file in folder.resolve().iterdir() if file.is_file()}
+        self.assertIn("found.toml", files)
+        again = self.run_command(*options[:2], str(folder.resolve() / "found.toml"), "--", "reads-alone")
+        self.assertEqual(again, (1, "FOLDER\n{:valid? false}\n", ""))
+        for name in "replies.edn", "report.edn", "history.edn", "messages.jsonl":
+            self.assertEqual((folder / name).read_bytes(), files[name])
+        none = "FOLDER\n:none {:tried 2, :unknown 0}\n"
+        self.assertEqual(self.run_command(*options, "--runs=2", settings), (0, none, ""))
+
+    def test_what_the_program_refuses(self) -> None:
+        self.store = pathlib.Path(self.enterContext(tempfile.TemporaryDirectory()))
+        for option, line in ("--palette=x", r"jeprun.py: jeprun: --palette: .*\n"), ("--runs=0", ".*'0'.*\n"):
+            status, said, complaint = self.run_command("--search", option, str(simulated.NODES / "raft_cut.toml"))
+            self.assertEqual((status, said, [*self.store.iterdir()]), (3, "", []))
+            self.assertRegex(complaint, f"^{line}$")
 
 
 if __name__ == "__main__":
