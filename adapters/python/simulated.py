@@ -348,10 +348,10 @@ class Simulation:
         behind it."""
         links, nodes = self._test.settings.start
         self._network.cells.update(links)
+        self._tick()
         for name, node in self._network.nodes.items():
             node.set(nodes.get(name, jeprun.NodeCell()))
         self._lines.extend(self._program.say(first))
-        self._tick()
         while not self._program.is_over:
             if self._lines:
                 self._hear(self._lines.popleft())
@@ -366,14 +366,10 @@ class Simulation:
         self._lines.extend(self._program.say(text))
 
     def _tick(self) -> None:
-        """Tells the time now and then. Nothing waits long for it, since each answer tells it too."""
-        if self._clock.now >= self._told + self._ticks:
-            self._tell_time()
-        self._clock.after(self._ticks, self._tick)
-
-    def _tell_time(self) -> None:
+        """Tells the time now and then, where no reply has told it. An entry of the schedule waits for that."""
         if self._clock.now > self._told:
             self._say(str(self._clock.now))
+        self._clock.after(self._ticks, self._tick)
 
     def _hear(self, line: str) -> None:
         """Does what a line says."""
