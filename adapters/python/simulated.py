@@ -559,8 +559,10 @@ def main() -> int:
         jeprun.complain(str(refusal.args[0]))
         return int(refusal.args[1]) if len(refusal.args) > 1 else jeprun.ADAPTER_FAILED
     seed = settings.table.get("seed", 0) if options.seed is None else options.seed
-    test = Test(options.jeprun, options.settings, settings, workload, load(options.node), options.words, seed,
-                options.latency, options.timeout)  # fmt: skip
+    # Those in the folder, since what was named may stand in `latest`, which is another one now.
+    path = folder.path / "settings.toml"
+    test = Test(options.jeprun, path, settings, workload, load(options.node), options.words, seed, options.latency,
+                options.timeout)  # fmt: skip
     try:
         result = search(test, options.candidates) if options.search else run(test)
     except TestFailed as fault:

@@ -492,7 +492,7 @@ class Searches(Whole):
         self.assertRegex(said, r"^FOLDER\n{:type :test, :number (\d+), :seed \1}\n{:valid\? false}\n$")
         files = {file.name: file.read_bytes() for file in folder.resolve().iterdir() if file.is_file()}
         self.assertIn("found.toml", files)
-        again = self.run_command(*options[:2], str(folder.resolve() / "found.toml"), "--", "reads-alone")
+        again = self.run_command(*options[:2], str(folder / "found.toml"), "--", "reads-alone")
         self.assertEqual(again, (1, "FOLDER\n{:valid? false}\n", ""))
         for name in "replies.edn", "report.edn", "history.edn", "messages.jsonl":
             self.assertEqual((folder / name).read_bytes(), files[name])
