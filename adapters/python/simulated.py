@@ -473,8 +473,8 @@ def search(test: Test, options: list[str], see: Callable[[bytes], None] = lambda
             test.arrivals.clear()
             try:
                 replies = Simulation(replace(test, seed=begun[1]), program).run(":ready")
-            except TestFailed as fault:
-                raise TestFailed(f"test {begun[0]}: {fault}") from fault
+            except (TestFailed, KeyboardInterrupt) as fault:
+                raise TestFailed(f"test {begun[0]}: {str(fault) or 'Ctrl-C'}") from fault
             see(replies)
         return Result(program.end(), bytes(program.written), replies, begun)
 

@@ -13,9 +13,11 @@ import pathlib
 import random
 import re
 import shutil
+import signal
 import subprocess
 import sys
 import tempfile
+import time
 import tomllib
 import unittest
 from collections.abc import Sequence
@@ -498,6 +500,19 @@ class Searches(Whole):
             self.assertEqual((folder / name).read_bytes(), files[name])
         none = "FOLDER\n:none {:tried 2, :unknown 0}\n"
         self.assertEqual(self.run_command(*options, "--runs=2", settings), (0, none, ""))
+
+    def test_an_interrupt(self) -> None:
+        store = pathlib.Path(self.enterContext(tempfile.TemporaryDirectory()))
+        settings = str(simulated.NODES / "raft_cut.toml")
+        words = [sys.executable, simulated.__file__, f"--node={RAFT}", f"--jeprun={PROGRAM}", f"--store={store}"]
+        with subprocess.Popen([*words, "--search", settings], stderr=subprocess.PIPE, text=True) as search:
+            while not [*store.glob("raft/latest")]:
+                time.sleep(0.01)
+            time.sleep(1)
+            search.send_signal(signal.SIGINT)
+            _, complaint = search.communicate()
+        self.assertRegex(complaint, r"^jeprun.py: test \d+: Ctrl-C: \S+/test.log has more\n$")
+        self.assertEqual(search.returncode, jeprun.ADAPTER_FAILED)
 
     def test_what_the_program_refuses(self) -> None:
         self.store = pathlib.Path(self.enterContext(tempfile.TemporaryDirectory()))
