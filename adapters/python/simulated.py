@@ -466,7 +466,8 @@ def run(test: Test) -> Result:
 def search(test: Test, options: list[str], see: Callable[[bytes], None] = lambda replies: None) -> Result:
     """Runs candidates of a test one after another, each from the beginning and with the seed that the program names,
     up to the first whose history is not valid. It lets see the replies of each."""
-    replies, begun = b"", None
+    replies = b""
+    begun: tuple[int, int] | None = None
     with started(test.program, "search", "--drive", str(test.path), *options) as program:
         while following := program.next_test():
             begun = following

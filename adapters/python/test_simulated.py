@@ -352,7 +352,7 @@ class AsProcess(unittest.TestCase):
 
 class Options(unittest.TestCase):
     def test_what_a_search_alone_is_told(self) -> None:
-        rows = [
+        rows: list[tuple[list[str], list[str] | str]] = [
             (["--search", "--from=3", "--palette", "cut,kill"], ["--from=3", "--palette=cut,kill"]),
             (["--search"], []),
             (["--seed=4"], []),
@@ -375,7 +375,7 @@ class Options(unittest.TestCase):
 class Whole(unittest.TestCase):
     """What tests with `jeprun` have in common."""
 
-    def make_test(self, text: str, seed: int = 0, words: Sequence[str] = (), **others: float) -> simulated.Test:
+    def make_test(self, text: str, seed: int = 0, words: Sequence[str] = (), **others: Any) -> simulated.Test:
         path = pathlib.Path(self.enterContext(tempfile.TemporaryDirectory())) / "settings.toml"
         path.write_text(text)
         known, start = jeprun.read_settings(path, PROGRAM or ""), simulated.load(RAFT)
