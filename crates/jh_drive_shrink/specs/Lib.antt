@@ -1,0 +1,4 @@
+pub mod DriveShrink
+pub mod PartsInside
+pub mod ToldInside
+pub mod ShrinkInside
