@@ -7,7 +7,6 @@ use Rattle.clap.specs.declared.parser.matches.ArgMatches.{ArgMatches}
 use Rattle.jh_cli.specs.Outputs.{OnInput, WritesOutput}
 use Rattle.jh_cli.specs.declared.error.CliError.{CliError}
 use Rattle.jh_cli.specs.declared.error.CliError.TheVariants.{Write}
-use Rattle.jh_drive.specs.Drive.{IsDriven}
 use Rattle.jh_drive.specs.declared.error.DriveError.{DriveError}
 use Rattle.jh_drive.specs.declared.error.DriveError.TheVariants.{Settings}
 use Rattle.jh_settings.specs.declared.error.SettingsError.{SettingsError}
@@ -15,8 +14,8 @@ use Rattle.jh_edn.specs.Edn.{Edn}
 use Rattle.jh_edn.specs.View.{views}
 use Rattle.jh_edn.specs.declared.value.Value.{Value}
 use Rattle.jh_arguments.specs.Accounts.{Accounts, RefusesAccountsText}
-use Rattle.jh_arguments.specs.Answers.{ArgumentsAskForTest, ArgumentsGive, GivesAccounts, GivesSteps, HasNoAccounts, HasNoSteps, accounts_seen, IsRunSettingsError, IsConductedTo, IsCommandDone, IsFailed, IsFileUnread, IsUnfinished, of_command, of_test}
-use Rattle.jh_arguments.specs.Commands.{SubcommandHasAccounts, SubcommandHasRunSettings, SubcommandIsDrive, SubcommandIs, IsOfOptions, IsOutputOf, RefusesCommand, RefusesOptions}
+use Rattle.jh_arguments.specs.Answers.{ArgumentsAskForTest, ArgumentsGive, GivesAccounts, GivesSteps, HasNoAccounts, HasNoSteps, accounts_seen, IsRunSettingsError, IsConductedTo, IsCommandDone, IsFailed, IsFileUnread, IsTestDone, IsUnfinished, of_command, of_test}
+use Rattle.jh_arguments.specs.Commands.{SubcommandHasAccounts, SubcommandHasRunSettings, SubcommandIsTest, SubcommandIs, TestAsked, IsOfOptions, IsOutputOf, RefusesCommand, RefusesOptions}
 use Rattle.jh_arguments.proofs.OptionRefusals.{is_of_options}
 use Rattle.jh_arguments.specs.Line.{AreMatches, IsRefused}
 use Rattle.jh_arguments.specs.declared.answers.Refusal.{Refusal}
@@ -67,8 +66,9 @@ without_steps arguments matches given e (app, line, fault, rows, found) accounts
   why = why;
 }
 
-pub asked_test_by : (arguments : List Text) (matches : ArgMatches) (path : Text) → AreMatches arguments matches → SubcommandIsDrive (subcommand_rows_of matches) path → ArgumentsAskForTest arguments path
-asked_test_by arguments matches path (app, line, fault, rows, found) asks = (app, line, fault, subst (λ o. SubcommandIsDrive o path) found asks)
+pub asked_test_by : (arguments : List Text) (matches : ArgMatches) (asked : TestAsked) → AreMatches arguments matches → SubcommandIsTest (subcommand_rows_of matches) asked
+    → ArgumentsAskForTest arguments asked
+asked_test_by arguments matches asked (app, line, fault, rows, found) asks = (app, line, fault, subst (λ o. SubcommandIsTest o asked) found asks)
 
 -- what `do_command` says of the options of a command
 pub record SaysOfOptions {R : Type 0} (command : Command) (r : Result ℕ CliError) (old new : R) : Type 0 where
@@ -228,11 +228,11 @@ module _ {R W : Type 0} (arguments : List Text) (input rest before after : Optio
   }
 
   -- what a test that is asked for comes to
-  pub test_ends : (path : Text) (r : Result ℕ DriveError) → ArgumentsAskForTest arguments path
-      → (IsErrAnd r IsFileUnread × (rn ≡ ro) × (wn ≡ wo)) ⊎ ((settings : List ℕ) × IsDriven settings input rest before after r)
+  pub test_ends : (asked_for : TestAsked) (r : Result ℕ DriveError) → ArgumentsAskForTest arguments asked_for
+      → (IsErrAnd r IsFileUnread × (rn ≡ ro) × (wn ≡ wo)) ⊎ ((settings : List ℕ) × IsTestDone asked_for settings input rest before after r)
       → ((error : SettingsError) → IsErrOf r (Settings error) → (rn ≡ ro) × (wn ≡ wo))
       → Ends arguments input rest before after ro rn wo wn (of_test r)
-  test_ends path (Ok status) asked ended streams_kept = record {
+  test_ends asked_for (Ok status) asked ended streams_kept = record {
     done = inr (conducted ended);
     refused = λ other is. absurd (let bad : Ok status ≡ Err (Refusals.Arguments other) = is in cc);
     reader_kept = λ other is. absurd (let bad : Ok status ≡ Err (Refusals.Arguments other) = is in cc);
@@ -248,10 +248,10 @@ module _ {R W : Type 0} (arguments : List Text) (input rest before after : Optio
     unfinished = λ other is. absurd (let bad : Ok status ≡ Err (Refusals.Test other) = is in cc);
   }
     where
-      conducted : (⊥ × (rn ≡ ro) × (wn ≡ wo)) ⊎ ((settings : List ℕ) × IsDriven settings input rest before after (Ok status)) → IsConductedTo arguments input rest before after status
+      conducted : (⊥ × (rn ≡ ro) × (wn ≡ wo)) ⊎ ((settings : List ℕ) × IsTestDone asked_for settings input rest before after (Ok status)) → IsConductedTo arguments input rest before after status
       conducted (inl none) = absurd none.0
-      conducted (inr (settings, driven)) = record { path = path; asked = asked; settings = settings; driven = driven }
-  test_ends path (Err error) asked ended streams_kept = record {
+      conducted (inr (settings, done)) = record { asked_for = asked_for; asked = asked; settings = settings; done = done }
+  test_ends asked_for (Err error) asked ended streams_kept = record {
     done = tt;
     refused = λ other is. absurd (let bad : Err (Refusals.Test error) ≡ Err (Refusals.Arguments other) = is in cc);
     reader_kept = λ other is. absurd (let bad : Err (Refusals.Test error) ≡ Err (Refusals.Arguments other) = is in cc);
@@ -265,7 +265,7 @@ module _ {R W : Type 0} (arguments : List Text) (input rest before after : Optio
     no_steps_reader_kept = λ other is. absurd (let bad : Err (Refusals.Test error) ≡ Err (Refusals.RunSettings other) = is in cc);
     no_steps_unwritten = λ other is. absurd (let bad : Err (Refusals.Test error) ≡ Err (Refusals.RunSettings other) = is in cc);
     unfinished = λ other is. subst (IsUnfinished arguments input rest before after ro rn wo wn) (the_test error other is)
-        (record { path = path; asked = asked; why = ended; streams_kept = λ settings is_so. streams_kept settings (ap Err is_so) });
+        (record { asked_for = asked_for; asked = asked; why = ended; streams_kept = λ settings is_so. streams_kept settings (ap Err is_so) });
   }
 
 -- a test whose settings are refused leaves all as it was
@@ -273,3 +273,8 @@ pub left_so : {S : Type 0} (r : Result ℕ DriveError) (old new : S) → ((error
     → (error : SettingsError) → IsErrOf r (Settings error) → new ≡ old
 left_so (Ok status) old new says error is = absurd (let bad : Ok status ≡ Err (Settings error) = is in cc)
 left_so (Err e) old new says error is = says error (let both : ◌≡◌ {A = Result ℕ DriveError} (Err e) (Err (Settings error)) = is in cc)
+
+-- what is never answered is not
+pub never_so : (r : Result ℕ DriveError) (error : SettingsError) → IfErr r (λ e. e ≢ Settings error) → IsErrOf r (Settings error) → ⊥
+never_so (Ok status) error says is = let bad : Ok status ≡ Err (Settings error) = is in cc
+never_so (Err e) error says is = says (let both : ◌≡◌ {A = Result ℕ DriveError} (Err e) (Err (Settings error)) = is in cc)

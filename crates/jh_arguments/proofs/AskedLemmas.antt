@@ -1,5 +1,5 @@
 -- Arguments that `clap` takes ask for a command, or for a test.
-use Rattle.std.proofs.Common.{◌≡◌, ◌∙◌, ◌<◌, ◌||◌, ◌⊎◌, inl, inr, ℕ, ℤ, Bool, codes, true, false, refl, sym, ap, subst, arith, map, List, [], ◌∷◌, length, Option, Some, None, true≢false}
+use Rattle.std.proofs.Common.{◌≡◌, ◌∙◌, ◌<◌, ◌||◌, ◌⊎◌, inl, inr, ℕ, ℤ, Bool, codes, true, false, refl, sym, ap, ap₂, subst, arith, map, List, [], ◌∷◌, length, Option, Some, None, true≢false}
 use Rattle.std.specs.Prelude.{option_and_then, option_map, pos, negsuc}
 use Rattle.std.specs.Borrow.{Bor}
 use Rattle.std.specs.List.{list_any}
@@ -20,14 +20,15 @@ use Rattle.jh_arguments.proofs.PassedLevel.{HoldsOf, level_holds}
 use Rattle.jh_arguments.proofs.PassedTexts.{HasNoText, HasText, needed_gives, option_gives, read_of}
 use Rattle.jh_arguments.proofs.PassedCommand.{Leads, entered_leads}
 use Rattle.jh_arguments.specs.Answers.{ArgumentsAskFor, ArgumentsAskForTest}
-use Rattle.jh_arguments.proofs.OnceLemmas.{Once, asked_once, flag_once, named, no_drive}
+use Rattle.jh_arguments.proofs.OptionLemmas.{number_one}
+use Rattle.jh_arguments.proofs.OnceLemmas.{Once, asked_once, flag_once, named, no_drive, searches, shrinks, trials_once}
 use Rattle.jh_arguments.proofs.SameWalk.{subcommand_same}
 use Rattle.jh_checkers.specs.Checkers.{checker_name, checker_names}
 use Rattle.jh_checkers.specs.Models.{model_named}
 use Rattle.jh_arguments.specs.Palettes.{palette_named}
 use Rattle.jh_arguments.specs.Line.{IsCommandLine, check, drive, jeprun, plot, search, shrink, timeline, without_options}
 use Rattle.jh_arguments.specs.Accounts.{Accounts}
-use Rattle.jh_arguments.specs.Commands.{SubcommandIsAny, AsksCheck, SubcommandIsDrive, SubcommandIs, AsksSearch, AsksTimeline, IsFlag, IsGivenWithin, IsGivenNumber, IsGivenSigned, IsJudging, IsJudgingBy, IsNumberWithin, IsShow}
+use Rattle.jh_arguments.specs.Commands.{SubcommandIsAny, AsksCheck, Conducts, SubcommandIsTest, SubcommandIs, TestAsked, Tries, Reduces, AsksSearch, AsksTrials, AsksTimeline, IsFlag, IsGivenWithin, IsGivenNumber, IsGivenSigned, IsJudging, IsJudgingBy, IsNumberWithin, IsShow}
 use Rattle.jh_arguments.specs.Limits.{max_candidates, max_spread_ms}
 use Rattle.jh_settings.specs.Limits.{max_budget}
 use Rattle.jh_checkers.specs.declared.checker.Checker.{Checker}
@@ -137,14 +138,17 @@ module _ (names models : Bor (List (Bor Text))) (all : map (λ s. s.now) names.n
       or_false false e = e
 
   shrink_rules : Each (IsOwn (leaf shrink).rules) (leaf shrink).rules
-  shrink_rules = (one_valued _ _ refl refl, (flag_valued _ _ refl (omega arith), (request _ _ refl refl, tt)))
+  shrink_rules = (one_valued _ _ refl refl, (one_valued _ _ refl refl, (flag_valued _ _ refl (omega arith), (request _ _ refl refl, tt))))
 
   shrink_asks : Leads SubcommandIsAny (leaf shrink)
   shrink_asks name rest named other fault =
       let holds = level_holds (leaf shrink) [] rest shrink_rules fault in
       let rows = rows_after (leaf shrink).rules [] rest in
       let runs = number_in rows (codes "budget") 0 max_budget (needed_gives _ rows holds (codes "budget") false (vp.Unsigned 0 max_budget) refl) in
-      inl (λ given. (Shrink runs.0, (refl, runs.1.0)))
+      elim (option_gives _ rows holds (codes "drive") false vp.String false refl) [
+        | inl none ↦ inl (λ given. (Shrink runs.0, (refl, none.1.first, runs.1.0)))
+        | inr path ↦ inr (Reduces path.text runs.0, ((refl, path.first), runs.1.0))
+      ]
 
   drive_rules : Each (IsOwn (leaf drive).rules) (leaf drive).rules
   drive_rules = (one_valued _ _ refl refl, (flag_valued _ _ refl (omega arith), (request _ _ refl refl, tt)))
@@ -154,7 +158,7 @@ module _ (names models : Bor (List (Bor Text))) (all : map (λ s. s.now) names.n
       let holds = level_holds (leaf drive) [] rest drive_rules fault in
       let rows = rows_after (leaf drive).rules [] rest in
       let path = needed_gives _ rows holds (codes "settings") false vp.String refl in
-      inr (path.text, (refl, path.first))
+      inr (Conducts path.text, (refl, path.first))
 
   search_rules : Each (IsOwn (leaf search).rules) (leaf search).rules
   search_rules = (
@@ -165,7 +169,10 @@ module _ (names models : Bor (List (Bor Text))) (all : map (λ s. s.now) names.n
         one_valued _ _ refl refl,
         (
           one_valued _ _ refl refl,
-          (one_valued _ _ refl refl, (one_valued _ _ refl refl, (one_valued _ _ refl refl, (flag_valued _ _ refl (omega arith), (request _ _ refl refl, tt))))),
+          (
+            one_valued _ _ refl refl,
+            (one_valued _ _ refl refl, (one_valued _ _ refl refl, (one_valued _ _ refl refl, (flag_valued _ _ refl (omega arith), (request _ _ refl refl, tt))))),
+          ),
         ),
       ),
     ),
@@ -201,7 +208,16 @@ module _ (names models : Bor (List (Bor Text))) (all : map (λ s. s.now) names.n
         threads = threads.0;
         show = show.0;
       }) = record { from = from.1; runs = runs.1; faults = faults.1; palette = refl; threads = threads.1; show = show.1 } in
-      inl (λ given. (Search _, (refl, asks)))
+      let trials : AsksTrials rows (record {
+        from = from.0;
+        runs = runs.0;
+        faults = faults.0;
+        palette = option_and_then palette_named (first_of (codes "palette") rows);
+      }) = record { from = from.1; runs = runs.1; faults = faults.1; palette = refl } in
+      elim (option_gives _ rows holds (codes "drive") false vp.String false refl) [
+        | inl none ↦ inl (λ given. (Search _, (refl, none.1.first, asks)))
+        | inr path ↦ inr (Tries path.text _, ((refl, path.first), trials))
+      ]
 
   -- by what a history is judged, of a checker that is named
   judging_in : (c : List Rule) (rows : List Row) → HoldsOf c rows
@@ -380,13 +396,38 @@ line_same app other line also words =
         sym (subcommand_same (built (jeprun names models)) (argument_words (jeprun names models) words))
         ∙ subcommand_same (built (jeprun others more)) (argument_words (jeprun others more) words)
 
-test_alike : (found : Option (Text × List Row)) (p q : Text) → SubcommandIsDrive found p → SubcommandIsDrive found q → p ≡ q
-test_alike None p q a b = absurd a
-test_alike (Some found) p q a b = let both : Some p ≡ Some q = sym a.1 ∙ b.1 in cc
+path_alike : (p q : Text) → Some p ≡ Some q → p ≡ q
+path_alike p q both = cc
 
-command_no_test : (given : Accounts) (found : Option (Text × List Row)) (c : Command) (path : Text) → SubcommandIs given found c → SubcommandIsDrive found path → ⊥
-command_no_test given None c path a b = b
-command_no_test given (Some found) c path a b = no_drive c (sym (named given found c a) ∙ b.0)
+-- a name is no other
+apart : (name one other : Text) → bytes_eq one other ≡ false → name ≡ one → name ≡ other → ⊥
+apart name one other differ is also =
+    true≢false (sym ((bytes_eq-Decides one other).1 (sym is ∙ also)) ∙ differ)
+
+test_alike : (found : Option (Text × List Row)) (p q : TestAsked) → SubcommandIsTest found p → SubcommandIsTest found q → p ≡ q
+test_alike None (Conducts p) q a b = absurd a
+test_alike None (Tries p m) q a b = absurd a.0
+test_alike None (Reduces p m) q a b = absurd a.0
+test_alike (Some found) (Conducts p) (Conducts q) a b = ap Conducts (path_alike p q (sym a.1 ∙ b.1))
+test_alike (Some found) (Conducts p) (Tries q n) a b = absurd (apart found.0 (codes "drive") (codes "search") refl a.0 b.0.0)
+test_alike (Some found) (Conducts p) (Reduces q n) a b = absurd (apart found.0 (codes "drive") (codes "shrink") refl a.0 b.0.0)
+test_alike (Some found) (Tries p m) (Conducts q) a b = absurd (apart found.0 (codes "search") (codes "drive") refl a.0.0 b.0)
+test_alike (Some found) (Tries p m) (Reduces q n) a b = absurd (apart found.0 (codes "search") (codes "shrink") refl a.0.0 b.0.0)
+test_alike (Some found) (Reduces p m) (Conducts q) a b = absurd (apart found.0 (codes "shrink") (codes "drive") refl a.0.0 b.0)
+test_alike (Some found) (Reduces p m) (Tries q n) a b = absurd (apart found.0 (codes "shrink") (codes "search") refl a.0.0 b.0.0)
+test_alike (Some found) (Reduces p m) (Reduces q n) a b =
+    ap₂ Reduces (path_alike p q (sym a.0.1 ∙ b.0.1)) (number_one (one_of (codes "budget") found.1) m n a.1 b.1)
+test_alike (Some found) (Tries p m) (Tries q n) a b = ap₂ Tries (path_alike p q (sym a.0.1 ∙ b.0.1)) (trials_once found.1 m n a.1 b.1)
+
+command_no_test : (given : Accounts) (found : Option (Text × List Row)) (c : Command) (asked : TestAsked) → SubcommandIs given found c → SubcommandIsTest found asked → ⊥
+command_no_test given None c (Conducts path) a b = b
+command_no_test given None c (Tries path question) a b = b.1
+command_no_test given None c (Reduces path runs) a b = b.1
+command_no_test given (Some found) c (Conducts path) a b = no_drive c (sym (named given found c a) ∙ b.0)
+command_no_test given (Some found) c (Tries path question) a b =
+    let bad : None ≡ Some path = sym (searches given found c a b.0.0) ∙ b.0.1 in cc
+command_no_test given (Some found) c (Reduces path runs) a b =
+    let bad : None ≡ Some path = sym (shrinks given found c a b.0.0) ∙ b.0.1 in cc
 
 -- arguments that ask for two commands ask for one
 pub asked_alike : (arguments : List Text) (given : Accounts) (c d : Command) → ArgumentsAskFor arguments given c → ArgumentsAskFor arguments given d → c ≡ d
@@ -395,18 +436,18 @@ asked_alike arguments given c d (app, line, fault, asks) (other, also, beside, a
     (line_once line.0 line.1 line.2 arguments (ap (λ a. fault_of a arguments) (sym line.4) ∙ fault)) in
     once given c d asks (subst (λ found. SubcommandIs given found d) (sym (line_same app other line also arguments)) asks_too)
 
-pub asked_test_alike : (arguments : List Text) (p q : Text) → ArgumentsAskForTest arguments p → ArgumentsAskForTest arguments q → p ≡ q
+pub asked_test_alike : (arguments : List Text) (p q : TestAsked) → ArgumentsAskForTest arguments p → ArgumentsAskForTest arguments q → p ≡ q
 asked_test_alike arguments p q (app, line, fault, asks) (other, also, beside, asks_too) =
-    test_alike (subcommand_of app arguments) p q asks (subst (λ found. SubcommandIsDrive found q) (sym (line_same app other line also arguments)) asks_too)
+    test_alike (subcommand_of app arguments) p q asks (subst (λ found. SubcommandIsTest found q) (sym (line_same app other line also arguments)) asks_too)
 
-pub asked_apart : (arguments : List Text) (given : Accounts) (c : Command) (path : Text) → ArgumentsAskFor arguments given c → ArgumentsAskForTest arguments path → ⊥
-asked_apart arguments given c path (app, line, fault, asks) (other, also, beside, asks_too) =
-    command_no_test given (subcommand_of app arguments) c path asks (subst (λ found. SubcommandIsDrive found path) (sym (line_same app other line also arguments)) asks_too)
+pub asked_apart : (arguments : List Text) (given : Accounts) (c : Command) (asked : TestAsked) → ArgumentsAskFor arguments given c → ArgumentsAskForTest arguments asked → ⊥
+asked_apart arguments given c asked (app, line, fault, asks) (other, also, beside, asks_too) =
+    command_no_test given (subcommand_of app arguments) c asked asks (subst (λ found. SubcommandIsTest found asked) (sym (line_same app other line also arguments)) asks_too)
 
 -- arguments that `clap` takes ask for something
 pub asked_there : (app : App) (arguments : List Text) → IsCommandLine app → fault_of app arguments ≡ []
-    → ((given : Accounts) → (command : Command) × ArgumentsAskFor arguments given command) ⊎ ((path : Text) × ArgumentsAskForTest arguments path)
+    → ((given : Accounts) → (command : Command) × ArgumentsAskFor arguments given command) ⊎ ((asked : TestAsked) × ArgumentsAskForTest arguments asked)
 asked_there app arguments line fault = elim (taken_asks app line arguments fault) [
   | inl asks ↦ inl (λ given. ((asks given).0, (app, line, fault, (asks given).1)))
-  | inr (path, asks) ↦ inr (path, (app, line, fault, asks))
+  | inr (asked, asks) ↦ inr (asked, (app, line, fault, asks))
 ]

@@ -10,4 +10,5 @@ pub mod OnceLemmas
 pub mod SameWalk
 pub mod AskedLemmas
 pub mod OptionRefusals
+pub mod AheadLemmas
 pub mod AnswerLemmas

@@ -2,13 +2,13 @@
 use Rattle.std.proofs.Common.{◌≡◌, ◌∙◌, ◌||◌, ◌+◌, ◌*◌, ◌⊎◌, inl, inr, ℕ, ℤ, Bool, codes, true, false, refl, sym, ap, arith, List, [], ◌∷◌, Option, Some, None, true≢false}
 use Rattle.std.specs.Str.{bytes_eq}
 use Rattle.std.proofs.lemmas.Slice.Eq.{bytes_eq-Decides}
-use Rattle.clap.specs.Words.{Row, Text, one_of}
+use Rattle.clap.specs.Words.{Row, Text, first_of, one_of}
 use Rattle.clap.specs.declared.builder.value_parser.ValueParser.TheVariants as vp
 use Rattle.jh_arguments.proofs.PassedTexts.{HasNoText, HasText}
 use Rattle.jh_arguments.proofs.OptionLemmas.{number_one}
 use Rattle.jh_checkers.specs.Checkers.{checker_name, checker_named}
 use Rattle.jh_arguments.specs.Accounts.{Accounts}
-use Rattle.jh_arguments.specs.Commands.{AsksCheck, SubcommandIs, AsksSearch, AsksTimeline, IsFlag, IsGivenWithin, IsGivenNumber, IsGivenSigned, IsJudging, IsJudgingBy, IsNumberWithin, IsShow}
+use Rattle.jh_arguments.specs.Commands.{AsksCheck, SubcommandIs, AsksSearch, AsksTrials, AsksTimeline, IsFlag, IsGivenWithin, IsGivenNumber, IsGivenSigned, IsJudging, IsJudgingBy, IsNumberWithin, IsShow}
 use Rattle.jh_arguments.specs.Limits.{max_candidates, max_spread_ms}
 use Rattle.jh_checkers.specs.declared.checker.Checker.{Checker}
 use Rattle.jh_checkers.specs.declared.checker.Checker.TheVariants.{Register, Set, Counter, Ids, ListAppend, TotalQueue, Queue, Bank, SetFull, Mutex, FifoQueue}
@@ -18,6 +18,7 @@ use Rattle.jh_cli.specs.declared.search_command.SearchQuestion.{SearchQuestion}
 use Rattle.jh_cli.specs.declared.search_command.Show.{Show}
 use Rattle.jh_cli.specs.declared.timeline_command.TimelineQuestion.{TimelineQuestion}
 use Rattle.jh_arguments.specs.declared.commands.Command.{Command}
+use Rattle.jh_arguments.specs.declared.commands.TrialQuestion.{TrialQuestion}
 use Rattle.jh_arguments.specs.declared.commands.Command.TheVariants.{Env, Check, Run, Shrink, Search, Timeline, Plot}
 
 -- ---- one text means one value
@@ -137,6 +138,14 @@ search_once rows m n a b =
     let show = show_once rows m.show n.show a.show b.show in
     λ i. record { from = from i; runs = runs i; faults = faults i; palette = palette i; threads = threads i; show = show i }
 
+pub trials_once : (rows : List Row) (m n : TrialQuestion) → AsksTrials rows m → AsksTrials rows n → m ≡ n
+trials_once rows m n a b =
+    let from = number_one (one_of (codes "from") rows) m.from n.from a.from.0 b.from.0 in
+    let runs = number_one (one_of (codes "runs") rows) m.runs n.runs a.runs.0 b.runs.0 in
+    let faults = number_one (one_of (codes "faults") rows) m.faults n.faults a.faults.0 b.faults.0 in
+    let palette = a.palette ∙ sym b.palette in
+    λ i. record { from = from i; runs = runs i; faults = faults i; palette = palette i }
+
 page_once : (given : Accounts) (rows : List Row) → JudgingFlagsOnce rows → (m n : Option Judging) → IsJudging given rows m → IsJudging given rows n → m ≡ n
 page_once given rows flags None None a b = refl
 page_once given rows flags None (Some n) a b = let bad : Some (checker_name n.checker) ≡ None = sym b.0.workload ∙ a in cc
@@ -191,6 +200,32 @@ no_drive c e = go c (ap mark_of e)
     go (Timeline question) e = omega (arith, e)
     go (Plot skips_unread) e = omega (arith, e)
 
+-- the one that is called search has no file of a test
+pub searches : (given : Accounts) (found : Text × List Row) (c : Command) → SubcommandIs given (Some found) c → found.0 ≡ codes "search" → first_of (codes "drive") found.1 ≡ None
+searches given found c asks name = go c asks (ap mark_of (sym (named given found c asks) ∙ name))
+  where
+    go : (c : Command) → SubcommandIs given (Some found) c → mark_of (command_name c) ≡ mark_of (codes "search") → first_of (codes "drive") found.1 ≡ None
+    go (Search question) asks e = asks.1
+    go Env asks e = absurd (omega (arith, e))
+    go (Check question) asks e = absurd (omega (arith, e))
+    go Run asks e = absurd (omega (arith, e))
+    go (Shrink runs) asks e = absurd (omega (arith, e))
+    go (Timeline question) asks e = absurd (omega (arith, e))
+    go (Plot skips_unread) asks e = absurd (omega (arith, e))
+
+-- nor has the one that is called shrink
+pub shrinks : (given : Accounts) (found : Text × List Row) (c : Command) → SubcommandIs given (Some found) c → found.0 ≡ codes "shrink" → first_of (codes "drive") found.1 ≡ None
+shrinks given found c asks name = go c asks (ap mark_of (sym (named given found c asks) ∙ name))
+  where
+    go : (c : Command) → SubcommandIs given (Some found) c → mark_of (command_name c) ≡ mark_of (codes "shrink") → first_of (codes "drive") found.1 ≡ None
+    go (Shrink runs) asks e = asks.1
+    go Env asks e = absurd (omega (arith, e))
+    go (Check question) asks e = absurd (omega (arith, e))
+    go Run asks e = absurd (omega (arith, e))
+    go (Search question) asks e = absurd (omega (arith, e))
+    go (Timeline question) asks e = absurd (omega (arith, e))
+    go (Plot skips_unread) asks e = absurd (omega (arith, e))
+
 abbrev pub Once : Option (Text × List Row) → Type 0
 Once found = (given : Accounts) (c d : Command) → SubcommandIs given found c → SubcommandIs given found d → c ≡ d
 
@@ -203,9 +238,9 @@ asked_once found of_check of_timeline of_plot given c d asks also = go c d asks 
     go : (c d : Command) → SubcommandIs given (Some found) c → SubcommandIs given (Some found) d → mark_of (command_name c) ≡ mark_of (command_name d) → c ≡ d
     go Env Env a b e = refl
     go Run Run a b e = refl
-    go (Shrink m) (Shrink n) a b e = ap Shrink (number_one (one_of (codes "budget") found.1) m n a.1 b.1)
+    go (Shrink m) (Shrink n) a b e = ap Shrink (number_one (one_of (codes "budget") found.1) m n a.2 b.2)
     go (Check m) (Check n) a b e = ap Check (check_once given found.1 (of_check a.0).3 (of_check a.0).0 (of_check a.0).1 (of_check a.0).2 m n a.1 b.1)
-    go (Search m) (Search n) a b e = ap Search (search_once found.1 m n a.1 b.1)
+    go (Search m) (Search n) a b e = ap Search (search_once found.1 m n a.2 b.2)
     go (Timeline m) (Timeline n) a b e = ap Timeline (timeline_once given found.1 (of_timeline a.0).2 (of_timeline a.0).0 (of_timeline a.0).1 m n a.1 b.1)
     go (Plot m) (Plot n) a b e = ap Plot (of_plot a.0 m n a.1 b.1)
     go _ _ a b e = absurd (omega (arith, e))

@@ -9,18 +9,26 @@ use Rattle.jh_cli.specs.declared.error.CliError.{CliError}
 use Rattle.jh_cli.specs.declared.error.CliError.TheVariants as failures
 use Rattle.jh_drive.specs.Drive.{IsDriven}
 use Rattle.jh_drive.specs.declared.error.DriveError.{DriveError}
-use Rattle.jh_drive.specs.declared.error.DriveError.TheVariants.{SettingsRead, Settings, OutOfMemory}
+use Rattle.jh_drive.specs.declared.error.DriveError.TheVariants.{BadPalette, OutOfMemory, Settings}
+use Rattle.jh_drive.specs.declared.error.DriveError.TheVariants.{SettingsRead}
+use Rattle.jh_drive_search.specs.DriveSearch.{AreSearchSettingsOf, IsSearchBy, RefusesSearchSettings}
+use Rattle.jh_drive_search.specs.declared.options.TrialOptions.{TrialOptions}
+use Rattle.jh_drive_search.specs.declared.settings.SearchSettings.{SearchSettings}
+use Rattle.jh_drive_shrink.specs.DriveShrink.{IsShrunkBy}
+use Rattle.jh_random_faults.specs.declared.kinds.Palette.{Palette}
 use Rattle.jh_settings.specs.Settings.{RefusesSettings}
 use Rattle.jh_settings.specs.declared.error.SettingsError.{SettingsError}
 use Rattle.jh_settings_texts.specs.ScheduleSteps.{AreStepsIn}
 use Rattle.jh_arguments.specs.Accounts.{Accounts, RefusesAccountsText, WritesAccounts}
 use Rattle.jh_arguments.specs.Commands.{SubcommandHasAccounts, SubcommandHasRunSettings}
-use Rattle.jh_arguments.specs.Commands.{SubcommandIs, SubcommandIsDrive}
+use Rattle.jh_arguments.specs.Commands.{Conducts, Reduces, SubcommandIs, SubcommandIsTest, TestAsked}
+use Rattle.jh_arguments.specs.Commands.{Tries}
 use Rattle.jh_arguments.specs.Commands.{IsOfOptions, IsOutputOf, RefusesCommand, RefusesOptions}
 use Rattle.jh_arguments.specs.Line.{IsCommandLine}
 use Rattle.jh_arguments.specs.declared.answers.Refusal.{Refusal}
 use Rattle.jh_arguments.specs.declared.answers.Refusal.TheVariants as Refusals
 use Rattle.jh_arguments.specs.declared.commands.Command.{Command}
+use Rattle.jh_arguments.specs.declared.commands.TrialQuestion.{TrialQuestion}
 
 -- ---- what arguments ask for
 
@@ -31,11 +39,11 @@ ArgumentsAskFor arguments given command =
     (app : App) × IsCommandLine app × (fault_of app arguments ≡ [])
     × SubcommandIs given (subcommand_of app arguments) command
 
--- `clap` takes the arguments, and they ask for the test that this file of settings sets.
-abbrev pub ArgumentsAskForTest : List Text → Text → Type 0
-ArgumentsAskForTest arguments path =
+-- `clap` takes the arguments, and they ask this of a test of a real database.
+abbrev pub ArgumentsAskForTest : List Text → TestAsked → Type 0
+ArgumentsAskForTest arguments asked =
     (app : App) × IsCommandLine app × (fault_of app arguments ≡ [])
-    × SubcommandIsDrive (subcommand_of app arguments) path
+    × SubcommandIsTest (subcommand_of app arguments) asked
 
 -- ---- by which accounts a bank is judged
 
@@ -130,14 +138,56 @@ pub record IsFailed {R : Type 0} (arguments : List Text) (input : Option (List �
   pub of_options : IsOfOptions command e → RefusesOptions command e × (new ≡ old)
   pub refused : OnInput input (λ bytes. RefusesCommand command steps bytes e)
 
--- The test was conducted that some settings set, of a file that the arguments name, and ended with this
--- exit status. What a file holds no contract knows.
+-- the candidates that are tried, of these kinds of faults
+abbrev pub trials_of : TrialQuestion → Palette → TrialOptions
+trials_of question palette = record {
+  from = question.from;
+  runs = question.runs;
+  faults = question.faults;
+  palette = palette;
+}
+
+-- Candidates of the test that bytes set are tried, with this answer: what is left of the input that was read ahead
+-- is of no use to anybody. Or the bytes are refused.
+abbrev pub AreTriedTo : List ℕ → TrialOptions → (input before after : Option (List ℕ)) → Result ℕ DriveError
+    → Type 0
+AreTriedTo bytes options input before after result =
+    ((error : DriveError) × RefusesSearchSettings bytes error × (result ≡ Err error))
+    ⊎ ((settings : SearchSettings) × (left : Option (List ℕ)) × AreSearchSettingsOf bytes settings
+    × IsSearchBy settings options input left before after result)
+
+-- where kinds of faults are named, and where what is named is none of them
+abbrev pub AreAskedTo : List ℕ → TrialQuestion → Option Palette → (input before after : Option (List ℕ))
+    → Result ℕ DriveError → Type 0
+AreAskedTo bytes question None input before after result = result ≡ Err BadPalette
+AreAskedTo bytes question (Some palette) input before after result =
+    AreTriedTo bytes (trials_of question palette) input before after result
+
+-- The schedule of the test that bytes set is made small by so many tests at most, with this answer. Or the bytes
+-- are refused.
+abbrev pub IsReducedTo : List ℕ → ℕ → (input before after : Option (List ℕ)) → Result ℕ DriveError → Type 0
+IsReducedTo bytes runs input before after result =
+    ((error : DriveError) × RefusesSearchSettings bytes error × (result ≡ Err error))
+    ⊎ ((settings : SearchSettings) × (left : Option (List ℕ)) × AreSearchSettingsOf bytes settings
+    × IsShrunkBy settings runs input left before after result)
+
+-- What is asked of the test that bytes set was done, with this answer.
+abbrev pub IsTestDone : TestAsked → List ℕ → (input rest before after : Option (List ℕ))
+    → Result ℕ DriveError → Type 0
+IsTestDone (Conducts path) bytes input rest before after result = IsDriven bytes input rest before after result
+IsTestDone (Tries path question) bytes input rest before after result =
+    AreAskedTo bytes question question.palette input before after result
+IsTestDone (Reduces path runs) bytes input rest before after result =
+    IsReducedTo bytes runs input before after result
+
+-- What the arguments ask of a test was done with what settings set, of a file that they name, and ended with
+-- this exit status. What a file holds no contract knows.
 pub record IsConductedTo (arguments : List Text) (input rest before after : Option (List ℕ))
     (status : ℕ) : Type 0 where
-  pub path : Text
-  pub asked : ArgumentsAskForTest arguments path
+  pub asked_for : TestAsked
+  pub asked : ArgumentsAskForTest arguments asked_for
   pub settings : List ℕ
-  pub driven : IsDriven settings input rest before after (Ok status)
+  pub done : IsTestDone asked_for settings input rest before after (Ok status)
 
 -- the file of settings could not be read
 abbrev pub IsFileUnread : DriveError → Type 0
@@ -145,14 +195,14 @@ IsFileUnread SettingsRead = Unit {0}
 IsFileUnread OutOfMemory = Unit {0}
 IsFileUnread e = ⊥
 
--- The test of a file that the arguments name ended with this error: the file could not be read, and then
--- reader and writer are left as they were; else what it held was conducted so.
+-- What the arguments ask of a test ended with this error: the file could not be read, and then
+-- reader and writer are left as they were; else it was done so with what the file held.
 pub record IsUnfinished {R W : Type 0} (arguments : List Text)
     (input rest before after : Option (List ℕ)) (reader_old reader_new : R) (writer_old writer_new : W)
     (e : DriveError) : Type 0 where
-  pub path : Text
-  pub asked : ArgumentsAskForTest arguments path
+  pub asked_for : TestAsked
+  pub asked : ArgumentsAskForTest arguments asked_for
   pub why : (IsFileUnread e × (reader_new ≡ reader_old) × (writer_new ≡ writer_old))
-      ⊎ ((settings : List ℕ) × IsDriven settings input rest before after (Err e))
+      ⊎ ((settings : List ℕ) × IsTestDone asked_for settings input rest before after (Err e))
   pub streams_kept : (error : SettingsError) → e ≡ Settings error
       → (reader_new ≡ reader_old) × (writer_new ≡ writer_old)

@@ -28,6 +28,9 @@ use Rattle.jh_cli.specs.declared.check_command.CheckQuestion.{CheckQuestion}
 use Rattle.jh_cli.specs.declared.search_command.SearchQuestion.{SearchQuestion}
 use Rattle.jh_cli.specs.declared.search_command.Show.{Show}
 use Rattle.jh_cli.specs.declared.timeline_command.TimelineQuestion.{TimelineQuestion}
+use Rattle.jh_arguments.specs.declared.commands.TestQuestion.{TestQuestion}
+use Rattle.jh_arguments.specs.declared.commands.TestQuestion.TheVariants.{Conduct, Reduce, Try}
+use Rattle.jh_arguments.specs.declared.commands.TrialQuestion.{TrialQuestion}
 use Rattle.jh_arguments.specs.declared.commands.Command.{Command}
 use Rattle.jh_arguments.specs.declared.commands.Command.TheVariants.{Env, Check, Run, Shrink}
 use Rattle.jh_arguments.specs.declared.commands.Command.TheVariants.{Search, Timeline, Plot}
@@ -155,15 +158,56 @@ pub record AsksSearch (options : List Row) (question : SearchQuestion) : Type 0 
   pub threads : IsGivenWithin 1 max_threads (one_of (codes "threads") options) question.threads
   pub show : IsShow options question.show
 
+-- the options of `search` ask that these candidates are tried
+pub record AsksTrials (options : List Row) (question : TrialQuestion) : Type 0 where
+  pub from : IsNumberWithin 0 max_candidates (one_of (codes "from") options) question.from
+  pub runs : IsNumberWithin 1 max_candidates (one_of (codes "runs") options) question.runs
+  pub faults : IsNumberWithin 0 max_faults (one_of (codes "faults") options) question.faults
+  pub palette : question.palette
+      ≡ option_and_then palette_named (first_of (codes "palette") options)
+
 -- A subcommand of this name has this text for an option.
 abbrev pub SubcommandHas : Text → Text → Option (Text × List Row) → Text → Type 0
 SubcommandHas name option None text = ⊥
 SubcommandHas name option (Some found) text =
     (found.0 ≡ name) × (first_of option found.1 ≡ Some text)
 
--- A subcommand with its options asks for the test that this file of settings sets.
-abbrev pub SubcommandIsDrive : Option (Text × List Row) → Text → Type 0
-SubcommandIsDrive found path = SubcommandHas (codes "drive") (codes "settings") found path
+-- What may be asked of a test of a real database, whose settings are in this file: that it is conducted, that
+-- these candidates of it are tried, or that its schedule is made small by so many tests at most.
+pub data TestAsked : Type 0 where
+  Conducts : Text → TestAsked
+  Tries : Text → TrialQuestion → TestAsked
+  Reduces : Text → ℕ → TestAsked
+
+-- the same of what the program holds
+abbrev pub test_asked : TestQuestion → TestAsked
+test_asked (Conduct path) = Conducts path.now
+test_asked (Try path candidates) = Tries path.now candidates
+test_asked (Reduce path runs) = Reduces path.now runs
+
+-- A subcommand with its options asks for these candidates.
+abbrev pub SubcommandAsksTrials : Option (Text × List Row) → TrialQuestion → Type 0
+SubcommandAsksTrials None question = ⊥
+SubcommandAsksTrials (Some found) question = AsksTrials found.1 question
+
+-- A subcommand with its options asks for so many tests at most.
+abbrev pub SubcommandHasBudget : Option (Text × List Row) → ℕ → Type 0
+SubcommandHasBudget None runs = ⊥
+SubcommandHasBudget (Some found) runs = IsNumber (one_of (codes "budget") found.1) runs
+
+-- A subcommand with its options asks this of a test.
+abbrev pub SubcommandIsTest : Option (Text × List Row) → TestAsked → Type 0
+SubcommandIsTest found (Conducts path) = SubcommandHas (codes "drive") (codes "settings") found path
+SubcommandIsTest found (Tries path question) =
+    SubcommandHas (codes "search") (codes "drive") found path × SubcommandAsksTrials found question
+SubcommandIsTest found (Reduces path runs) =
+    SubcommandHas (codes "shrink") (codes "drive") found path × SubcommandHasBudget found runs
+
+-- each candidate has a number
+abbrev pub HasNumbers : TestQuestion → Type 0
+HasNumbers (Conduct path) = Unit {0}
+HasNumbers (Try path candidates) = candidates.from + candidates.runs < 2 ^ 64
+HasNumbers (Reduce path runs) = Unit {0}
 
 -- A subcommand with its options asks for a page that names steps by the settings in this file.
 abbrev pub SubcommandHasRunSettings : Option (Text × List Row) → Text → Type 0
@@ -183,9 +227,10 @@ SubcommandIs given (Some found) (Check question) =
     (found.0 ≡ codes "check") × AsksCheck given found.1 question
 SubcommandIs given (Some found) Run = found.0 ≡ codes "run"
 SubcommandIs given (Some found) (Shrink runs) =
-    (found.0 ≡ codes "shrink") × IsNumber (one_of (codes "budget") found.1) runs
+    (found.0 ≡ codes "shrink") × (first_of (codes "drive") found.1 ≡ None)
+    × IsNumber (one_of (codes "budget") found.1) runs
 SubcommandIs given (Some found) (Search question) =
-    (found.0 ≡ codes "search") × AsksSearch found.1 question
+    (found.0 ≡ codes "search") × (first_of (codes "drive") found.1 ≡ None) × AsksSearch found.1 question
 SubcommandIs given (Some found) (Timeline question) =
     (found.0 ≡ codes "timeline") × AsksTimeline given found.1 question
 SubcommandIs given (Some found) (Plot skips_unread) =
@@ -200,7 +245,7 @@ SubcommandIsVerbose (Some found) verbose = IsFlag (one_of (codes "verbose") foun
 abbrev pub SubcommandIsAny : Option (Text × List Row) → Type 0
 SubcommandIsAny found =
     ((given : Accounts) → (command : Command) × SubcommandIs given found command)
-    ⊎ ((path : Text) × SubcommandIsDrive found path)
+    ⊎ ((asked : TestAsked) × SubcommandIsTest found asked)
 
 -- ---- what a command does
 

@@ -107,8 +107,14 @@ timeline names models =
     (flag (codes "independent"))) (given_number (codes "from")))
     (given_number (codes "to"))) run_settings_file) skip_unread) verbose
 
+-- the file with the settings of a test of a real database, which is tried more than once
+abbrev pub tried_test_file : Rule
+tried_test_file = option (codes "drive")
+
 abbrev pub shrink : App
-shrink = with_rule (with_rule (new_app (codes "shrink")) (budget (codes "10000"))) verbose
+shrink =
+    with_rule (with_rule (with_rule (new_app (codes "shrink")) (budget (codes "10000")))
+    tried_test_file) verbose
 
 -- the names of kinds of faults, all where none are given
 abbrev pub palette : Rule
@@ -133,12 +139,12 @@ spread = given_rule (codes "ms") (Unsigned 1 max_spread_ms)
 
 abbrev pub search : App
 search =
-    with_rule (with_rule (with_rule (with_rule (with_rule
+    with_rule (with_rule (with_rule (with_rule (with_rule (with_rule
     (with_rule (with_rule (with_rule (new_app (codes "search"))
     (number_rule (codes "runs") (Unsigned 1 max_candidates) (codes "10000")))
     (number_rule (codes "faults") (Unsigned 0 max_faults) (codes "8"))) palette)
     (number_rule (codes "from") (Unsigned 0 max_candidates) (codes "0"))) given_threads)
-    show) spread) verbose
+    show) spread) tried_test_file) verbose
 
 -- the file with the settings of a test, which is given by its place
 abbrev pub test_settings_file : Rule

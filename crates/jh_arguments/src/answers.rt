@@ -1,28 +1,32 @@
 //! From the arguments to what is written and the exit status, over any reader and any writer: one call.
 //! `specs/Answers.antt` has the rule.
 
-ghost use Rattle.std.specs.Prelude.{◌≡◌, ◌≢◌, ◌⊎◌, List, ℕ, IfErr, IfOk, IsErrAnd, IsErrOf, map};
+ghost use Rattle.std.specs.Prelude.{◌≡◌, ◌≢◌, ◌⊎◌, ◌<◌, ◌+◌, ◌^◌, List, ℕ, Option, IfErr, IfOk};
+ghost use Rattle.std.specs.Prelude.{IsErrAnd, IsErrOf, map};
 ghost use Rattle.clap.specs.Words.{Text, subcommand_rows_of};
 ghost use Rattle.clap.specs.declared.error.Error.{Error};
 ghost use Rattle.jh_edn.specs.View.{views};
 ghost use Rattle.jh_settings_texts.specs.ScheduleSteps.{AreStepsIn};
 ghost use Rattle.jh_cli.specs.declared.error.CliError.{CliError as CliErrorData};
 ghost use Rattle.jh_cli.specs.declared.error.CliError.TheVariants as CliErrors;
-ghost use Rattle.jh_drive.specs.Drive.{IsDriven};
 ghost use Rattle.jh_drive.specs.declared.error.DriveError.{DriveError as DriveErrorData};
 ghost use Rattle.jh_drive.specs.declared.error.DriveError.TheVariants as DriveErrors;
 ghost use Rattle.jh_settings.specs.declared.error.SettingsError.{SettingsError};
 ghost use Rattle.jh_arguments.specs.Answers as rule;
+ghost use Rattle.jh_arguments.specs.Answers.{IsTestDone};
 ghost use Rattle.jh_arguments.specs.Answers.{IsConductedTo, IsCommandDone, IsFailed, IsFileUnread};
 ghost use Rattle.jh_arguments.specs.Answers.{GivesSteps, HasNoAccounts, HasNoSteps};
 ghost use Rattle.jh_arguments.specs.Answers.{IsRunSettingsError, IsUnfinished};
-ghost use Rattle.jh_arguments.specs.Commands.{SubcommandHasRunSettings};
+ghost use Rattle.jh_arguments.specs.Commands.{HasNumbers, SubcommandHasRunSettings, test_asked};
 ghost use Rattle.jh_arguments.specs.Line.{IsRefused};
 ghost use Rattle.jh_arguments.specs.declared.answers.Refusal.TheVariants as Refusals;
 
 use crate::accounts::accounts_of;
-use crate::commands::{Command, command_of, do_command, run_settings_path_of, test_path_of};
+use crate::commands::{
+    Command, TestQuestion, command_of, do_command, run_settings_path_of, test_question_of,
+};
 use crate::line::parse;
+use crate::trials::{reduce_test, try_test};
 use clap::ArgMatches;
 use jh_cli::{CliError, HistoryObserver};
 use jh_drive::{CallObserver, DriveError, drive};
@@ -62,12 +66,28 @@ pub trait CommandObserver {
     fn see_test(&mut self);
 }
 
-/// Conducts the test that a file of settings sets.
+/// The settings of a test that a file holds.
 ///
-/// Errors: `OutOfMemory` and `SettingsRead`, before anything is told or read; else those of `drive`.
-fn conduct_file<T, R, W, O>(
+/// Errors: `OutOfMemory`, `SettingsRead`.
+fn settings_in_file<T>(rt: &T, path: &str) -> Result<Vec<u8>, DriveError>
+where
+    T: Files + Alloc<A = Global>,
+    ensures { IfErr result IsFileUnread }
+{
+    match fs::read(rt, path) {
+        Ok(settings) => Ok(settings),
+        Err(error) if error.kind() == io::ErrorKind::OutOfMemory => Err(DriveError::OutOfMemory),
+        Err(_) => Err(DriveError::SettingsRead),
+    }
+}
+
+/// Does what is asked of the test that a file of settings sets.
+///
+/// Errors: `OutOfMemory` and `SettingsRead`, before anything is told or read; else those of `drive`, of `try_test`
+/// or of `reduce_test`.
+fn answer_test<T, R, W, O>(
     rt: &T,
-    path: &str,
+    question: TestQuestion<'_>,
     streams: &mut Streams<R, W>,
     observer: &mut O,
 ) -> Result<u8, DriveError>
@@ -75,23 +95,32 @@ where
     T: Files + Alloc<A = Global>,
     R: Read,
     W: Write,
-    O: CommandObserver + CallObserver,
+    O: CommandObserver + ShrinkObserver + CallObserver,
+    requires { HasNumbers question }
     ensures ended { (IsErrAnd result IsFileUnread × (streams.new.reader ≡ streams.old.reader) × (streams.new.writer ≡ streams.old.writer))
-        ⊎ ((settings : List ℕ) × IsDriven settings
+        ⊎ ((settings : List ℕ) × IsTestDone (test_asked question.entry) settings
         (R.remaining streams.old.reader) (R.remaining streams.new.reader)
         (W.contents streams.old.writer) (W.contents streams.new.writer) result) }
     ensures streams_kept { (error : SettingsError) → IsErrOf result (DriveErrors.Settings error)
         → (streams.new.reader ≡ streams.old.reader) × (streams.new.writer ≡ streams.old.writer) }
 {
-    let settings = match fs::read(rt, path) {
-        Ok(settings) => settings,
-        Err(error) if error.kind() == io::ErrorKind::OutOfMemory => {
-            return Err(DriveError::OutOfMemory);
+    match question {
+        TestQuestion::Conduct { path } => {
+            let settings = settings_in_file(rt, path)?;
+            observer.see_test();
+            drive(rt.alloc(), &settings, streams, observer)
         }
-        Err(_) => return Err(DriveError::SettingsRead),
-    };
-    observer.see_test();
-    drive(rt.alloc(), &settings, streams, observer)
+        TestQuestion::Try { path, candidates } => {
+            let settings = settings_in_file(rt, path)?;
+            observer.see_test();
+            try_test(rt.alloc(), &settings, candidates, streams)
+        }
+        TestQuestion::Reduce { path, runs } => {
+            let settings = settings_in_file(rt, path)?;
+            observer.see_test();
+            reduce_test(rt.alloc(), &settings, runs, streams, observer)
+        }
+    }
 }
 
 /// The steps of the schedule that the settings in a file have.
@@ -211,8 +240,8 @@ where
         Ok(matches) => matches,
         Err(error) => return Err(Refusal::Arguments(error)),
     };
-    if let Some(path) = test_path_of(&matches) {
-        return of_test(conduct_file(rt, path, streams, observer));
+    if let Some(question) = test_question_of(&matches) {
+        return of_test(answer_test(rt, question, streams, observer));
     }
     let accounts = match accounts_of(rt.alloc(), &matches) {
         Ok(accounts) => accounts,

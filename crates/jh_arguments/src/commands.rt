@@ -2,7 +2,7 @@
 //! `specs/Commands.antt` says which arguments ask for which command, what a command writes, and why
 //! it refuses its input.
 
-ghost use Rattle.std.specs.Prelude.{◌≡◌, ◌≢◌, ◌↔◌, ◌≤◌, ℕ, Option, codes, IfOk, IfErr, IfSome};
+ghost use Rattle.std.specs.Prelude.{◌≡◌, ◌≢◌, ◌↔◌, ◌≤◌, ◌<◌, ◌+◌, ◌^◌, ℕ, Option, codes, IfOk, IfErr, IfSome};
 ghost use Rattle.std.specs.Prelude.{IsNone, IsErrOf, None, Some, option_and_then};
 ghost use Rattle.clap.specs.Words.{Text, first_of, found_of, one_of, rows_of, subcommand_rows_of};
 ghost use Rattle.jh_edn.specs.View.{views};
@@ -13,8 +13,8 @@ ghost use Rattle.jh_cli.specs.declared.error.CliError.TheVariants as CliError;
 ghost use Rattle.jh_arguments.specs.Commands.{AsksCheck, AsksPlot, SubcommandHasAccounts};
 ghost use Rattle.jh_arguments.specs.Commands.{SubcommandHasRunSettings};
 ghost use Rattle.jh_arguments.specs.Commands.{SubcommandIs};
-ghost use Rattle.jh_arguments.specs.Commands.{SubcommandIsDrive, SubcommandIsVerbose};
-ghost use Rattle.jh_arguments.specs.Commands.{AsksSearch, IsShow};
+ghost use Rattle.jh_arguments.specs.Commands.{SubcommandIsTest, SubcommandIsVerbose, TestAsked};
+ghost use Rattle.jh_arguments.specs.Commands.{AsksSearch, AsksTrials, HasNumbers, IsShow, test_asked};
 ghost use Rattle.jh_arguments.specs.Commands.{AsksTimeline, HasNumbersInRange, IsFlag};
 ghost use Rattle.jh_arguments.specs.Commands.{IsGivenNumber, IsGivenSigned, IsGivenWithin};
 ghost use Rattle.jh_arguments.specs.Commands.{IsNumberWithin};
@@ -22,6 +22,7 @@ ghost use Rattle.jh_arguments.specs.Commands.{IsJudging, IsJudgingBy, IsNumber};
 ghost use Rattle.jh_arguments.specs.Commands.{IsOfOptions, IsOutputOf, IsThreads, RefusesCommand};
 ghost use Rattle.jh_arguments.specs.Commands.{RefusesOptions};
 ghost use Rattle.jh_arguments.specs.declared.commands.Command.{Command};
+ghost use Rattle.jh_arguments.specs.declared.commands.TrialQuestion.{TrialQuestion as TrialQuestionData};
 ghost use Rattle.jh_arguments.specs.declared.commands.Command.TheVariants.{Search};
 ghost use Rattle.jh_checkers.specs.Models.{model_named as model_of_name};
 ghost use Rattle.jh_arguments.specs.Palettes as rule;
@@ -73,6 +74,38 @@ pub enum Command<'a> {
     },
 }
 
+/// What is asked of a test of a real database, whose settings are in a file.
+#[derive(Clone, Copy, Debug)]
+pub enum TestQuestion<'a> {
+    /// That it is conducted.
+    Conduct {
+        path: &'a str,
+    },
+    /// That candidates of it are tried.
+    Try {
+        path: &'a str,
+        candidates: TrialQuestion,
+    },
+    /// That its schedule is made small, by so many tests at most.
+    Reduce {
+        path: &'a str,
+        runs: u64,
+    },
+}
+
+/// Which candidates of a test are tried.
+#[derive(Clone, Copy, Debug, PartialEq, Eq)]
+pub struct TrialQuestion {
+    /// The number of the first one.
+    pub from: u64,
+    /// How many are tried at most.
+    pub runs: u64,
+    /// How many random faults each has among the entries of the test.
+    pub faults: u32,
+    /// Of which kinds these are. None: what is named is none of the kinds.
+    pub palette: Option<Palette>,
+}
+
 /// The command that the arguments ask for, with the accounts that they give. `parse` has seen to it that there
 /// is one.
 pub fn command_of<'a>(
@@ -88,10 +121,16 @@ pub fn command_of<'a>(
         ("env", _) => Some(Command::Env),
         ("check", options) => Some(Command::Check(check_question_of(options, accounts)?)),
         ("run", _) => Some(Command::Run),
-        ("shrink", options) => Some(Command::Shrink {
-            runs: number_of(options, "budget")?,
-        }),
-        ("search", options) => Some(Command::Search(search_question_of(options)?)),
+        ("shrink", options) => match text_of(options, "drive") {
+            Some(_) => None,
+            None => Some(Command::Shrink {
+                runs: number_of(options, "budget")?,
+            }),
+        },
+        ("search", options) => match text_of(options, "drive") {
+            Some(_) => None,
+            None => Some(Command::Search(search_question_of(options)?)),
+        },
         ("timeline", options) => {
             Some(Command::Timeline(timeline_question_of(options, accounts)?))
         }
@@ -112,16 +151,28 @@ pub fn is_verbose(matches: &ArgMatches<'_>) -> bool
     }
 }
 
-/// The file of settings of the test that `drive` is asked to conduct, where it is asked. No other
-/// command has one.
-pub fn test_path_of<'a>(matches: &ArgMatches<'a>) -> Option<&'a str>
+/// What the arguments ask of a test of a real database: `drive` that it is conducted; and where they are given
+/// a file of settings, `search` that candidates of it are tried, and `shrink` that its schedule is made small. No
+/// other command asks for one.
+pub fn test_question_of<'a>(matches: &ArgMatches<'a>) -> Option<TestQuestion<'a>>
     ensures parsed { IfSome result
-        (λ path. SubcommandIsDrive (subcommand_rows_of matches.now) path.now) }
-    ensures taken { IsNone result → (path : Text)
-        → SubcommandIsDrive (subcommand_rows_of matches.now) path → ⊥ }
+        (λ question. SubcommandIsTest (subcommand_rows_of matches.now) (test_asked question)) }
+    ensures ranges { IfSome result HasNumbers }
+    ensures taken { IsNone result → (asked : TestAsked)
+        → SubcommandIsTest (subcommand_rows_of matches.now) asked → ⊥ }
 {
     match matches.subcommand()? {
-        ("drive", options) => Some(text_of(options, "settings")?),
+        ("drive", options) => Some(TestQuestion::Conduct {
+            path: text_of(options, "settings")?,
+        }),
+        ("search", options) => Some(TestQuestion::Try {
+            path: text_of(options, "drive")?,
+            candidates: trial_question_of(options)?,
+        }),
+        ("shrink", options) => Some(TestQuestion::Reduce {
+            path: text_of(options, "drive")?,
+            runs: number_of(options, "budget")?,
+        }),
         _ => None,
     }
 }
@@ -197,13 +248,30 @@ pub fn search_question_of(options: &ArgMatches<'_>) -> Option<SearchQuestion>
     ensures taken { IsNone result → (question : SearchQuestion)
         → AsksSearch (rows_of (found_of options.now)) question → ⊥ }
 {
+    let candidates = trial_question_of(options)?;
     Some(SearchQuestion {
+        from: candidates.from,
+        runs: candidates.runs,
+        faults: candidates.faults,
+        palette: candidates.palette,
+        threads: given_within(options, "threads", 1, MAX_THREADS as u32),
+        show: show_of(options),
+    })
+}
+
+/// Which candidates of a test the options of `search` ask for. `parse` has seen to it that each number is in its
+/// range. Where `--palette` names anything but kinds of faults, the question has no palette.
+pub fn trial_question_of(options: &ArgMatches<'_>) -> Option<TrialQuestion>
+    ensures parsed { IfSome result (AsksTrials (rows_of (found_of options.now))) }
+    ensures ranges { IfSome result (λ question. question.from + question.runs < 2 ^ 64) }
+    ensures taken { IsNone result → (question : TrialQuestionData)
+        → AsksTrials (rows_of (found_of options.now)) question → ⊥ }
+{
+    Some(TrialQuestion {
         from: number_within(options, "from", 0, MAX_CANDIDATES as u64)?,
         runs: number_within(options, "runs", 1, MAX_CANDIDATES as u64)?,
         faults: number_within(options, "faults", 0, MAX_FAULTS as u64)? as u32,
         palette: palette_of(options),
-        threads: given_within(options, "threads", 1, MAX_THREADS as u32),
-        show: show_of(options),
     })
 }
 

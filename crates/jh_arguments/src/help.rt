@@ -57,12 +57,20 @@ Examples:
 pub(crate) const SHRINK: &str = "\
 It writes :minimal, :budget or :not-failing, and then the entries that are left.
 
-Exit status: 0 not failing, 1 minimal, 2 the budget was used up, 3 refused arguments or
-settings, 4 where memory ran out, a read or a write failed, or a run was not completed
+With --drive the schedule is that of a test of a database of yours, whose settings are in FILE. The
+test is tried with fewer and fewer entries, as search --drive tries tests, and once more with those
+that are left. Behind this last one it writes its report, :minimal, :budget, or :not-reproduced
+where it did not fail again, and the settings of it; or :not-reproduced alone, where the test did
+not fail with its whole schedule.
+
+Exit status: 0 not failing, 1 minimal, 2 the budget was used up, or the last test did not fail
+again, 3 refused arguments, settings or reply, 4 where the replies ended early, memory ran out, a
+read or a write failed, or a run was not completed
 
 Examples:
   jeprun shrink < examples/shrink/twenty-entries.toml
-  jeprun shrink --budget 20 < examples/shrink/twenty-entries.toml";
+  jeprun shrink --budget 20 < examples/shrink/twenty-entries.toml
+  jeprun shrink --drive examples/drive/register.toml < examples/shrink/register.edn";
 
 pub(crate) const SEARCH: &str = "\
 Each candidate is a run of the settings with another seed, and with random faults of KINDS
@@ -71,13 +79,21 @@ settings of the first that is not valid, which run and shrink read, or a comment
 none. The answer does not depend on the number of threads. With --show it runs nothing, and
 writes the schedule of one candidate, which settings of run take, and with --ms those of drive.
 
-Exit status: 0 none found, 1 found, 2 none found and some unknown, 3 refused arguments or
-settings, 4 where memory ran out, a read or a write failed, or a thread could not be had
+With --drive it tries tests of a database of yours, whose settings are in FILE, as drive conducts
+them, one after another: before each it writes the line {:type :test, :number I, :seed S}, and the
+adapter sets its database back to the beginning and answers :ready. Behind the last one it writes
+:none, or the report of the first that is not valid, the line :found, and its settings. There
+--threads, --show and --ms mean nothing.
+
+Exit status: 0 none found, 1 found, 2 none found and some unknown, 3 refused arguments,
+settings or reply, 4 where the replies ended early, memory ran out, a read or a write failed, or a
+thread could not be had
 
 Examples:
   jeprun search < examples/search/quorum-volatile.toml > found.toml
   jeprun search --runs 200 --faults 12 --palette cut,kill < examples/search/quorum-volatile.toml
-  jeprun search --show 7 --ms 60000 < examples/search/quorum-volatile.toml";
+  jeprun search --show 7 --ms 60000 < examples/search/quorum-volatile.toml
+  jeprun search --drive examples/drive/register.toml --runs 2 --faults 0 < examples/search/register.edn";
 
 pub(crate) const TIMELINE: &str = "\
 It writes an HTML page: each operation as a bar, each fault as a shade, and with --workload what

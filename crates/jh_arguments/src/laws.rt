@@ -4,6 +4,7 @@ ghost use Rattle.std.specs.Prelude.{◌≡◌, ◌⊎◌, List, []};
 ghost use Rattle.clap.specs.Words.{App, Text, fault_of};
 ghost use Rattle.jh_arguments.specs.Accounts.{Accounts};
 ghost use Rattle.jh_arguments.specs.Answers.{ArgumentsAskFor, ArgumentsAskForTest};
+ghost use Rattle.jh_arguments.specs.Commands.{TestAsked};
 ghost use Rattle.jh_arguments.specs.Line.{IsCommandLine};
 ghost use Rattle.jh_arguments.specs.declared.commands.Command.{Command};
 
@@ -12,12 +13,12 @@ ghost use Rattle.jh_arguments.specs.declared.commands.Command.{Command};
 pub fn argument_laws()
     ensures asked { (app : App) (arguments : List Text) → IsCommandLine app → fault_of app arguments ≡ []
         → ((given : Accounts) → (command : Command) × ArgumentsAskFor arguments given command)
-        ⊎ ((path : Text) × ArgumentsAskForTest arguments path) }
+        ⊎ ((asked : TestAsked) × ArgumentsAskForTest arguments asked) }
     ensures one { (arguments : List Text) (given : Accounts) (command other : Command)
         → ArgumentsAskFor arguments given command → ArgumentsAskFor arguments given other
         → command ≡ other }
-    ensures one_test { (arguments : List Text) (path other : Text)
-        → ArgumentsAskForTest arguments path → ArgumentsAskForTest arguments other → path ≡ other }
-    ensures apart { (arguments : List Text) (given : Accounts) (command : Command) (path : Text)
-        → ArgumentsAskFor arguments given command → ArgumentsAskForTest arguments path → ⊥ }
+    ensures one_test { (arguments : List Text) (asked other : TestAsked)
+        → ArgumentsAskForTest arguments asked → ArgumentsAskForTest arguments other → asked ≡ other }
+    ensures apart { (arguments : List Text) (given : Accounts) (command : Command) (asked : TestAsked)
+        → ArgumentsAskFor arguments given command → ArgumentsAskForTest arguments asked → ⊥ }
 {}

@@ -2,8 +2,8 @@
 //!
 //! `line.rt` has the commands and their options as `clap` reads them, `help.rt` what stands at the end
 //! of their help, `accounts.rt` how the accounts of a bank are read, and `commands.rt` what each command is and
-//! does. `drive` is no `Command`: it has a file of settings, and `answers.rt` conducts its test. `answer` in
-//! `answers.rt` is the whole in one call, from the arguments to the exit status; `program.rt` has the standard
+//! does. `drive` is no `Command`, nor are `search --drive` and `shrink --drive`: each has a file of settings, and `answers.rt` conducts its
+//! test, or has `trials.rt` try many. `answer` in `answers.rt` is the whole in one call, from the arguments to the exit status; `program.rt` has the standard
 //! streams, `teller.rt` what a terminal is told, and `reasons.rt` what `--verbose` says of a refusal.
 //!
 //! A new command is a function in `line.rt` and a text in `help.rt`, and a case of `Command`, of `command_of` and of
@@ -22,11 +22,12 @@ mod program;
 mod reasons;
 mod streams;
 mod teller;
+mod trials;
 
 pub use answers::{CommandObserver, Refusal, answer};
 pub use commands::{
-    Command, check_question_of, command_of, do_command, is_verbose, search_question_of,
-    test_path_of, timeline_question_of,
+    Command, TestQuestion, TrialQuestion, check_question_of, command_of, do_command, is_verbose,
+    search_question_of, test_question_of, timeline_question_of, trial_question_of,
 };
 pub use jh_cli::{
     CheckQuestion, CliError, HistoryCounts, HistoryObserver, JudgingOption, SearchQuestion,

@@ -205,7 +205,7 @@ fn judged<'a>(
     Ok(judged)
 }
 
-/// The command `shrink` and its option.
+/// The command `shrink` and its options.
 fn shrink_command<'a>(alloc: Global) -> Result<Command<'a>, Error>
     ensures shrink { IfOk result (λ shrink. app_of shrink ≡ text.shrink) }
     ensures memory { IfErr result (λ e. kind_of e ≡ ErrorKind.OutOfMemory) }
@@ -217,6 +217,7 @@ fn shrink_command<'a>(alloc: Global) -> Result<Command<'a>, Error>
         )
         .after_help(help::SHRINK)
         .arg(budget)?
+        .arg(tried_test_option(alloc))?
         .arg(verbose_option(alloc))?;
     Ok(shrink)
 }
@@ -238,6 +239,7 @@ fn search_command<'a>(alloc: Global) -> Result<Command<'a>, Error>
         .arg(given_threads_option(alloc))?
         .arg(show_option(alloc))?
         .arg(spread_option(alloc))?
+        .arg(tried_test_option(alloc))?
         .arg(verbose_option(alloc))?;
     Ok(search)
 }
@@ -292,6 +294,17 @@ fn run_settings_option<'a>(alloc: Global) -> Arg<'a>
         .long("settings")
         .value_name("FILE")
         .help("The settings of the run that is shown, to name its steps")
+}
+
+/// The file with the settings of a test of a real database, which is tried more than once.
+fn tried_test_option<'a>(alloc: Global) -> Arg<'a>
+    ensures rule { rule_of result ≡ text.tried_test_file }
+    ensures local { result.global ≡ false }
+{
+    Arg::new(alloc, "drive")
+        .long("drive")
+        .value_name("FILE")
+        .help("The settings of a test as drive has them, to try tests by lines")
 }
 
 /// How many candidates are tried at most: one, or more.

@@ -2,7 +2,7 @@
 //! made from the input again, which is kept for it: no command knows of them.
 
 use crate::answers::Refusal;
-use crate::commands::{run_settings_path_of, test_path_of};
+use crate::commands::{TestQuestion, run_settings_path_of, test_question_of};
 use crate::line::parse;
 use crate::teller::Work;
 use jh_check::CheckError;
@@ -156,8 +156,12 @@ fn test_reasons<T: Files + Alloc<A = Global>>(
     let Ok(matches) = parse(alloc, arguments) else {
         return Ok(Vec::new(alloc));
     };
-    match test_path_of(&matches) {
-        Some(path) => file_reasons(rt, path, SettingsKind::Test, refusal),
+    match test_question_of(&matches) {
+        Some(
+            TestQuestion::Conduct { path }
+            | TestQuestion::Try { path, .. }
+            | TestQuestion::Reduce { path, .. },
+        ) => file_reasons(rt, path, SettingsKind::Test, refusal),
         None => Ok(Vec::new(alloc)),
     }
 }

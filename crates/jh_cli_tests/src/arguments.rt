@@ -324,18 +324,27 @@ Makes the schedule of a failing run small, whose settings are read from standard
 Usage: jeprun shrink [OPTIONS]
 
 Options:
-      --budget <N>  How many runs may be made [default: 10000]
-      --verbose     Says on standard error where and why an input is refused
-  -h, --help        Print help
+      --budget <N>    How many runs may be made [default: 10000]
+      --drive <FILE>  The settings of a test as drive has them, to try tests by lines
+      --verbose       Says on standard error where and why an input is refused
+  -h, --help          Print help
 
 It writes :minimal, :budget or :not-failing, and then the entries that are left.
 
-Exit status: 0 not failing, 1 minimal, 2 the budget was used up, 3 refused arguments or
-settings, 4 where memory ran out, a read or a write failed, or a run was not completed
+With --drive the schedule is that of a test of a database of yours, whose settings are in FILE. The
+test is tried with fewer and fewer entries, as search --drive tries tests, and once more with those
+that are left. Behind this last one it writes its report, :minimal, :budget, or :not-reproduced
+where it did not fail again, and the settings of it; or :not-reproduced alone, where the test did
+not fail with its whole schedule.
+
+Exit status: 0 not failing, 1 minimal, 2 the budget was used up, or the last test did not fail
+again, 3 refused arguments, settings or reply, 4 where the replies ended early, memory ran out, a
+read or a write failed, or a run was not completed
 
 Examples:
   jeprun shrink < examples/shrink/twenty-entries.toml
   jeprun shrink --budget 20 < examples/shrink/twenty-entries.toml
+  jeprun shrink --drive examples/drive/register.toml < examples/shrink/register.edn
 § jeprun search --help → 0
 Tries random schedules for a run that fails, whose settings are read from standard input as TOML
 
@@ -349,6 +358,7 @@ Options:
       --threads <N>      How many threads try candidates; as many as there are processors where it is left out
       --show <N>         Writes the schedule of this candidate, and runs none
       --ms <N>           With --show: spreads the schedule over so many milliseconds, for drive
+      --drive <FILE>     The settings of a test as drive has them, to try tests by lines
       --verbose          Says on standard error where and why an input is refused
   -h, --help             Print help
 
@@ -358,13 +368,21 @@ settings of the first that is not valid, which run and shrink read, or a comment
 none. The answer does not depend on the number of threads. With --show it runs nothing, and
 writes the schedule of one candidate, which settings of run take, and with --ms those of drive.
 
-Exit status: 0 none found, 1 found, 2 none found and some unknown, 3 refused arguments or
-settings, 4 where memory ran out, a read or a write failed, or a thread could not be had
+With --drive it tries tests of a database of yours, whose settings are in FILE, as drive conducts
+them, one after another: before each it writes the line {:type :test, :number I, :seed S}, and the
+adapter sets its database back to the beginning and answers :ready. Behind the last one it writes
+:none, or the report of the first that is not valid, the line :found, and its settings. There
+--threads, --show and --ms mean nothing.
+
+Exit status: 0 none found, 1 found, 2 none found and some unknown, 3 refused arguments,
+settings or reply, 4 where the replies ended early, memory ran out, a read or a write failed, or a
+thread could not be had
 
 Examples:
   jeprun search < examples/search/quorum-volatile.toml > found.toml
   jeprun search --runs 200 --faults 12 --palette cut,kill < examples/search/quorum-volatile.toml
   jeprun search --show 7 --ms 60000 < examples/search/quorum-volatile.toml
+  jeprun search --drive examples/drive/register.toml --runs 2 --faults 0 < examples/search/register.edn
 § jeprun check --help → 0
 Judges a history of operations, read from standard input as EDN
 

@@ -5,6 +5,7 @@ use Rattle.jh_edn.specs.View.{views}
 use Rattle.jh_edn.specs.declared.value.Value.{Value}
 use Rattle.jh_arguments.specs.Answers.{GivesAccounts, GivesSteps}
 use Rattle.jh_arguments.proofs.AnswerLemmas.{Ends, asked_by, asked_test_by, command_ends, refused_ends, seen_alike, test_ends, unaccounted_ends, no_steps_ends, without_accounts, without_steps}
+use Rattle.jh_arguments.specs.Commands.{test_asked}
 use Rattle.jh_arguments.proofs.answers.answer.Given as given
 use Rattle.jh_arguments.proofs.answers.answer.Goals as goal
 
@@ -71,15 +72,15 @@ returns-in-Err-clause-unfinished g c =
 
 -- a test is asked for
 tested : (g : given.Over) (c : goal.Joined-matches g)
-    → Ends {R = g.row.R.Denot} {W = g.row.W.Denot} (map g.S.AsStr.text c.args.arguments.now) (g.R.Read.remaining c.args.streams.now.reader) (g.R.Read.remaining c.conduct_file.new.streams.reader)
-    (g.W.Write.contents c.args.streams.now.writer) (g.W.Write.contents c.conduct_file.new.streams.writer) c.args.streams.now.reader c.conduct_file.new.streams.reader c.args.streams.now.writer c.conduct_file.new.streams.writer
+    → Ends {R = g.row.R.Denot} {W = g.row.W.Denot} (map g.S.AsStr.text c.args.arguments.now) (g.R.Read.remaining c.args.streams.now.reader) (g.R.Read.remaining c.answer_test.new.streams.reader)
+    (g.W.Write.contents c.args.streams.now.writer) (g.W.Write.contents c.answer_test.new.streams.writer) c.args.streams.now.reader c.answer_test.new.streams.reader c.args.streams.now.writer c.answer_test.new.streams.writer
     c.of_test.result
 tested g c =
-    let asked = asked_test_by _ c.in-Ok.matches c.in-Some.path.now c.in-Ok.ensures.found c.in-Some.ensures.parsed in
-    let ends = test_ends _ (g.R.Read.remaining c.args.streams.now.reader) (g.R.Read.remaining c.conduct_file.new.streams.reader) (g.W.Write.contents c.args.streams.now.writer) (g.W.Write.contents c.conduct_file.new.streams.writer)
-    c.args.streams.now.reader c.conduct_file.new.streams.reader c.args.streams.now.writer c.conduct_file.new.streams.writer c.in-Some.path.now c.conduct_file.result asked c.conduct_file.ensures.ended c.conduct_file.ensures.streams_kept in
-    subst (Ends (map g.S.AsStr.text c.args.arguments.now) (g.R.Read.remaining c.args.streams.now.reader) (g.R.Read.remaining c.conduct_file.new.streams.reader) (g.W.Write.contents c.args.streams.now.writer)
-    (g.W.Write.contents c.conduct_file.new.streams.writer) c.args.streams.now.reader c.conduct_file.new.streams.reader c.args.streams.now.writer c.conduct_file.new.streams.writer) (sym c.of_test.ensures) ends
+    let asked = asked_test_by _ c.in-Ok.matches (test_asked c.in-Some.question) c.in-Ok.ensures.found c.in-Some.ensures.parsed in
+    let ends = test_ends _ (g.R.Read.remaining c.args.streams.now.reader) (g.R.Read.remaining c.answer_test.new.streams.reader) (g.W.Write.contents c.args.streams.now.writer) (g.W.Write.contents c.answer_test.new.streams.writer)
+    c.args.streams.now.reader c.answer_test.new.streams.reader c.args.streams.now.writer c.answer_test.new.streams.writer (test_asked c.in-Some.question) c.answer_test.result asked c.answer_test.ensures.ended c.answer_test.ensures.streams_kept in
+    subst (Ends (map g.S.AsStr.text c.args.arguments.now) (g.R.Read.remaining c.args.streams.now.reader) (g.R.Read.remaining c.answer_test.new.streams.reader) (g.W.Write.contents c.args.streams.now.writer)
+    (g.W.Write.contents c.answer_test.new.streams.writer) c.args.streams.now.reader c.answer_test.new.streams.reader c.args.streams.now.writer c.answer_test.new.streams.writer) (sym c.of_test.ensures) ends
 
 pub returns-in-Some-clause-done : goal.returns-in-Some-clause-done
 returns-in-Some-clause-done g c = (tested g c).done
@@ -130,7 +131,7 @@ returns-in-Err-accounts_of-clause-unaccounted g c =
 pub unreachable-requires : goal.unreachable-requires
 unreachable-requires g c = elim c.in-Ok.ensures.asked [
   | inl asks ↦ (let asked = asks c.as_deref.result in c.command_of.ensures.taken (search rules) asked.0 asked.1)
-  | inr (path, asks) ↦ c.test_path_of.ensures.taken (search rules) path asks
+  | inr (asked, asks) ↦ c.test_question_of.ensures.taken (search rules) asked asks
 ]
 
 -- no steps can be had
