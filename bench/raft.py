@@ -10,12 +10,14 @@ without a bug, which is called `none`, all N are tried, in the settings of each 
 The candidates are those of `jeprun search --drive`, of the settings in adapters/python/nodes that the row names: three
 random faults of all kinds, among those that stand there. They are tried in parts of 200, each by one search as
 `simulated.py --search` makes it, and --jobs says how many parts at once (1). --found keeps the settings of those that
-are not valid.
+are not valid, and then each is made small by `jeprun shrink --drive`.
 
-A row has how many candidates were tried, the number of the first one that is not valid, how many verdicts are
-unknown in the parts where none was found, how many calls a candidate had answered with `:ok`, and the seconds of
-processor time that one takes, with those of `jeprun`. A line for each part is written to the log, and those that are
-there are not tried again. So a long search may be done in pieces, none of which begins a part after so many seconds.
+A row has how many candidates were tried, the number of the first one that is not valid, how many verdicts are unknown
+in the parts where none was found, how many calls a candidate had answered with `:ok`, and the seconds of processor
+time that one takes, with those of `jeprun`. With --found it has too how many entries the schedule of the one that was
+found has, how many of them are left, and by how many tests. A line for each part is written to the log, and those that
+are there are not tried again. So a long search may be done in pieces, none of which begins a part after so many
+seconds.
 """
 
 import argparse
@@ -28,6 +30,7 @@ import resource
 import sys
 import tempfile
 import time
+import tomllib
 
 TOP = pathlib.Path(__file__).resolve().parent.parent
 PYTHON = TOP / "adapters" / "python"
@@ -88,7 +91,7 @@ def try_part(program, bug, name, first):
     test = simulated.Test(program, path, jeprun.read_settings(path, program), "lin-kv", raft.start, words,
                           latency=LATENCY, timeout=SETTINGS[name])  # fmt: skip
     asked = [f"--from={first}", f"--runs={PART}", f"--faults={FAULTS}"]
-    result = simulated.search(test, asked, lambda replies: calls.append(replies.count(b":type :ok")))
+    result = simulated.run_many(test, "search", asked, lambda replies: calls.append(replies.count(b":type :ok")))
     if result.status not in (0, INVALID, UNKNOWN):
         raise SystemExit(f"candidates of {bug} from {first} on: status {result.status}")
     found = result.begun[0] if result.status == INVALID else -1
@@ -131,18 +134,39 @@ def try_all(tried, options):
         take(0)
 
 
+def path_of(folder, bug, name, found):
+    return folder / f"{bug}-{name}-{found}.toml"
+
+
 def keep(folder, part, settings):
     if folder and part.found >= 0:
         folder.mkdir(parents=True, exist_ok=True)
-        (folder / f"{part.bug}-{part.settings}-{part.found}.toml").write_bytes(settings)
+        path_of(folder, part.bug, part.settings, part.found).write_bytes(settings)
 
 
-def row(bug, name, parts):
+def made_small(program, bug, name, path):
+    """How many entries the schedule of settings that were found has, how many are left, and by how many tests."""
+    settings, replies = jeprun.read_settings(path, program), []
+    test = simulated.Test(program, path, settings, "lin-kv", raft.start, [bug], settings.table["seed"], LATENCY,
+                          SETTINGS[name])  # fmt: skip
+    result = simulated.run_many(test, "shrink", [], replies.append)
+    small = path.with_name(f"{path.stem}-small.toml")
+    small.write_bytes(result.found())
+    if result.heading() != ":minimal":
+        return len(settings.table["schedule"]), result.heading(), len(replies)
+    return len(settings.table["schedule"]), len(tomllib.loads(small.read_text())["schedule"]), len(replies)
+
+
+def row(bug, name, parts, options):
     """The row of a bug in these settings."""
     tried, unknown = sum(it.tried for it in parts), sum(it.unknown for it in parts)
     calls, seconds = sum(it.calls for it in parts) / tried, sum(it.seconds for it in parts) / tried
     found = min((it.found for it in parts if it.found >= 0), default="none")
-    return f"| `{bug}` | `{name}.toml` | {tried:,} | {found} | {unknown} | {calls:.0f} | {seconds:.3f} |"
+    cells = [f"`{bug}`", f"`{name}.toml`", f"{tried:,}", found, unknown, f"{calls:.0f}", f"{seconds:.3f}"]
+    if options.found:
+        path = path_of(options.found, bug, name, found)
+        cells += made_small(options.program, bug, name, path) if path.exists() else ["", "", ""]
+    return "| " + " | ".join(map(str, cells)) + " |"
 
 
 def parse():
@@ -164,10 +188,12 @@ def main():
         options.log = options.log or pathlib.Path(room, "log")
         tried = read_log(options.log)
         try_all(tried, options)
-    print("| Bug | Settings | Tried | Found | Unknown | Calls `:ok` | Seconds |\n|---" + "|---" * 6 + "|")
+    heads = ["Bug", "Settings", "Tried", "Found", "Unknown", "Calls `:ok`", "Seconds"]
+    heads += ["Entries", "Left", "Tests"] if options.found else []
+    print("| " + " | ".join(heads) + " |\n" + "|---" * len(heads) + "|")
     for bug, name in ROWS:
         if parts := [it for it in tried if (it.bug, it.settings) == (bug, name)]:
-            print(row(bug, name, parts))
+            print(row(bug, name, parts, options), flush=True)
 
 
 if __name__ == "__main__":

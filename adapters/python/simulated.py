@@ -4,12 +4,14 @@ time.
 
     simulated.py --node nodes/raft.py [--seed N] SETTINGS [-- WORD ..]
     simulated.py --node nodes/raft.py --search [--from I] [--runs N] [--faults K] [--palette KINDS] SETTINGS ..
+    simulated.py --node nodes/raft.py --shrink [--budget N] SETTINGS ..
 
 The node is an actor, as nodes/actor.py says: the same file runs as a process, by `maelstrom.py --bin`. Here its nodes
 are objects. What happens, happens as an event at a time of its own, and when one is done the clock jumps to the next.
 How long a message takes, whether it is lost, and the random numbers of nodes follow from the seed. So the settings
 and the seed are the whole test. With --search many tests are tried, each with another seed and other faults, up to the
-first whose history is not valid. docs/simulated.md says more.
+first whose history is not valid. With --shrink a test is tried with fewer and fewer of its faults, as long as its
+history is not valid still. docs/simulated.md says more.
 """
 
 import argparse
@@ -42,7 +44,9 @@ MILLISECOND, SECOND = 10**6, 10**9  # nanoseconds
 TICK, TICK_WITH_RATE = 10 * MILLISECOND, 2 * MILLISECOND
 CALL = re.compile(r'.*, :process (\d+), :f :(\S+), :value (.*), :node "(.*)"}')
 BEGIN = re.compile(rb"{:type :test, :number (\d+), :seed (\d+)}\n")
-END, FOUND = b"\n:end\n", b"\n:found\n"
+END = b"\n:end\n"
+# What stands between the last report and the settings of its test.
+HEADING = re.compile(rb"(?m)^:(found|minimal|budget|not-reproduced)\n")
 Work = Callable[[], None]
 # Maelstrom's workloads whose nodes need neither a topology nor a service.
 WORKLOADS = ["g-counter", "g-set", "lin-kv", "txn-list-append", "unique-ids"]
@@ -75,7 +79,7 @@ def unread(pipe: int) -> int:
 
 
 class Program:
-    """`jeprun drive` or `jeprun search --drive`, which is given a line and gives all that it has to say to it.
+    """`jeprun`, which conducts a test or many, is given a line, and gives all that it has to say to it.
 
     Nothing in its output says that no more comes. But all that it says to a line has left it before it reads on, and
     that it has read on can be seen: its input is a pipe of packets, and each read takes one. So behind each line a
@@ -94,13 +98,13 @@ class Program:
         self._poll = select.poll()
         self._poll.register(self._input, select.POLLOUT)
         self._poll.register(self._output, select.POLLIN)
-        self.written = bytearray()  # all that it wrote, of a search since its last test began
+        self.written = bytearray()  # all that it wrote, of many tests since the last one began
         self._given = 0  # so many bytes of it were given as lines, all of them whole
         self.is_over = False  # whether the test is over: it wrote `:end`
         self._behind_end = 0  # how far the lines of the test go in `written`, where it is over
 
     def next_test(self) -> tuple[int, int] | None:
-        """Waits for the next test of a search, and gives its number and its seed, or None where no other comes."""
+        """Waits for the next of many tests, and gives its number and its seed, or None where no other comes."""
         os.set_blocking(self._output.fileno(), True)
         while b"\n" not in self.written[self._behind_end :] and (some := os.read(self._output.fileno(), 1 << 16)):
             self.written += some
@@ -426,23 +430,35 @@ class Simulation:
 
 @dataclass
 class Result:
-    """What became of a test, or of a search, of which it has the last test alone."""
+    """What became of a test, or of many, of which it has the last one alone."""
 
     status: int
     written: bytes  # by the program
     replies: bytes
-    begun: tuple[int, int] | None = None  # the number and the seed of the last test of a search
+    begun: tuple[int, int] | None = None  # the number and the seed of the last of many tests
+
+    def _heading(self) -> re.Match[bytes] | None:
+        return HEADING.search(self.written)
 
     def report(self) -> bytes:
         """All that was written of the test, up to the verdict."""
-        return self.written.partition(FOUND)[0].removesuffix(b"\n") + b"\n"
+        heading = self._heading()
+        return self.written[: heading.start()] if heading else self.written
+
+    def heading(self) -> str:
+        """What stands behind the report of the last of many tests, as `:found`, or nothing."""
+        heading = self._heading()
+        return heading[0].decode().strip() if heading else ""
 
     def found(self) -> bytes:
-        """The settings of the test that a search has found."""
-        return self.written.partition(FOUND)[2]
+        """The settings of the last of many tests."""
+        heading = self._heading()
+        return self.written[heading.end() :] if heading else b""
 
     def verdict(self) -> str:
-        return self.report().decode().splitlines()[-1]
+        """The verdict of the test, or what many tests came to where there is no report."""
+        last = self.report().decode().splitlines()[-1]
+        return self.heading() if last == ":end" else last
 
 
 @contextlib.contextmanager
@@ -463,12 +479,13 @@ def run(test: Test) -> Result:
         return Result(program.end(), bytes(program.written), replies)
 
 
-def search(test: Test, options: list[str], see: Callable[[bytes], None] = lambda replies: None) -> Result:
-    """Runs candidates of a test one after another, each from the beginning and with the seed that the program names,
-    up to the first whose history is not valid. It lets see the replies of each."""
+def run_many(test: Test, command: str, options: list[str], see: Callable[[bytes], None] = lambda _: None) -> Result:
+    """Runs tests one after another, each from the beginning and with the seed that the program names: with the command
+    `search` candidates of a test, up to the first whose history is not valid, and with `shrink` the test with fewer
+    and fewer entries. It lets see the replies of each."""
     replies = b""
     begun: tuple[int, int] | None = None
-    with started(test.program, "search", "--drive", str(test.path), *options) as program:
+    with started(test.program, command, "--drive", str(test.path), *options) as program:
         while following := program.next_test():
             begun = following
             test.arrivals.clear()
@@ -482,12 +499,19 @@ def search(test: Test, options: list[str], see: Callable[[bytes], None] = lambda
 
 # --- the command
 
-# What a search is told, with what stands for its value and what it means.
-OF_A_SEARCH = {
-    "from": ("I", "the number of the first test (0)"),
-    "runs": ("N", "how many tests are tried (10000)"),
-    "faults": ("K", "how many random faults each has (8)"),
-    "palette": ("KINDS", "of which kinds they are, with commas between (all)"),
+# What the commands of many tests are told, with what stands for the value and what it means.
+OF_MANY = {
+    "search": {
+        "from": ("I", "the number of the first test (0)"),
+        "runs": ("N", "how many tests are tried (10000)"),
+        "faults": ("K", "how many random faults each has (8)"),
+        "palette": ("KINDS", "of which kinds they are, with commas between (all)"),
+    },
+    "shrink": {"budget": ("N", "how many tests are tried, beside the last one (10000)")},
+}
+MEANING = {
+    "search": "tries tests with random faults up to the first that is not valid",
+    "shrink": "tries a test that is not valid with fewer and fewer entries of its schedule",
 }
 
 
@@ -499,20 +523,26 @@ def parse(words: list[str] | None = None) -> argparse.Namespace:
     option("--workload", choices=WORKLOADS, help="Maelstrom's name of the workload; needed with settings of a set")
     option("--latency", type=float, default=5, metavar="MS", help="how long a message takes on average (5)")
     option("--timeout", type=float, default=1, metavar="SECONDS", help="how long a client waits for an answer (1)")
-    option("--search", action="store_true", help="tries tests with random faults up to the first that is not valid")
-    for name, (metavar, means) in OF_A_SEARCH.items():
-        option(f"--{name}", metavar=metavar, help=f"with --search: {means}")
+    for command, told in OF_MANY.items():
+        option(f"--{command}", action="store_true", help=MEANING[command])
+        for name, (metavar, means) in told.items():
+            option(f"--{name}", metavar=metavar, help=f"with --{command}: {means}")
     option("--store", default="store", metavar="FOLDER", help="where the folders of tests are (store)")
     option("--jeprun", default="jeprun", metavar="PROGRAM", help="the program jeprun (the one on the PATH)")
     option("settings", type=pathlib.Path, metavar="SETTINGS", help="the settings of the test, a file")
     option("words", nargs="*", metavar="WORD", help="what the node is given, behind --")
     options = parser.parse_args(words)
-    given = {name: vars(options)[name] for name in OF_A_SEARCH if vars(options)[name] is not None}
-    if given and not options.search:
-        parser.error(f"--{next(iter(given))}: only with --search")
-    if options.search and options.seed is not None:
-        parser.error("--seed: not with --search, where each test has a seed of its own")
-    options.candidates = [f"--{name}={value}" for name, value in given.items()]
+    if options.search and options.shrink:
+        parser.error("--shrink: not with --search")
+    options.command = next((command for command in OF_MANY if vars(options)[command]), "")
+    if options.command and options.seed is not None:
+        parser.error(f"--seed: not with --{options.command}, where the settings say the seed of each test")
+    options.told = []
+    for command, told in OF_MANY.items():
+        given = {name: vars(options)[name] for name in told if vars(options)[name] is not None}
+        if given and command != options.command:
+            parser.error(f"--{next(iter(given))}: only with --{command}")
+        options.told += [f"--{name}={value}" for name, value in given.items()]
     return options
 
 
@@ -525,9 +555,9 @@ def workload_of(settings: jeprun.Settings, named: str | None) -> str:
     return workload
 
 
-def check_search(options: argparse.Namespace) -> None:
-    """Has the program judge what a search is told, before there is a folder."""
-    words = [options.jeprun, "search", "--drive", str(options.settings), *options.candidates]
+def check_told(options: argparse.Namespace) -> None:
+    """Has the program judge what a command of many tests is told, before there is a folder."""
+    words = [options.jeprun, options.command, "--drive", str(options.settings), *options.told]
     # Without any reply the program names the first test and ends. Where it refuses what it is told, it writes nothing.
     tried = jeprun.run_program(*words)
     if not tried.stdout:
@@ -535,16 +565,18 @@ def check_search(options: argparse.Namespace) -> None:
 
 
 def keep(folder: jeprun.Folder, result: Result, table: dict[str, Any]) -> None:
-    """Keeps what became of a test or a search, and prints the last lines of the command."""
+    """Keeps what became of a test or of many, and prints the last lines of the command."""
     lines = [str(folder.path), result.verdict()]
     folder.write("replies.edn", result.replies)
     if result.found():
         folder.write("found.toml", result.found())
-    if not lines[-1].startswith(":none"):
+    if not lines[-1].startswith((":none", ":not-reproduced")):
         folder.keep_report(result.report().splitlines(keepends=True), lambda line: None)
         folder.draw(table)
         if result.begun:
             lines.insert(1, "{:type :test, :number %d, :seed %d}" % result.begun)
+        if result.heading() not in ("", ":found"):
+            lines.append(result.heading())
     print(*lines, sep="\n", flush=True)
 
 
@@ -553,8 +585,8 @@ def main() -> int:
     try:
         settings = jeprun.read_settings(options.settings, options.jeprun)
         workload = workload_of(settings, options.workload)
-        if options.search:
-            check_search(options)
+        if options.command:
+            check_told(options)
         folder = jeprun.Folder(pathlib.Path(options.store, options.node.stem), options.settings, options.jeprun)
     except jeprun.Unsupported as refusal:
         jeprun.complain(str(refusal.args[0]))
@@ -565,7 +597,7 @@ def main() -> int:
     test = Test(options.jeprun, path, settings, workload, load(options.node), options.words, seed, options.latency,
                 options.timeout)  # fmt: skip
     try:
-        result = search(test, options.candidates) if options.search else run(test)
+        result = run_many(test, options.command, options.told) if options.command else run(test)
     except TestFailed as fault:
         folder.log(str(fault), fault)
         jeprun.complain(f"{fault}: {folder.path}/test.log has more")

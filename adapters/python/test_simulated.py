@@ -162,10 +162,12 @@ class Playback(unittest.TestCase):
 
     TESTS = "{:type :test, :number 6, :seed 7}\n:end\n{:type :test, :number 7, :seed 8}\n:end\n"
 
-    def test_tests_of_a_search(self) -> None:
+    def test_many_tests(self) -> None:
         for behind, verdict, settings in [
             (":none {:tried 2, :unknown 0}\n", ":none {:tried 2, :unknown 0}", ""),
             (":active []\n{}\n{:valid? false}\n:found\nseed = 8\n", "{:valid? false}", "seed = 8\n"),
+            (":active []\n{}\n{:valid? true}\n:not-reproduced\nseed = 8\n", "{:valid? true}", "seed = 8\n"),
+            (":not-reproduced\n", ":not-reproduced", ""),
         ]:
             program = simulated.Program("printf", "%s", self.TESTS + behind)
             for begun in (6, 7), (7, 8):
@@ -351,19 +353,23 @@ class AsProcess(unittest.TestCase):
 
 
 class Options(unittest.TestCase):
-    def test_what_a_search_alone_is_told(self) -> None:
+    def test_what_many_tests_alone_are_told(self) -> None:
         rows: list[tuple[list[str], list[str] | str]] = [
             (["--search", "--from=3", "--palette", "cut,kill"], ["--from=3", "--palette=cut,kill"]),
             (["--search"], []),
             (["--seed=4"], []),
             (["--runs=3"], "--runs: only with --search\n"),
             (["--palette=cut"], "--palette: only with --search\n"),
-            (["--search", "--seed=3"], "--seed: not with --search, where each test has a seed of its own\n"),
+            (["--search", "--seed=3"], "--seed: not with --search, where the settings say the seed of each test\n"),
+            (["--shrink", "--budget=9"], ["--budget=9"]),
+            (["--budget=9"], "--budget: only with --shrink\n"),
+            (["--shrink", "--faults=3"], "--faults: only with --search\n"),
+            (["--shrink", "--search"], "--shrink: not with --search\n"),
         ]
         for words, told in rows:
             parsed = [*words, "--node=n", "settings.toml"]
             if isinstance(told, list):
-                self.assertEqual(simulated.parse(parsed).candidates, told)
+                self.assertEqual(simulated.parse(parsed).told, told)
                 continue
             with self.assertRaises(SystemExit) as ended, contextlib.redirect_stderr(io.StringIO()) as said:
                 simulated.parse(parsed)
@@ -443,13 +449,13 @@ class WholeTests(Whole):
 
 
 class Searches(Whole):
-    """Tests of `jeprun search --drive`, in one conversation."""
+    """Tests of `jeprun search --drive` and `jeprun shrink --drive`, each in one conversation."""
 
     SETTINGS = (simulated.NODES / "raft_cut.toml").read_text()
 
     def search(self, *options: str, words: Sequence[str] = ()) -> tuple[simulated.Result, list[bytes], simulated.Test]:
         test, seen = self.make_test(self.SETTINGS, words=words, latency=10, timeout=0.5), list[bytes]()
-        return simulated.search(test, ["--faults=3", *options], seen.append), seen, test
+        return simulated.run_many(test, "search", ["--faults=3", *options], seen.append), seen, test
 
     def test_none_is_found(self) -> None:
         result, seen, _ = self.search("--runs=4")
@@ -472,11 +478,27 @@ class Searches(Whole):
         self.assertEqual((played.replies, again.arrivals), (result.replies, searched.arrivals))
         self.assertEqual(self.play_again(found, result), (1, result.report()))
 
+    def test_what_is_found_is_made_small(self) -> None:
+        words = ["reads-alone"]
+        text = self.search(words=words)[0].found().decode()
+        found = tomllib.loads(text)
+        test = self.make_test(text, found["seed"], words, latency=10, timeout=0.5)
+        result = simulated.run_many(test, "shrink", [])
+        small = tomllib.loads(result.found().decode())
+        self.assertEqual((result.status, result.heading(), result.verdict()), (1, ":minimal", "{:valid? false}"))
+        self.assertEqual({**small, "schedule": found["schedule"]}, found)
+        self.assertLess(len(small["schedule"]), len(found["schedule"]))
+        self.assertEqual(self.play_again(result.found().decode(), result), (1, result.report()))
+
+    def test_a_right_node_is_not_made_small(self) -> None:
+        result = simulated.run_many(self.make_test(self.SETTINGS, latency=10, timeout=0.5), "shrink", [])
+        self.assertEqual((result.status, result.verdict(), result.found()), (0, ":not-reproduced", b""))
+
     def test_a_node_that_fails(self) -> None:
         test = self.make_test(self.SETTINGS)
         test.start = Echo
         with self.assertRaisesRegex(simulated.TestFailed, "^test 7: n1 answered write by echo_ok$"):
-            simulated.search(test, ["--from=7", "--faults=0"])
+            simulated.run_many(test, "search", ["--from=7", "--faults=0"])
 
     def run_command(self, *words: str) -> tuple[int, str, str]:
         """The status of a command, and what it writes, but for the name of its folder."""
@@ -498,6 +520,10 @@ class Searches(Whole):
         self.assertEqual(again, (1, "FOLDER\n{:valid? false}\n", ""))
         for name in "replies.edn", "report.edn", "history.edn", "messages.jsonl":
             self.assertEqual((folder / name).read_bytes(), files[name])
+        words = *options[:2], "--shrink", str(folder / "found.toml"), "--", "reads-alone"
+        status, said, complaint = self.run_command(*words)
+        self.assertEqual((status, complaint), (1, ""))
+        self.assertRegex(said, r"^FOLDER\n{:type :test, :number \d+, :seed \d+}\n{:valid\? false}\n:minimal\n$")
         none = "FOLDER\n:none {:tried 2, :unknown 0}\n"
         self.assertEqual(self.run_command(*options, "--runs=2", settings), (0, none, ""))
 
