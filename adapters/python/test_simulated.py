@@ -516,11 +516,12 @@ class Searches(Whole):
         self.assertRegex(said, r"^FOLDER\n{:type :test, :number (\d+), :seed \1}\n{:valid\? false}\n$")
         files = {file.name: file.read_bytes() for file in folder.resolve().iterdir() if file.is_file()}
         self.assertIn("found.toml", files)
+        found = str(folder.resolve() / "found.toml")
         again = self.run_command(*options[:2], str(folder / "found.toml"), "--", "reads-alone")
         self.assertEqual(again, (1, "FOLDER\n{:valid? false}\n", ""))
         for name in "replies.edn", "report.edn", "history.edn", "messages.jsonl":
             self.assertEqual((folder / name).read_bytes(), files[name])
-        words = *options[:2], "--shrink", str(folder / "found.toml"), "--", "reads-alone"
+        words = *options[:2], "--shrink", found, "--", "reads-alone"
         status, said, complaint = self.run_command(*words)
         self.assertEqual((status, complaint), (1, ""))
         self.assertRegex(said, r"^FOLDER\n{:type :test, :number \d+, :seed \d+}\n{:valid\? false}\n:minimal\n$")
