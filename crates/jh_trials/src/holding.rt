@@ -10,7 +10,7 @@ use jh_drive::{CallCounts, CallObserver, DriveError, drive_answer, judge_test, r
 use jh_lines::{ByLines, Ending, Machine, converse_by_lines};
 use jh_reports::Output;
 use std::alloc::Global;
-use std::io::{BufRead, Write};
+use std::io::{self, BufRead, Write};
 
 /// Nobody is told how the calls of a trial ended.
 #[derive(Drop)]
@@ -25,7 +25,8 @@ impl CallObserver for Nobody {
 ///
 /// Errors: with the report written `Reply` with the first line that was no reply, by its number over all
 /// trials, `RepliesEnded` where the input ended before the test did, `Read` and `TooManyTurns` where
-/// nothing more could be heard; `Mismatch` where the history can't be judged; `Write`; `OutOfMemory`.
+/// nothing more could be heard; `Mismatch` where the history can't be judged; `Write`; `OutOfMemory`, also
+/// where memory was refused for a line that was read.
 pub fn hold_trial<B: BufRead, W: Write>(
     alloc: Global,
     trial: &mut Trial,
@@ -43,9 +44,12 @@ pub fn hold_trial<B: BufRead, W: Write>(
         (W.contents writer.old) (W.contents writer.new)) }
 {
     let ending = converse_by_lines(alloc, lines, writer, trial);
-    match ending {
+    match &ending {
         Ending::WriteFailed(_) => return Err(DriveError::Write),
         Ending::OutOfMemory => return Err(DriveError::OutOfMemory),
+        Ending::ReadFailed(error) if error.kind() == io::ErrorKind::OutOfMemory => {
+            return Err(DriveError::OutOfMemory);
+        }
         Ending::Over | Ending::InputEnded | Ending::ReadFailed(_) | Ending::TooManyTurns => {}
     }
     if let Err(error) = drive_answer(trial.bad(), trial.is_over(), ending, 0) {
