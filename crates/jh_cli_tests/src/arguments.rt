@@ -125,6 +125,10 @@ For more information, try '--help'.
 error: invalid value '10000001' for '--budget <N>': 10000001 is not in 0..=10000000
 
 For more information, try '--help'.
+§ jeprun search --drive → 3
+error: a value is required for '--drive <FILE>' but none was supplied
+
+For more information, try '--help'.
 § jeprun check --workload set --initial x → 3
 error: invalid value 'x' for '--initial <N>': invalid digit found in string
 

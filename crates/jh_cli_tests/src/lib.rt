@@ -7,6 +7,8 @@
 #![tactic(auto)]
 
 #[cfg(test)]
+mod answers;
+#[cfg(test)]
 mod arguments;
 #[cfg(test)]
 mod environments;
@@ -40,5 +42,7 @@ mod searches;
 mod shrinks;
 #[cfg(test)]
 mod streams;
+#[cfg(test)]
+mod tests;
 #[cfg(test)]
 mod timelines;

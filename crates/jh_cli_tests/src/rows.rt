@@ -11,6 +11,7 @@ ghost use Rattle.jh_arguments.specs.Commands.{HasNumbersInRange};
 use crate::arguments::asked_once;
 use crate::errors::named_once;
 use crate::nobody::Nobody;
+use crate::tests::asked_of_a_test_once;
 use jh_arguments::{Command, command_of, do_command, parse};
 use jh_cli::CliError;
 use std::alloc::Global;
@@ -94,6 +95,8 @@ pub(crate) enum Texts<'a> {
     Histories,
     /// Arguments.
     Arguments,
+    /// Arguments, and of what they ask for only what is asked of a test.
+    Tests,
     /// Names of errors.
     Errors,
 }
@@ -180,6 +183,7 @@ fn shown_once<T: Threads + Wait + Sync>(
         Texts::Statuses => status_once(rt, alloc, text),
         Texts::Histories => judged_once(rt, alloc, text),
         Texts::Arguments => asked_once(alloc, text),
+        Texts::Tests => asked_of_a_test_once(alloc, text),
         Texts::Errors => named_once(alloc, text),
     }
 }
