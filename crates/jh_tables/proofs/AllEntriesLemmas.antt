@@ -8,6 +8,7 @@ use Rattle.std.proofs.lemmas.List.Folds.{list_any-append}
 use Rattle.std.proofs.lemmas.List.Sums.{sum_by-append, fold-append}
 use Rattle.std.proofs.lemmas.Option.{none-some}
 use Rattle.jh_tables.specs.declared.counted.FixEntry.{FixEntry}
+use Rattle.jh_tables.specs.declared.counted.FixedDelay.{FixedDelay}
 use Rattle.jh_tables.specs.Tallies.{with_free_entries, later_fix, latest_fix}
 use Rattle.jh_tables.specs.ChangingInside.{has_stamp}
 
@@ -55,7 +56,7 @@ used_all entries =
 pub used_more : (entries : List (Option FixEntry)) → count_by is_some (entries ++ None ∷ []) ≡ count_by is_some entries
 used_more entries = omega (arith, sum_by-append (λ (x : Option FixEntry). if is_some x then 1 else 0) entries (free 1), none_used 1)
 
-none_later : (a b n : ℕ) (latest : Option (ℕ × ℕ)) → fold (later_fix a b) latest (free n) ≡ latest
+none_later : (a b n : ℕ) (latest : Option FixedDelay) → fold (later_fix a b) latest (free n) ≡ latest
 none_later a b zero latest = refl
 none_later a b (suc n) latest = none_later a b n latest
 

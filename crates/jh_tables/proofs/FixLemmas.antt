@@ -6,6 +6,7 @@ use Rattle.std.proofs.lemmas.Bool.{ltb-true, ltb-false, false≢true}
 use Rattle.std.proofs.lemmas.Option.{none-some, same_Some}
 use Rattle.std.proofs.lemmas.List.Elements.{Contains-push, Contains-push_cases, Contains-append_left}
 use Rattle.jh_tables.specs.declared.counted.FixEntry.{FixEntry}
+use Rattle.jh_tables.specs.declared.counted.FixedDelay.{FixedDelay}
 use Rattle.jh_tables.specs.Faults.{FaultValue, names_link}
 use Rattle.jh_tables.specs.Faults.FaultValue.{Cut, Slow, Loss, Fix, Pause, Kill, Bump}
 use Rattle.jh_tables.specs.Overlay.{delay_after_fault}
@@ -13,9 +14,9 @@ use Rattle.jh_tables.specs.Tallies.{is_fixed_in, later_fix, latest_fix, delay_fi
 use Rattle.jh_tables.specs.Standing.{AreEntries, AreInOrder, faults_of}
 
 -- an entry with the stamp and the delay fixes the link
-abbrev IsFixOf : ℕ → ℕ → List (Option FixEntry) → (ℕ × ℕ) → Type 0
+abbrev IsFixOf : ℕ → ℕ → List (Option FixEntry) → FixedDelay → Type 0
 IsFixOf a b entries fix =
-    (entry : FixEntry) × Contains entries (Some entry) × (is_fixed_in entry a b ≡ true) × (entry.stamp ≡ fix.0) × (entry.ms ≡ fix.1)
+    (entry : FixEntry) × Contains entries (Some entry) × (is_fixed_in entry a b ≡ true) × (entry.stamp ≡ fix.stamp) × (entry.ms ≡ fix.ms)
 
 -- no entry that fixes the link has a greater stamp
 abbrev AreBefore : ℕ → ℕ → List (Option FixEntry) → ℕ → Type 0
@@ -24,15 +25,15 @@ AreBefore a b entries stamp = (entry : FixEntry) → Contains entries (Some entr
 abbrev FixesNothing : ℕ → ℕ → List (Option FixEntry) → Type 0
 FixesNothing a b entries = (entry : FixEntry) → Contains entries (Some entry) → is_fixed_in entry a b ≡ true → ⊥
 
-abbrev IsLatest : ℕ → ℕ → List (Option FixEntry) → Option (ℕ × ℕ) → Type 0
+abbrev IsLatest : ℕ → ℕ → List (Option FixEntry) → Option FixedDelay → Type 0
 IsLatest a b entries None = FixesNothing a b entries
-IsLatest a b entries (Some fix) = IsFixOf a b entries fix × AreBefore a b entries fix.0
+IsLatest a b entries (Some fix) = IsFixOf a b entries fix × AreBefore a b entries fix.stamp
 
 module _ (a b : ℕ) (seen : List (Option FixEntry)) where
-  kept_of : (next : Option FixEntry) (fix : ℕ × ℕ) → IsFixOf a b seen fix → IsFixOf a b (seen ++ next ∷ []) fix
+  kept_of : (next : Option FixEntry) (fix : FixedDelay) → IsFixOf a b seen fix → IsFixOf a b (seen ++ next ∷ []) fix
   kept_of next fix h = (h.0, Contains-append_left seen (next ∷ []) (Some h.0) h.1, h.2, h.3, h.4)
 
-  new_of : (entry : FixEntry) → is_fixed_in entry a b ≡ true → IsFixOf a b (seen ++ Some entry ∷ []) (entry.stamp, entry.ms)
+  new_of : (entry : FixEntry) → is_fixed_in entry a b ≡ true → IsFixOf a b (seen ++ Some entry ∷ []) (record { stamp = entry.stamp; ms = entry.ms })
   new_of entry flag = (entry, Contains-push seen (Some entry), flag, refl, refl)
 
   -- what holds of each that fixes the link so far, and of one more
@@ -43,14 +44,14 @@ module _ (a b : ℕ) (seen : List (Option FixEntry)) where
     | inr new ↦ here entry new
   ]
 
-  latest_more : (best : Option (ℕ × ℕ)) (next : Option FixEntry) → IsLatest a b seen best → IsLatest a b (seen ++ next ∷ []) (later_fix a b best next)
+  latest_more : (best : Option FixedDelay) (next : Option FixEntry) → IsLatest a b seen best → IsLatest a b (seen ++ next ∷ []) (later_fix a b best next)
   latest_more None None h = one_more (λ e. is_fixed_in e a b ≡ true → ⊥) None h (λ e same. absurd (none-some e same))
   latest_more (Some fix) None h = (
     kept_of None fix h.0,
-    one_more (λ e. is_fixed_in e a b ≡ true → e.stamp ≤ fix.0) None h.1 (λ e same. absurd (none-some e same)),
+    one_more (λ e. is_fixed_in e a b ≡ true → e.stamp ≤ fix.stamp) None h.1 (λ e same. absurd (none-some e same)),
   )
   latest_more None (Some x) h =
-      elim (is_fixed_in x a b) as (λ s. is_fixed_in x a b ≡ s → IsLatest a b (seen ++ Some x ∷ []) (if s && true then Some (x.stamp, x.ms) else None)) [
+      elim (is_fixed_in x a b) as (λ s. is_fixed_in x a b ≡ s → IsLatest a b (seen ++ Some x ∷ []) (if s && true then Some (record { stamp = x.stamp; ms = x.ms }) else None)) [
         | true ↦ λ s. (
           new_of x s,
           one_more (λ e. is_fixed_in e a b ≡ true → e.stamp ≤ x.stamp) (Some x) (λ e old flag. absurd (h e old flag))
@@ -60,27 +61,27 @@ module _ (a b : ℕ) (seen : List (Option FixEntry)) where
             (λ e same flag. false≢true (sym s ∙ ap (λ y. is_fixed_in y a b) (same_Some x e same) ∙ flag))
       ] refl
   latest_more (Some fix) (Some x) h =
-      elim (is_fixed_in x a b) as (λ s. is_fixed_in x a b ≡ s → IsLatest a b (seen ++ Some x ∷ []) (if s && nat_lt fix.0 x.stamp then Some (x.stamp, x.ms) else Some fix)) [
-        | true ↦ λ s. elim (nat_lt fix.0 x.stamp) as (λ t. nat_lt fix.0 x.stamp ≡ t → IsLatest a b (seen ++ Some x ∷ []) (if t then Some (x.stamp, x.ms) else Some fix)) [
+      elim (is_fixed_in x a b) as (λ s. is_fixed_in x a b ≡ s → IsLatest a b (seen ++ Some x ∷ []) (if s && nat_lt fix.stamp x.stamp then Some (record { stamp = x.stamp; ms = x.ms }) else Some fix)) [
+        | true ↦ λ s. elim (nat_lt fix.stamp x.stamp) as (λ t. nat_lt fix.stamp x.stamp ≡ t → IsLatest a b (seen ++ Some x ∷ []) (if t then Some (record { stamp = x.stamp; ms = x.ms }) else Some fix)) [
           | true ↦ λ t. (
             new_of x s,
-            one_more (λ e. is_fixed_in e a b ≡ true → e.stamp ≤ x.stamp) (Some x) (λ e old flag. omega (arith, h.1 e old flag, ltb-true fix.0 x.stamp t))
+            one_more (λ e. is_fixed_in e a b ≡ true → e.stamp ≤ x.stamp) (Some x) (λ e old flag. omega (arith, h.1 e old flag, ltb-true fix.stamp x.stamp t))
                 (λ e same flag. let k = ap (λ (y : FixEntry). y.stamp) (same_Some x e same) in omega (arith, k)),
           )
           | false ↦ λ t. (
             kept_of (Some x) fix h.0,
-            one_more (λ e. is_fixed_in e a b ≡ true → e.stamp ≤ fix.0) (Some x) h.1
-                (λ e same flag. let k = ap (λ (y : FixEntry). y.stamp) (same_Some x e same) in omega (arith, k, ltb-false fix.0 x.stamp t)),
+            one_more (λ e. is_fixed_in e a b ≡ true → e.stamp ≤ fix.stamp) (Some x) h.1
+                (λ e same flag. let k = ap (λ (y : FixEntry). y.stamp) (same_Some x e same) in omega (arith, k, ltb-false fix.stamp x.stamp t)),
           )
         ] refl
         | false ↦ λ s. (
           kept_of (Some x) fix h.0,
-          one_more (λ e. is_fixed_in e a b ≡ true → e.stamp ≤ fix.0) (Some x) h.1
+          one_more (λ e. is_fixed_in e a b ≡ true → e.stamp ≤ fix.stamp) (Some x) h.1
               (λ e same flag. absurd (false≢true (sym s ∙ ap (λ y. is_fixed_in y a b) (same_Some x e same) ∙ flag))),
         )
       ] refl
 
-latest_of : (a b : ℕ) (seen rest : List (Option FixEntry)) (best : Option (ℕ × ℕ)) → IsLatest a b seen best → IsLatest a b (seen ++ rest) (fold (later_fix a b) best rest)
+latest_of : (a b : ℕ) (seen rest : List (Option FixEntry)) (best : Option FixedDelay) → IsLatest a b seen best → IsLatest a b (seen ++ rest) (fold (later_fix a b) best rest)
 latest_of a b seen [] best h = rw (append-nil seen) h
 latest_of a b seen (next ∷ rest) best h =
     subst (λ es. IsLatest a b es (fold (later_fix a b) (later_fix a b best next) rest)) (append_assoc seen (next ∷ []) rest)

@@ -9,6 +9,7 @@ use Rattle.std.proofs.lemmas.List.Elements.{All-head, All-tail, All-weaker, All-
 use Rattle.std.proofs.lemmas.List.FromFn.{length-range_with_len, get_or-range_with_len}
 use Rattle.std.proofs.lemmas.List.Sums.{sum_by-le}
 use Rattle.jh_tables.specs.declared.counted.FixEntry.{FixEntry}
+use Rattle.jh_tables.specs.declared.counted.FixedDelay.{FixedDelay}
 use Rattle.jh_tables.specs.declared.counted.LinkTally.{LinkTally}
 use Rattle.jh_tables.specs.declared.counted.NodeTally.{NodeTally}
 use Rattle.jh_tables.specs.Cells.{calm_link, running_node}
@@ -21,24 +22,24 @@ use Rattle.jh_tables.proofs.CountLemmas.{max_bound}
 use Rattle.jh_tables.proofs.RoomLemmas.{delay_at_most, total_at_most}
 
 -- the delay found so far is one that a fix may have
-abbrev IsShort : Option (ℕ × ℕ) → Type 0
+abbrev IsShort : Option FixedDelay → Type 0
 IsShort None = ⊤
-IsShort (Some fix) = fix.1 ≤ 60000
+IsShort (Some fix) = fix.ms ≤ 60000
 
-later_short : (a b : ℕ) (best : Option (ℕ × ℕ)) (next : Option FixEntry) → IsShort best → HasFixAmount next → IsShort (later_fix a b best next)
+later_short : (a b : ℕ) (best : Option FixedDelay) (next : Option FixEntry) → IsShort best → HasFixAmount next → IsShort (later_fix a b best next)
 later_short a b best None short right = short
 later_short a b best (Some fix) short right =
-    elim (is_fixed_in fix a b && is_after fix.stamp best) as (λ s. IsShort (if s then Some (fix.stamp, fix.ms) else best)) [
+    elim (is_fixed_in fix a b && is_after fix.stamp best) as (λ s. IsShort (if s then Some (record { stamp = fix.stamp; ms = fix.ms }) else best)) [
       | true ↦ right
       | false ↦ short
     ]
 
-latest_short : (a b : ℕ) (entries : List (Option FixEntry)) (best : Option (ℕ × ℕ)) → IsShort best → All HasFixAmount entries → IsShort (fold (later_fix a b) best entries)
+latest_short : (a b : ℕ) (entries : List (Option FixEntry)) (best : Option FixedDelay) → IsShort best → All HasFixAmount entries → IsShort (fold (later_fix a b) best entries)
 latest_short a b [] best short all = short
 latest_short a b (e ∷ es) best short all =
     latest_short a b es (later_fix a b best e) (later_short a b best e short (All-head HasFixAmount e es all)) (All-tail HasFixAmount e es all)
 
-fixed_short : (fix : Option (ℕ × ℕ)) (delay : ℕ) → IsShort fix → delay ≤ 60000 → delay_fixed fix delay ≤ 60000
+fixed_short : (fix : Option FixedDelay) (delay : ℕ) → IsShort fix → delay ≤ 60000 → delay_fixed fix delay ≤ 60000
 fixed_short None delay short h = h
 fixed_short (Some fix) delay short h = short
 

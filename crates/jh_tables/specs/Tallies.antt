@@ -10,6 +10,7 @@ use Rattle.jh_tables.specs.declared.cells.NodeCell.{NodeCell}
 use Rattle.jh_tables.specs.declared.counted.LinkTally.{LinkTally}
 use Rattle.jh_tables.specs.declared.counted.NodeTally.{NodeTally}
 use Rattle.jh_tables.specs.declared.counted.FixEntry.{FixEntry}
+use Rattle.jh_tables.specs.declared.counted.FixedDelay.{FixedDelay}
 use Rattle.jh_tables.specs.Cells.{Table, calm_link, running_node}
 use Rattle.jh_tables.specs.Limits.{max_laid, max_loss}
 use Rattle.jh_tables.specs.Overlay.{is_paused, is_killed}
@@ -63,25 +64,26 @@ faultless_tallies links nodes = record {
 abbrev pub is_fixed_in : FixEntry → ℕ → ℕ → Bool
 is_fixed_in fix a b = bit_at (slice_index_or fix.links a 0) b == 1
 
--- the stamp is above this one, if there is one
-abbrev pub is_after : ℕ → Option (ℕ × ℕ) → Bool
+-- the stamp is above that of this fix, if there is one
+abbrev pub is_after : ℕ → Option FixedDelay → Bool
 is_after stamp None = true
-is_after stamp (Some other) = nat_lt other.0 stamp
+is_after stamp (Some fixed) = nat_lt fixed.stamp stamp
 
--- the stamp and the delay of the latest fix of the link so far, after one more entry
-abbrev pub later_fix : ℕ → ℕ → Option (ℕ × ℕ) → Option FixEntry → Option (ℕ × ℕ)
+-- the delay of the latest fix of the link so far, after one more entry
+abbrev pub later_fix : ℕ → ℕ → Option FixedDelay → Option FixEntry → Option FixedDelay
 later_fix a b latest None = latest
 later_fix a b latest (Some fix) =
-    if is_fixed_in fix a b && is_after fix.stamp latest then Some (fix.stamp, fix.ms) else latest
+    if is_fixed_in fix a b && is_after fix.stamp latest
+    then Some (record { stamp = fix.stamp; ms = fix.ms }) else latest
 
--- the stamp and the delay of the latest fix of the link, where there is one
-abbrev pub latest_fix : ℕ → ℕ → List (Option FixEntry) → Option (ℕ × ℕ)
+-- the delay of the latest fix of the link, where there is one
+abbrev pub latest_fix : ℕ → ℕ → List (Option FixEntry) → Option FixedDelay
 latest_fix a b fixes = fold (later_fix a b) None fixes
 
 -- the delay of the latest fix, or else the one of the start
-abbrev pub delay_fixed : Option (ℕ × ℕ) → ℕ → ℕ
+abbrev pub delay_fixed : Option FixedDelay → ℕ → ℕ
 delay_fixed None delay = delay
-delay_fixed (Some fix) delay = fix.1
+delay_fixed (Some fixed) delay = fixed.ms
 
 -- the level at this place among the counts, where its count is not 0
 abbrev pub level_held : List ℕ → ℕ → ℕ
@@ -93,10 +95,10 @@ greatest_level losses start =
     fold (λ m i. max m (level_held losses i)) start (range_with_len 0 max_loss)
 
 -- the link that is read off a tally
-abbrev pub link_now : LinkTally → Option (ℕ × ℕ) → Link
-link_now tally fix = record {
+abbrev pub link_now : LinkTally → Option FixedDelay → Link
+link_now tally fixed = record {
   cut = tally.start.cut || nat_lt 0 tally.cuts;
-  delay = delay_fixed fix tally.start.delay + tally.slowed_ms;
+  delay = delay_fixed fixed tally.start.delay + tally.slowed_ms;
   loss = greatest_level tally.losses tally.start.loss;
 }
 

@@ -64,6 +64,15 @@ pub struct FixEntry {
     pub links: [u64; MAX_NODES],
 }
 
+/// The delay that a fix gives to a link.
+#[derive(Clone, Copy)]
+pub struct FixedDelay {
+    /// The stamp of the fix. Of two fixes of a link the one with the greater stamp holds.
+    pub stamp: u32,
+    /// The delay, in milliseconds.
+    pub ms: u64,
+}
+
 /// One count or sum of a link.
 #[derive(Clone, Copy)]
 pub enum LinkCount {

@@ -16,7 +16,7 @@ ghost use Rattle.jh_tables.specs.ChangingInside.{IsEntryPut, IsEntryTaken, IsPla
 ghost use Rattle.jh_tables.specs.ChangingInside.{has_stamp, one_if};
 
 use crate::changing::Change;
-use crate::counted::{Counted, FixEntry, MAX_NODES, TableWrite};
+use crate::counted::{Counted, FixEntry, FixedDelay, MAX_NODES, TableWrite};
 use crate::faults::{LinkFault, PlainFault};
 use crate::nodes::Node;
 
@@ -29,12 +29,12 @@ fn is_fixed_in(fix: &FixEntry, from: Node, to: Node) -> bool
 }
 
 /// Whether the stamp is above that of the latest fix so far.
-fn is_after(stamp: u32, latest: Option<(u32, u64)>) -> bool
+fn is_after(stamp: u32, latest: Option<FixedDelay>) -> bool
     ensures { result ≡ is_after stamp latest }
 {
     match latest {
         None => true,
-        Some((other, _)) => other < stamp,
+        Some(fixed) => fixed.stamp < stamp,
     }
 }
 
@@ -42,22 +42,25 @@ fn is_after(stamp: u32, latest: Option<(u32, u64)>) -> bool
 fn later_fix(
     from: Node,
     to: Node,
-    latest: Option<(u32, u64)>,
+    latest: Option<FixedDelay>,
     entry: &Option<FixEntry>,
-) -> Option<(u32, u64)>
+) -> Option<FixedDelay>
     requires { (from < max_nodes) × (to < max_nodes) }
     ensures { result ≡ later_fix from to latest entry.now }
 {
     match entry {
-        Some(fix) if is_fixed_in(fix, from, to) && is_after(fix.stamp, latest) => Some((
-            fix.stamp, fix.ms,
-        )),
+        Some(fix) if is_fixed_in(fix, from, to) && is_after(fix.stamp, latest) => {
+            Some(FixedDelay {
+                stamp: fix.stamp,
+                ms: fix.ms,
+            })
+        }
         _ => latest,
     }
 }
 
-/// The stamp and the delay of the latest fix of a link among entries.
-fn latest_among(entries: &[Option<FixEntry>], from: Node, to: Node) -> Option<(u32, u64)>
+/// The delay of the latest fix of a link among entries.
+fn latest_among(entries: &[Option<FixEntry>], from: Node, to: Node) -> Option<FixedDelay>
     requires { (from < max_nodes) × (to < max_nodes) }
     ensures { result ≡ latest_fix from to entries.now }
 {
@@ -68,8 +71,8 @@ fn latest_among(entries: &[Option<FixEntry>], from: Node, to: Node) -> Option<(u
     latest
 }
 
-/// The stamp and the delay of the latest fix of a link. No entry is looked at where none is in use.
-pub(crate) fn latest_fix(counted: &Counted, from: Node, to: Node) -> Option<(u32, u64)>
+/// The delay of the latest fix of a link. No entry is looked at where none is in use.
+pub(crate) fn latest_fix(counted: &Counted, from: Node, to: Node) -> Option<FixedDelay>
     requires { (from < max_nodes) × (to < max_nodes) }
     ensures { result ≡ latest_fix from to counted.now.fixes }
 {

@@ -7,7 +7,7 @@ ghost use Rattle.jh_tables.specs.Tallies.{node_now};
 ghost use Rattle.jh_tables.specs.Standing.{IsWithin};
 
 use crate::cells::{Life, Link, NodeCell};
-use crate::counted::{LEVELS, LinkTally, NodeTally};
+use crate::counted::{FixedDelay, LEVELS, LinkTally, NodeTally};
 
 /// The level at this place among the counts, where its count is not 0, and 0 otherwise.
 fn level_held(losses: &[u16; LEVELS], place: usize) -> u8
@@ -33,17 +33,17 @@ fn greatest_level(losses: &[u16; LEVELS], start: u8) -> u8
 }
 
 /// The link that is read off a tally and the latest fix.
-pub(crate) fn link_now(tally: &LinkTally, fix: Option<(u32, u64)>) -> Link
+pub(crate) fn link_now(tally: &LinkTally, fix: Option<FixedDelay>) -> Link
     requires { delay_fixed fix tally.now.start.delay + tally.now.slowed_ms < 2 ^ 64 }
     ensures { result ≡ link_now tally.now fix }
 {
-    let fixed = match fix {
-        Some((_, ms)) => ms,
+    let delay = match fix {
+        Some(fixed) => fixed.ms,
         None => tally.start.delay,
     };
     Link {
         cut: tally.start.cut || tally.cuts > 0,
-        delay: fixed + tally.slowed_ms,
+        delay: delay + tally.slowed_ms,
         loss: greatest_level(&tally.losses, tally.start.loss),
     }
 }
