@@ -62,7 +62,8 @@ pub trait CommandObserver {
     /// This command is run next.
     fn see_command(&mut self, command: Command<'_>);
 
-    /// The settings of a test were read, and it is conducted next.
+    /// The file with the settings of a test was read. What it holds is looked at next, and then the
+    /// test is conducted, or tried.
     fn see_test(&mut self);
 }
 
@@ -184,13 +185,14 @@ fn of_test(answer: Result<u8, DriveError>) -> Result<u8, Refusal>
 
 /// Does what the arguments ask for, over these streams. The first argument is the program's name. A
 /// command reads and writes the streams. Before that a test reads its settings from a file, and `timeline` reads
-/// those of the run that it shows, where a file is named. The answer is the exit status: that of `do_command`, or
-/// that of `drive`.
+/// those of the run that it shows, where a file is named. The answer is the exit status: that of
+/// `do_command`, or of a test that of `drive`, of `try_test` or of `reduce_test`.
 ///
 /// A run on threads, a search and the judgement of keys may wait. A test waits where its reader blocks.
 ///
 /// Errors: `Arguments`, then `Accounts`, then `RunSettings`, all before anything is read or written; then, of a command,
-/// `Command` as `do_command` has it, and of a test `Test` as `drive` has it, or where its file could not be read.
+/// `Command` as `do_command` has it, and of a test `Test` as that one has it, or where its file
+/// could not be read.
 pub fn answer<T, S, R, W, O>(
     rt: &T,
     arguments: &[S],

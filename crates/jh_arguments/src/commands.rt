@@ -93,7 +93,7 @@ pub enum TestQuestion<'a> {
     },
 }
 
-/// Which candidates of a test are tried.
+/// Which candidates of a run or of a test are tried.
 #[derive(Clone, Copy, Debug, PartialEq, Eq)]
 pub struct TrialQuestion {
     /// The number of the first one.
@@ -259,8 +259,9 @@ pub fn search_question_of(options: &ArgMatches<'_>) -> Option<SearchQuestion>
     })
 }
 
-/// Which candidates of a test the options of `search` ask for. `parse` has seen to it that each number is in its
-/// range. Where `--palette` names anything but kinds of faults, the question has no palette.
+/// Which candidates of a run or of a test the options of `search` ask for. `parse` has seen to it
+/// that each number is in its range. Where `--palette` names anything but kinds of faults, the
+/// question has no palette.
 pub fn trial_question_of(options: &ArgMatches<'_>) -> Option<TrialQuestion>
     ensures parsed { IfSome result (AsksTrials (rows_of (found_of options.now))) }
     ensures ranges { IfSome result (λ question. question.from + question.runs < 2 ^ 64) }
@@ -452,7 +453,7 @@ fn palette_of(options: &ArgMatches<'_>) -> Option<Palette>
 ///
 /// | status | `check`, `run`, `timeline` | `shrink` | `search` | `env`, `plot` |
 /// |---|---|---|---|---|
-/// | 0 | the history is valid, or is not judged | the run does not fail | no run found that fails | done |
+/// | 0 | the history is valid, or is not judged | the run does not fail | no run found that fails, or a schedule is shown | done |
 /// | 1 | the history is not valid | the schedule is minimal | a run found that fails | |
 /// | 2 | it is not known whether it is valid | the budget was used up | none found, and some are unknown | |
 ///

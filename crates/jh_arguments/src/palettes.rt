@@ -1,6 +1,8 @@
 //! The kinds of faults that an option of `search` names. `specs/Palettes.antt` has the rule. A new kind
 //! is a line here and there, and a name in these texts: the default of `--palette` in `line.rt` and in
-//! `specs/Line.antt`, the help of `search` in `help.rt`, and the message of `BadPalette` in `jh_cli`.
+//! `specs/Line.antt`, the help of `search` in `help.rt`, and the messages of `BadPalette` in
+//! `jh_cli` and `jh_drive`, each in `src/error.rt` and in `specs/` (`Status.antt`,
+//! `DriveErrors.antt`).
 
 ghost use Rattle.std.specs.Prelude.{◌≡◌};
 ghost use Rattle.jh_arguments.specs.Palettes as rule;

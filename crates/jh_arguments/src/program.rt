@@ -119,8 +119,8 @@ where
 ///
 /// What is told on standard error, and when:
 ///
-/// - how far `shrink` or `search` is, where standard error is a terminal; and what is read, where standard input
-///   is one too;
+/// - where standard error is a terminal: how far `shrink` or `search` of a run is, and nothing of that with `--drive`;
+///   and what is read, where standard input is one too;
 /// - where standard error is a terminal or `--verbose` is given: how many operations of a history `check` judges,
 ///   what `run` and `search` warn of, how the calls of a test ended, and what may decide a verdict that is unknown;
 /// - where `--verbose` is given: lines behind an error, which say where and why the input was refused.

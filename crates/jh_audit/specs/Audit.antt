@@ -146,7 +146,7 @@ pub record IsAudited (journal : List Event) (history : List Operation) : Type 0 
   pub operations : AreSoundBelow journal history (length history)
   pub events : AreNamed journal history (length journal)
 
--- what is wrong at a place: all that is looked at before it is right
+-- what is wrong at a place: all that is looked at before it, is right
 abbrev pub HasFaultAt : List Event → List Operation → ℕ → AuditFault → Type 0
 HasFaultAt journal history i (BadOp place) =
     (place ≡ i) × ((form : Form) → SaysAt history i form → ⊥)

@@ -21,7 +21,8 @@ is_vector _ = false
 abbrev pub is_answered_call : Operation → Bool
 is_answered_call op = is_client op.process && not (is_invoke op.kind)
 
--- a completion of the nemesis, whose value is a pair
+-- a completion of the nemesis: its value is a vector, and that of an invocation an integer (both
+-- are `:info`)
 abbrev pub is_answered_step : Operation → Bool
 is_answered_step op = not (is_client op.process) && is_vector op.value
 
@@ -56,8 +57,8 @@ AreInTurn schedule journal history count =
 
 -- An event keeps to its turn, where so many steps were taken and so many calls were answered before
 -- it, of all calls: a call is of the node at its thread's number, around, and the thread of a
--- process is its number modulo the clients; a step is that of the next entry, and as many calls were
--- answered as that waits for, or all.
+-- process is its number modulo the clients; a step is that of the next entry, and as many calls
+-- were answered as that waits for, or all calls of the journal.
 abbrev pub KeepsTurn : PlanValue → ℕ → ℕ → ℕ → Event → Type 0
 KeepsTurn plan steps calls all (Event.Call process node request draw reply) =
     node ≡ process % plan.clients % length plan.env.names
@@ -94,8 +95,8 @@ abbrev pub ticks_owed : PlanValue → List Event → ℕ
 ticks_owed plan journal = sum_by (ticks_of plan journal) (range_with_len 0 plan.clients)
 
 -- the nemesis's completions end all entries of the schedule in order, each by an event of its
--- step, and the clients made no more calls than the plan has; each event of the journal keeps to its
--- turn, and it has as many ticks as follow its calls
+-- step, and the clients completed no more calls than the plan has; each event of the journal keeps
+-- to its turn, and it has as many ticks as follow its calls
 pub record FollowsPlan (plan : PlanValue) (journal : List Event)
     (history : List Operation) : Type 0 where
   pub in_turn : AreInTurn plan.schedule journal history (length history)

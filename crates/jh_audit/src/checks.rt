@@ -364,9 +364,10 @@ fn first_unnamed(journal: &[Event], history: &[Op]) -> Option<usize>
 /// named once.
 ///
 /// Takes no memory. Each operation is compared with those since the operation of its process before
-/// it, and with those back to the last hundred or so that name lower events. So a history of few
-/// processes takes time linear in its length; one in which most processes crash, or most
-/// completions stand far from their events, takes its square.
+/// it, and with those from the horizon on, 64 to 127 operations back; with all, where its event's
+/// number is below the horizon's bound. So a history of few processes takes time linear in its
+/// length; one in which most processes crash, or most completions stand far from their events,
+/// takes its square.
 ///
 /// Errors: the fault at the least place, at one place in this order: `BadOp`, `NoEvent`,
 /// `WrongEvent`, `Repeat`, `Unpaired`, `WrongOrder`; where there is none, `Unnamed` with the least

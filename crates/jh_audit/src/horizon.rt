@@ -9,7 +9,8 @@ ghost use Rattle.jh_audit.specs.HorizonInside.{IsBehind, NamesBelow};
 use crate::forms::named_event_at;
 use jh_ops::Op;
 
-/// How many operations a horizon stays behind at least, once there are twice as many.
+/// By how many operations a horizon moves on, once it is twice as many behind a place: so it stays
+/// at least so many behind.
 const DISTANCE: usize = 64;
 
 /// A place of a history, and a number above all events that are named before it.

@@ -151,8 +151,9 @@ fn ended_in_turn(schedule: &[Entry], journal: &[Event], history: &[Op]) -> Optio
 /// Whether the history of a run keeps to its plan: the nemesis's completions end all entries of
 /// the schedule in order, each by an event of the journal that is of its step, and the clients
 /// completed no more calls than the plan has. And whether its journal does: each call is of the node
-/// of its thread, each step is that of the next entry, once so many calls were answered as it waits
-/// for, or all, and there are as many ticks as follow the calls of its threads.
+/// of its thread, each step is that of the next entry, taken once as many calls were answered as
+/// the entry waits for, or all calls of the journal, and there are as many ticks as follow the
+/// calls of its threads.
 ///
 /// Takes no memory, and time linear in the history, in the journal for each client, and in what the
 /// faults of the schedule name.

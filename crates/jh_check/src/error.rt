@@ -14,7 +14,8 @@ pub enum CheckError {
     /// `OutOfMemory` here.
     #[error("{0}")]
     Pair(PairError),
-    /// The value of this operation is none that it can have.
+    /// The value of this operation is none that it can have; or, of a register, a mutex or a
+    /// first-in-first-out queue, its function is none that these have.
     #[error("operation {0}: bad value")]
     BadValue(usize),
     /// The amount of this add is below zero.

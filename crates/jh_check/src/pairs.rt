@@ -1,5 +1,5 @@
-//! The operations of a counter's history, by pairs of their records. `specs/CounterResults.antt`
-//! has the rule.
+//! The operations of a history, by pairs of their records, for all checkers; and what is a
+//! counter's own: amounts, and errors of values. `specs/CounterResults.antt` has the rule.
 
 ghost use Rattle.std.specs.Prelude.{◌≡◌, ◌^◌, ◌<◌, IfSome, option_map, slice_get};
 ghost use Rattle.jh_edn.specs.View.{view};
@@ -111,8 +111,8 @@ pub(crate) fn may_be_added(history: &[Op], pair: Pair) -> bool
     asks("add", history, pair) && !has_ended(Kind::Fail, history, pair)
 }
 
-/// Whether an operation of a counter's history is a read that happened: its invocation asks for `:read`,
-/// and it is completed as `:ok`. A place that the history does not have makes it none.
+/// Whether an operation is a read that happened: its invocation asks for `:read`, and it is
+/// completed as `:ok`. A place that the history does not have makes it none.
 pub fn is_ok_read(history: &[Op], pair: Pair) -> bool
     ensures { result ≡ rule.is_ok_read (operations history.now) pair }
 {

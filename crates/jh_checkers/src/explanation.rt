@@ -1,5 +1,5 @@
-//! Why a history of a register is not valid, beside the verdict. `specs/Explanations.antt` has the
-//! rule.
+//! Why a history of a register or a mutex is not valid, beside the verdict.
+//! `specs/Explanations.antt` has the rule.
 
 ghost use Rattle.std.specs.Prelude.{◌≡◌, ◌<◌, IfOk, length};
 ghost use Rattle.jh_ops.specs.Operation.{operations};
@@ -18,8 +18,8 @@ use jh_ops::Op;
 use jh_unique::{UniqueReason, UniqueVerdict, judge_unique};
 use std::alloc::{AllocError, Global};
 
-/// What stands beside the verdict on a history of a register that is not valid, where it is asked
-/// for.
+/// What stands beside the verdict on a history of a register or a mutex that is not valid, where it
+/// is asked for.
 #[derive(Debug, Drop)]
 pub struct Explanation {
     /// The completion at which the history is stuck, as the history has it.

@@ -128,7 +128,7 @@ impl Finding {
 
 /// Judges a history by a checker: `check_set`, `check_counter` and `check_unique` of `jh_check`,
 /// `check_total_queue`, `check_queue`, `check_bank` and `check_set_full` of the crates of their names,
-/// for a register or a mutex the judge of `jh_linear` over its operations, for transactions
+/// for a register or a mutex `check_register` of `jh_unique` over its operations, for transactions
 /// `find_transactions` of `jh_txn_check`, or for a first-in-first-out queue `check_fifo` of
 /// `jh_fifo_check`.
 ///

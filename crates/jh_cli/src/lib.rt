@@ -1,8 +1,9 @@
-//! The commands of the program `jeprun` but for `drive`, over any reader and any writer: one function for
-//! each command. `X_run` does the command `X`; a run is what the command `run` makes.
-//! `specs/EnvText.antt`, `specs/CheckText.antt`, `specs/RunText.antt`,
-//! `specs/ShrinkText.antt`, `specs/SearchText.antt`, `specs/TimelineText.antt` and `specs/PlotText.antt`
-//! say what is written, each `..Refusals.antt` why an input is refused. `output.rt` is the frame that all share.
+//! The commands of the program `jeprun` but for `drive`, `search --drive` and `shrink --drive`,
+//! over any reader and any writer: one function for each command. `X_run` does the command `X`; a
+//! run is what the command `run` makes. `specs/EnvText.antt`, `specs/CheckText.antt`,
+//! `specs/RunText.antt`, `specs/ShrinkText.antt`, `specs/SearchText.antt`,
+//! `specs/TimelineText.antt` and `specs/PlotText.antt` say what is written, each `..Refusals.antt`
+//! why an input is refused. `output.rt` is the frame that all share.
 #![tactic(auto)]
 
 mod check_command;

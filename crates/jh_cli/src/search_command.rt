@@ -51,7 +51,7 @@ pub struct SearchQuestion {
     pub runs: u64,
     /// How many random faults each has among the entries of the settings.
     pub faults: u32,
-    /// Of which kinds these are, and none where the arguments name no kinds.
+    /// Of which kinds these are. None: what the arguments name is none of the kinds.
     pub palette: Option<Palette>,
     /// On how many threads candidates are tried, from 1 to 16; none: on as many as there are
     /// processors. The answer is the same.
@@ -63,17 +63,19 @@ pub struct SearchQuestion {
 /// Reads settings in TOML as `jh_settings::settings_of` does, and tries candidates of them, which
 /// `jh_search::candidate` makes: plans with the seed raised by their number, and with random faults
 /// among the entries of the schedule. Each is run serially and judged by the checker of its
-/// workload. It writes the settings of the least candidate that is not valid, or a line that says that
-/// there is none. The number of threads does not matter for that. The answer is the exit status:
+/// workload. It writes the settings of the least candidate that fails, or a line that says that there
+/// is none. The number of threads does not matter for that. The answer is the exit status, where NUMBER
+/// counts candidates from 0, and RUNS is how many are tried at most from `from` on:
 ///
 /// | what is written | what is found | status |
 /// |---|---|---|
-/// | `# candidate NUMBER of RUNS: invalid`, and settings behind it | the least candidate that is not valid | 1 |
+/// | `# candidate NUMBER of RUNS: invalid`, and settings behind it | the least candidate that fails | 1 |
 /// | `# none of RUNS candidates is invalid, UNKNOWN unknown` | that none is known not to be valid | 0, or 2 where some are unknown |
 ///
 /// Where the question names a candidate to show, nothing is run: `schedule = [..]` with the entries of that candidate is
-/// written, as `jh_settings_texts::schedule_to_text` writes it, and the status is 0. Settings of a test of a real database
-/// take this schedule too: so such a test can have random faults.
+/// written, as `jh_settings_texts::schedule_to_text` writes it, and the status is 0. Settings of a
+/// test of a real database take this schedule too, and they alone where it has milliseconds: so
+/// such a test can have random faults.
 ///
 /// The settings have all keys, `mode = "serial"`, the seed and the schedule of the candidate, so
 /// `run_run` and `shrink_run` read them, with the comment. The mode that was read means nothing. All

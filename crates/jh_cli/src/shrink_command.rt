@@ -35,7 +35,7 @@ use std::io::{Read, Write};
 ///
 /// | line | what is left | status |
 /// |---|---|---|
-/// | `:minimal` | the run fails, and passes without any one of the entries | 1 |
+/// | `:minimal` | the run fails, and without any one of the entries it does not, or that is not known | 1 |
 /// | `:budget` | the fewest with which it failed, when all `runs` were made; the given ones, where none may be made | 2 |
 /// | `:not-failing` | the given ones: the run does not fail, or that is not known | 0 |
 ///

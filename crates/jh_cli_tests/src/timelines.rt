@@ -130,7 +130,7 @@ All 4 records.
 {:index 0, :type :invoke, :process 0, :f :write, :value 1} {:index 1, :type :ok, :process 0, :f :write, :value 1}
 {:index 2, :type :invoke, :process 1, :f :read, :value nil} {:index 3, :type :ok, :process 1, :f :read, :value 0}
 → 1
-<h1>Not valid: no order of all operations, stuck at index 3 (process 1: read 0)</h1>
+<h1>Not valid: no order of all operations, stuck at record 3 (process 1: read 0)</h1>
 <pre>{:valid? false, :stuck {:index 3, :type :ok, :process 1, :f :read, :value 0}, :order [0], :value 1, :pending [1], :because :out-of-order, :named [1 0]}</pre>
 <g class="marks">
 <svg class="named" id="found-0-0" x="240" y="0" width="232" height="32">
@@ -172,7 +172,7 @@ All 2 records.
 {:valid? false, :order [0]}
 {:valid? true, :order [0]}
 → 1
-<h1>Not valid: no order of all operations, stuck at index 1 (process 0: read 0)</h1>
+<h1>Not valid: no order of all operations, stuck at record 1 (process 0: read 0)</h1>
 <p class="notice">The input says {:valid? true}, and this page judged it otherwise: were --initial, --model and --workload those of the run?</p>
 <pre>{:valid? false, :stuck
 § register 0 - -

@@ -16,9 +16,10 @@ use rand_pcg::Lcg128Xsl64;
 use std::alloc::{AllocError, Global};
 use std::marker::Model;
 
-/// Of `stops`: the calls of *main* are stopped, and all calls are.
+/// Of `stops`: the calls of *main* are stopped.
 pub(crate) const MAIN_STOPPED: u64 = 1;
 
+/// Of `stops`: all calls are stopped.
 pub(crate) const ALL_STOPPED: u64 = 2;
 
 /// The machine of a test. What was said to the last line is the newest part of the history.

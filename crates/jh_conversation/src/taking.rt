@@ -79,7 +79,8 @@ impl Machine {
         }
     }
 
-    /// Stops the calls of this phase.
+    /// Takes in a stop: in *main* it stops the calls of *main*, later all calls. A second one stops
+    /// all calls in any phase.
     fn stop(&mut self)
         ensures { self.new ≡ rule.stop self.old }
     {

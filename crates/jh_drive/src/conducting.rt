@@ -123,9 +123,10 @@ fn conduct<R: Read, W: Write, O: CallObserver>(
 /// longest line; an answer to a line takes time in proportion to the clients and to what is told.
 ///
 /// Errors: `Settings`, before anything is told or read; then, with all of the report written, `Reply` with
-/// the first line that was no reply, `RepliesEnded` where the input ended before the test did, `Read` and
-/// `TooManyTurns` where nothing more could be heard; `Mismatch` where the history can't be judged, with all of
-/// the report written but its last line; `Write`; `OutOfMemory`. Never `SettingsRead`.
+/// the first line that was no reply, `RepliesEnded` where the input ended before the test did,
+/// `Read` where the input could not be read on, `TooManyTurns` after 2^64 - 1 turns; `Mismatch`
+/// where the history can't be judged, with all of the report written but its last line; `Write`;
+/// `OutOfMemory`. Never `SettingsRead`.
 pub fn drive<R: Read, W: Write, O: CallObserver>(
     alloc: Global,
     settings: &[u8],

@@ -60,7 +60,7 @@ unknown_in trials = count_by has_unknown_status trials
 abbrev pub found_heading : List ℕ
 found_heading = codes ":found\n"
 
--- how many were tried, and of how many nothing is known
+-- how many were tried, and of how many the verdict is unknown
 abbrev pub none_found_line : ℕ → ℕ → List ℕ
 none_found_line tried unknown =
     codes ":none {:tried " ++ (decimal tried ++ (codes ", :unknown " ++ (decimal unknown ++ codes "}\n")))

@@ -13,7 +13,7 @@ use Rattle.jh_drive_search.specs.DriveSearch.{told_in_all, unknown_in}
 
 module _ (t : TestValue) (judging : Judging) (options : TrialOptions)
     (input rest before after : Option (List ℕ)) where
-  -- so many were tried, none fails, of so many nothing is known, and so many lines were read
+  -- so many were tried, none fails, of so many the verdict is unknown, and so many lines were read
   pub record HaveBeenTried (count unknown read : ℕ) : Type 0 where
     pub trials : List Tried
     pub tried : AreTried t judging options trials

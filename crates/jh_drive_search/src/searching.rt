@@ -42,7 +42,7 @@ pub(crate) enum Searched {
         trial: Trial,
         judged: Output,
     },
-    /// None fails, and of so many nothing is known.
+    /// None fails, and of so many the verdict is unknown.
     None {
         unknown: u64,
     },
@@ -122,7 +122,7 @@ fn write_found<W: Write>(
     Ok(())
 }
 
-/// Writes that none of so many candidates fails, and of how many nothing is known.
+/// Writes that none of so many candidates fails, and of how many the verdict is unknown.
 fn write_none<W: Write>(
     alloc: Global,
     tried: u64,

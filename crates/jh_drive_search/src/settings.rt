@@ -10,7 +10,7 @@ use jh_test_settings_texts::can_be_written;
 use std::alloc::Global;
 use toml::Table;
 
-/// The settings of a test whose candidates are tried, with the table that they were read from.
+/// The settings of a test that is tried more than once, with the table that they were read from.
 #[derive(Drop)]
 pub struct SearchSettings {
     /// The document, from which the settings of a candidate are written.
@@ -22,8 +22,9 @@ pub struct SearchSettings {
 /// The settings that bytes mean, a TOML document in UTF-8, as `drive_settings_of` of `jh_drive_settings`
 /// reads them.
 ///
-/// Errors: `Settings`, in the order of `drive_settings_of`, and last for a schedule that settings can't say again; no
-/// schedule that is read has such an entry, which no clause says. `OutOfMemory`.
+/// Errors: `Settings`, in the order of `drive_settings_of`, and last `BadValue` with
+/// `Key::Schedule` for a schedule that settings can't say again. That no schedule which is read is
+/// such a one is not proved. `OutOfMemory`.
 pub fn search_settings_of(alloc: Global, bytes: &[u8]) -> Result<SearchSettings, DriveError>
     ensures { MatchResult result
         (AreSearchSettingsOf bytes.now) (RefusesSearchSettings bytes.now) }

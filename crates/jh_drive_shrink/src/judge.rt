@@ -242,7 +242,8 @@ fn smallest_of(
     })
 }
 
-/// Asks for what is left of the places of a schedule, by trials of which is kept how far they are.
+/// Makes the list of all places of the schedule small by trials, and keeps in `progress` how far
+/// these are.
 fn shrink_places<B: BufRead, W: Write, O: ShrinkObserver>(
     alloc: Global,
     settings: &DriveSettings,

@@ -14,13 +14,14 @@ use std::alloc::{AllocError, Global};
 pub(crate) fn all_places(alloc: Global, test: &Test) -> Result<Schedule, AllocError>
     ensures { IfOk result (λ places. places ≡ all_places test.now) }
 {
-    // Read so that the prover knows that the test is fit.
+    // The answer is not used: this call's contract says that the test can be made.
     let _clients = test.clients();
     let count = test.schedule().len();
     let mut places = Vec::new(alloc);
     for place in 0..count {
-        // `jh_shrink` takes entries out of schedules of simulated runs, which know no time of day. So an entry
-        // there stands for the one at its place here, and its step for nothing.
+        // `jh_shrink` takes entries out of schedules of simulated runs, whose entries are due by
+        // calls alone, and never by milliseconds. So an entry there stands for the one at its place
+        // here, and its step for nothing.
         places.push(Entry {
             at: place as u32,
             step: Step::Undo,
@@ -84,7 +85,7 @@ fn entries_at(
 pub(crate) fn test_at(alloc: Global, test: &Test, places: &Schedule) -> Result<Test, AllocError>
     ensures { IfOk result (λ made. made ≡ test_of_part test.now (part_at test.now places.now)) }
 {
-    // Read so that the prover knows that the test is fit.
+    // The answer is not used: this call's contract says that the test can be made.
     let _clients = test.clients();
     let part = entries_at(alloc, test.schedule(), places.entries())?;
     test.with_schedule(alloc, part, test.seed())

@@ -148,7 +148,8 @@ fn show_smallest<B: BufRead, W: Write>(
 
 /// Makes the schedule of a test of a real database small by trials of the test with parts of it, one after
 /// another in one conversation: before each it tells `{:type :test, :number I, :seed S}`, and holds the test once
-/// the adapter has answered `:ready`. Entries are taken out as long as the history is not valid still.
+/// the adapter has answered `:ready`. Entries are taken out as long as the history is still not
+/// valid.
 ///
 /// What is left is tried once more, and its report is written, a line, and behind it the settings that mean the
 /// test with what is left:
@@ -157,7 +158,7 @@ fn show_smallest<B: BufRead, W: Write>(
 /// |---|---|---|
 /// | `:minimal` | the test fails, and did not without any one of the entries | 1 |
 /// | `:budget` | the fewest with which it failed, when all `runs` trials were held; the given ones, where none may be | 2 |
-/// | `:not-reproduced` | it failed before, and did not this time | 2 |
+/// | `:not-reproduced` | it failed before, or is the whole schedule where no trial might be held before; it did not fail this time | 2 |
 ///
 /// Where the test does not fail with its whole schedule, the line `:not-reproduced` is written alone, with status 0.
 /// At most `runs` trials are held, and the last one. An observer is told before each but the last how many

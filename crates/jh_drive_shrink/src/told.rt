@@ -10,9 +10,10 @@ use jh_reports::{INVALID, UNKNOWN};
 pub(crate) enum Told {
     /// It fails, and does not without any one of its entries.
     Minimal,
-    /// It fails; all trials were held that might be.
+    /// It failed, or is the whole schedule where no trial might be held; all trials were held that
+    /// might be.
     Budget,
-    /// It does not fail.
+    /// It did not fail: not this time, or not with the whole schedule.
     NotReproduced,
 }
 

@@ -30,9 +30,7 @@ fn values_of(alloc: Global, text: &str) -> Result<Vec<Value>, EdnError>
 
 /// The values of the text that the reader gives, read in at most `reads` reads.
 ///
-/// # Errors
-///
-/// Those of `read_bytes`, then `Utf8`, then the text's first error, with its line.
+/// Errors: those of `read_bytes`, then `Utf8`, then the text's first error, with its line.
 pub fn read_all<R: Read>(alloc: Global, reader: &mut R, reads: u32) -> Result<Vec<Value>, EdnError>
     ensures values { IfOk result
         (λ v. IfSome (R.remaining reader.old) (λ bytes. SpellsAll (views v.items) bytes)) }

@@ -15,9 +15,7 @@ const BUFFER_LEN: usize = 65_536;
 /// There are at most `reads` reads; the one that finds the end counts, and so does one that was
 /// interrupted. After an error the reader stands where its last read left it.
 ///
-/// # Errors
-///
-/// `Read` where a read failed, `TooLong` where the end was not seen within `reads` reads,
+/// Errors: `Read` where a read failed, `TooLong` where the end was not seen within `reads` reads,
 /// `OutOfMemory`.
 pub fn read_bytes<R: Read>(alloc: Global, reader: &mut R, reads: u32) -> Result<Vec<u8>, EdnError>
     ensures bytes { IfOk result (λ v. IfSome (R.remaining reader.old) (λ all. v.items ≡ all)) }

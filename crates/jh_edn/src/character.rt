@@ -17,7 +17,8 @@ use crate::scan::token_len;
 use crate::syntax_error::{ReadError, SyntaxErrorKind, syntax_error_at};
 use crate::value::Value;
 
-/// White space, but for the comma.
+/// White space, but for the comma: what may not stand behind a backslash. What `blank_len` of
+/// `scan.rt` passes over is more: commas and comments too.
 #[tactic(auto, unfolding(crate::specs::Bytes::is_blank))]
 fn is_blank(c: char) -> bool
     ensures { result ≡ bytes.is_blank c }

@@ -10,9 +10,7 @@ use std::alloc::{AllocError, Global};
 impl Text {
     /// A text of the same characters.
     ///
-    /// # Errors
-    ///
-    /// Where there is no memory for it.
+    /// Errors: where there is no memory for it.
     pub fn copy(&self, alloc: Global) -> Result<Text, AllocError>
         ensures { IfOk result (λ text. text ≡ self.now) }
     {
@@ -24,9 +22,7 @@ impl Value {
     /// The same value once more: lists stay lists, and members stay in their order. Costs as much
     /// as the value is large.
     ///
-    /// # Errors
-    ///
-    /// Where there is no memory for it.
+    /// Errors: where there is no memory for it.
     #[cycle(copy)]
     pub fn copy(&self, alloc: Global) -> Result<Value, AllocError>
         ensures { IfOk result (λ value. view value ≡ view self.now) }
@@ -51,9 +47,7 @@ impl Value {
 impl Pairs {
     /// The same pairs once more, in their order. Costs as much as they are large.
     ///
-    /// # Errors
-    ///
-    /// Where there is no memory for them.
+    /// Errors: where there is no memory for them.
     pub fn copy(&self, alloc: Global) -> Result<Pairs, AllocError>
         ensures { IfOk result (λ copies. copies ≡ self.now) }
     {

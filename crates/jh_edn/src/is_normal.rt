@@ -118,14 +118,14 @@ fn is_above(value: &Value, last: Option<&Value>) -> bool
     }
 }
 
-/// Every integer of 64 bits is one.
+/// Whether an integer fits 64 bits. Each `i64` does; the clause says so to the prover.
 fn is_integer(_n: i64) -> bool
     ensures { result ≡ nat_lt (magnitude _n) (2 ^ 63) }
 {
     true
 }
 
-/// Every character is one.
+/// Whether a character is a Unicode scalar value. Each `char` is; the clause says so to the prover.
 fn is_character(_c: char) -> bool
     ensures { result ≡ scalar _c }
 {

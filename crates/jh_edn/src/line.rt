@@ -38,10 +38,8 @@ pub(crate) fn line_values(alloc: Global, text: &str) -> Result<Vec<Value>, ReadE
 ///
 /// Takes time as `read_one` does. `read_all` reads a whole reader instead.
 ///
-/// # Errors
-///
-/// The error whose deciding character comes first, with its line in the text; `OutOfMemory` where
-/// memory was refused before that.
+/// Errors: the error whose deciding character comes first, with its line in the text; `OutOfMemory`
+/// where memory was refused before that.
 pub fn values_in_line(alloc: Global, text: &str) -> Result<Vec<Value>, EdnError>
     ensures values { IfOk result (λ v. values_in text.now ≡ Ok (views v.items)) }
     ensures first_error { IfErr result

@@ -26,9 +26,7 @@ impl Value {
     ///
     /// Takes n log n comparisons for a map of n pairs or a set of n elements.
     ///
-    /// # Errors
-    ///
-    /// Where there is no memory for it.
+    /// Errors: where there is no memory for it.
     #[cycle(normal)]
     pub fn normal(&self, alloc: Global) -> Result<Value, AllocError>
         ensures { IfOk result (λ v. view v ≡ normal.normal (view self.now)) }

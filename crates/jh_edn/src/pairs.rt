@@ -21,7 +21,7 @@ use std::alloc::{AllocError, Global};
 use std::collections::BTreeSet;
 
 /// Fingerprints. Those of a map of up to 16 keys take no memory.
-type Numbers = SmallVec<u64, 16>;
+type Fingerprints = SmallVec<u64, 16>;
 
 /// The elements two by two, or `None` where one is left over.
 pub(crate) fn make_pairs(alloc: Global, items: Vec<Value>) -> Result<Option<Pairs>, AllocError>
@@ -75,7 +75,7 @@ fn each_once(numbers: &mut [u64]) -> bool
 }
 
 /// The fingerprint of each key.
-fn key_numbers(alloc: Global, pairs: &Pairs) -> Result<Numbers, AllocError>
+fn key_fingerprints(alloc: Global, pairs: &Pairs) -> Result<Fingerprints, AllocError>
     ensures { IfOk result (λ ns. ns.items ≡ map (λ m. fingerprint m.0) pairs.now) }
 {
     let mut numbers = SmallVec::with_capacity(alloc, pairs.items.len())?;
@@ -86,7 +86,7 @@ fn key_numbers(alloc: Global, pairs: &Pairs) -> Result<Numbers, AllocError>
 }
 
 /// The fingerprint of each element.
-fn item_numbers(alloc: Global, items: &Values) -> Result<Numbers, AllocError>
+fn item_fingerprints(alloc: Global, items: &Values) -> Result<Fingerprints, AllocError>
     ensures { IfOk result (λ ns. ns.items ≡ fingerprints items.now) }
 {
     let mut numbers = SmallVec::with_capacity(alloc, items.items.len())?;
@@ -110,12 +110,12 @@ fn map_keys(alloc: Global, pairs: &Pairs) -> Result<Vec<Vec<Part<'_>>>, AllocErr
 }
 
 /// Whether two keys of the map are equal. Takes n log n comparisons in a map of n pairs: of
-/// numbers, and of keys only where two fingerprints agree.
+/// fingerprints, and of the keys of `key.rt` only where two of these agree.
 #[tactic(auto, unfolding(crate::specs::Reading::repeats_key))]
 pub(crate) fn repeats_key(alloc: Global, pairs: &Pairs) -> Result<bool, AllocError>
     ensures { IfOk result (λ b. b ≡ reading.repeats_key pairs.now) }
 {
-    let mut numbers = key_numbers(alloc, pairs)?;
+    let mut numbers = key_fingerprints(alloc, pairs)?;
     if each_once(numbers.as_mut_slice()) {
         return Ok(false);
     }
@@ -123,12 +123,12 @@ pub(crate) fn repeats_key(alloc: Global, pairs: &Pairs) -> Result<bool, AllocErr
 }
 
 /// Whether two elements of the set are equal. Takes n log n comparisons in a set of n elements: of
-/// numbers, and of keys only where two fingerprints agree.
+/// fingerprints, and of the keys of `key.rt` only where two of these agree.
 #[tactic(auto, unfolding(crate::specs::Reading::repeats_element))]
 pub(crate) fn repeats_element(alloc: Global, items: &Values) -> Result<bool, AllocError>
     ensures { IfOk result (λ b. b ≡ reading.repeats_element items.now) }
 {
-    let mut numbers = item_numbers(alloc, items)?;
+    let mut numbers = item_fingerprints(alloc, items)?;
     if each_once(numbers.as_mut_slice()) {
         return Ok(false);
     }

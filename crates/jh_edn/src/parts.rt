@@ -1,5 +1,6 @@
-//! What stands in a line that is a map: pairs behind others, and vectors of what has a value.
-//! `specs/Parts.antt` has the rule. Those who have results of their own write them with it.
+//! A line that is a map is written pair by pair, and no value is made of it: a pair may hold a
+//! vector of elements. `specs/Parts.antt` has the rule. A crate that has results of its own writes
+//! them as an `Element`.
 
 ghost use Rattle.std.specs.Prelude.{◌≡◌, IfErr, OnOk, codes, map, pos};
 ghost use Rattle.std.specs.Io.KnownBytes.{Appends};

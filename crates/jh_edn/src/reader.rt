@@ -49,10 +49,8 @@ pub(crate) fn error_in(text: &str, error: ReadError) -> EdnError
 /// Takes time in proportion to the text read, but for keys of maps and elements of sets: n of them
 /// take n log n comparisons.
 ///
-/// # Errors
-///
-/// The error whose deciding character comes first, with its line in the whole text; `OutOfMemory`
-/// where memory for a value or its keys was refused before that.
+/// Errors: the error whose deciding character comes first, with its line in the whole text;
+/// `OutOfMemory` where memory for a value or its keys was refused before that.
 pub fn read_one(alloc: Global, text: &str, at: usize) -> Result<Option<(Value, usize)>, EdnError>
     requires { IsCharBoundary text.now at }
     ensures some { IfOk result (λ o. IfSome o (λ p. Reads text.now at (view p.0) p.1)) }

@@ -77,11 +77,9 @@ fn give_elements<'a, S: Sink>(
 ///
 /// Takes the time that `read_one` takes, and the memory of one element at a time.
 ///
-/// # Errors
-///
-/// The error whose deciding character comes first, with its line in the whole text; `OutOfMemory`
-/// where memory for an element, or for the sink, was refused before that. The sink may have taken
-/// elements before.
+/// Errors: the error whose deciding character comes first, with its line in the whole text;
+/// `OutOfMemory` where memory for an element, or for the sink, was refused before that. The sink
+/// may have taken elements before.
 pub fn read_sequence<S: Sink>(
     alloc: Global,
     text: &str,

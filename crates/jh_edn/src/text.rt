@@ -82,9 +82,7 @@ impl Model for Text {
 impl Text {
     /// A copy of the text.
     ///
-    /// # Errors
-    ///
-    /// Where it has more than 15 bytes and there is no memory for them.
+    /// Errors: where it has more than 15 bytes and there is no memory for them.
     pub fn of(alloc: Global, text: &str) -> Result<Text, AllocError>
         ensures { IfOk result (λ copy. copy ≡ text.now) }
     {
@@ -97,9 +95,7 @@ impl Text {
 
     /// The text of a string. A long one stays where it is.
     ///
-    /// # Errors
-    ///
-    /// Where it is long and there is no memory for what points to it.
+    /// Errors: where it is long and there is no memory for what points to it.
     pub(crate) fn of_string(alloc: Global, text: String) -> Result<Text, AllocError>
         ensures { IfOk result (λ kept. kept ≡ string_bytes text) }
     {

@@ -149,9 +149,7 @@ impl Value {
     /// The keyword of this name, without its colon. Whether the name is one that a text may have is
     /// not looked at.
     ///
-    /// # Errors
-    ///
-    /// Where there is no memory to hold the name.
+    /// Errors: where there is no memory to hold the name.
     pub fn keyword(alloc: Global, name: &str) -> Result<Value, AllocError>
         ensures { IfOk result (λ value. view value ≡ edn.keyword name.now) }
     {
@@ -251,9 +249,7 @@ impl Value {
 impl Tagged {
     /// The element behind a tag.
     ///
-    /// # Errors
-    ///
-    /// Where there is no memory to hold the element.
+    /// Errors: where there is no memory to hold the element.
     pub fn of(alloc: Global, tag: Text, element: Value) -> Result<Tagged, AllocError>
         ensures { IfOk result (λ t. (t.0 ≡ tag) × (t.1 ≡ view element)) }
     {

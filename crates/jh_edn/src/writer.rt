@@ -177,9 +177,7 @@ fn write_char<W: Write>(c: char, writer: &mut W) -> Result<(), EdnError>
 ///
 /// Takes no memory. The writer may have taken a part of the text where it failed.
 ///
-/// # Errors
-///
-/// `Write` where the writer failed, and no other.
+/// Errors: `Write` where the writer failed, and no other.
 #[cycle(write)]
 pub fn write<W: Write>(value: &Value, writer: &mut W) -> Result<(), EdnError>
     ensures bytes { OnOk result

@@ -37,7 +37,7 @@ link_of env a b = link_at (cells_of env) a b
 abbrev pub node_of : EnvValue → ℕ → Option NodeCell
 node_of env a = node_at (cells_of env) a
 
--- how often a cell or the entry of a fix was written since the start
+-- how often a count, a sum or the entry of a fix was written since the start
 abbrev pub work_of : EnvValue → ℕ
 work_of env = env.tallies.work
 

@@ -108,7 +108,7 @@ impl Env {
         self.tables.laid()
     }
 
-    /// How often a cell, or the entry of a fix, was written since the start, up to 2^64 - 1.
+    /// How often a count, a sum or the entry of a fix was written since the start, up to 2^64 - 1.
     pub fn work(&self) -> u64
         ensures { result ≡ work_of self.now }
     {
@@ -116,8 +116,8 @@ impl Env {
     }
 
     /// Puts a fault on the cells, at the place of its stamp among those that stand; none of them
-    /// has that stamp. It takes no memory. At most one cell is written for each link or node that
-    /// the fault names, and one entry for a fix.
+    /// has that stamp. It takes no memory. At most one count or sum is written for each link or
+    /// node that the fault names, and one entry for a fix.
     pub fn put(&mut self, fault: &Fault, stamp: u32)
         requires fits { FitsCount (length self.old.names) fault.now }
         requires room { self.old.laid < max_laid }

@@ -186,7 +186,7 @@ impl Nodes {
         Node::at(place as u8)
     }
 
-    /// All nodes, in the order of their names. Takes no memory.
+    /// All nodes, by place. Takes no memory.
     pub fn all(&self) -> ArrayVec<Node, MAX_NODES>
         ensures all { result.items ≡ node_places (length self.now) }
         ensures known { All (λ node. node < length self.now) result.items }

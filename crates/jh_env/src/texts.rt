@@ -107,7 +107,7 @@ impl From<StartError> for EnvTextError {
     }
 }
 
-/// The environment that a value is the text of, at its start: no cell of it has been written.
+/// The environment that a value is the text of, at its start: nothing of it has been written since.
 ///
 /// Errors, in this order: `NotMap`; `UnknownKey` for a key that is none of the six; `MissingNodes`;
 /// `BadEntry` where what stands under a key does not have the key's shape; `NoNodes`,

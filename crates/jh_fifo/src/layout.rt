@@ -32,8 +32,9 @@ pub(crate) fn finds_empty(ops: &[FifoOp], place: usize) -> bool
     }
 }
 
-/// Lays down the dequeues of what waits, from the span `gone` on, as far as they can be had by
-/// then; the number of the first span that still waits.
+/// Puts the dequeues of the spans from `gone` up to `come` into the order, as far as their values
+/// can be taken out by the time `until`. The answer is the number of the first span that is still
+/// in the queue.
 fn let_go(
     order: &mut Vec<usize>,
     spans: &[Span],

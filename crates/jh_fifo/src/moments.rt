@@ -55,7 +55,7 @@ fn first_free(values: &[Span], entered: &[(u128, usize)], sweep: Sweep) -> Sweep
     }
 }
 
-/// The same spans, at an invocation if that is later.
+/// The same sweep, moved on to the invocation of an operation where that is later.
 fn no_earlier(sweep: Sweep, ops: &[FifoOp], place: usize) -> Sweep
     requires { place < length ops.now }
     ensures passed { result.passed ≡ sweep.passed }

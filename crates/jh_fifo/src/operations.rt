@@ -1,4 +1,5 @@
-//! The operations of a queue.
+//! The operations of a queue. A place by itself is that of an operation in the list of them; a
+//! place of the history is called so, and is a time.
 
 ghost use Rattle.std.specs.Prelude.{◌≡◌, ◌<◌, length};
 ghost use Rattle.jh_fifo.specs.Reasons.{call_at};

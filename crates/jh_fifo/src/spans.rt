@@ -17,13 +17,13 @@ pub(crate) struct Span {
     pub(crate) place: usize,
     /// The place of the dequeue of its value.
     pub(crate) dequeue: Option<usize>,
-    /// No earlier the value was put in.
+    /// The earliest time at which the value can have been put in.
     pub(crate) from: u128,
-    /// No later it was put in.
+    /// The latest time at which it was put in.
     pub(crate) entered: u128,
-    /// No earlier it was taken out.
+    /// The earliest time at which it can have been taken out.
     pub(crate) leaving: u128,
-    /// No later it was taken out.
+    /// The latest time at which it was taken out; `NEVER` where it may still be there.
     pub(crate) left: u128,
 }
 

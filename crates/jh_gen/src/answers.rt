@@ -47,7 +47,7 @@ pub enum GenError {
     /// The thread has an operation outstanding.
     #[error("busy thread")]
     BusyThread,
-    /// As many calls were given as a driver gives.
+    /// `MAX_CALLS` calls were given, the most that a driver gives.
     #[error("too many operations")]
     TooManyOps,
     /// The thread has no operation outstanding.

@@ -77,7 +77,8 @@ pub fn recorded_part(text: &str) -> Option<RecordedPart>
     Some(RecordedPart { start, end })
 }
 
-/// Whether an error does not come from what a text holds.
+/// Whether no part of the text is worth a try either: its bytes could not be read or are no UTF-8,
+/// or memory ran out.
 fn is_of_bytes(error: ReadHistoryError) -> bool
     ensures { IsTrue result ↔ IsOfBytes error }
 {

@@ -38,6 +38,7 @@ pub fn judge_run(alloc: Global, plan: &Plan, budget: u64) -> Result<JudgedRun, R
         (Stops plan.now) }
     ensures setup { IfOk result (λ run. run.world.setup ≡ setup_of plan.now) }
 {
+    // By these laws no checker refuses the history of a run, and its printed lines are a text of it.
     own_histories_are_judged();
     own_lines_are_text();
     let (world, history) = run_serial(alloc, plan)?;

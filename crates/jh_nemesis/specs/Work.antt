@@ -6,7 +6,8 @@ use Rattle.jh_nemesis.specs.State.{State, Active, is_active}
 use Rattle.jh_nemesis.specs.Steps.{state_after}
 use Rattle.jh_nemesis.specs.declared.steps.Step.{Step}
 
--- a nemesis: its state, and how often a cell of its environment or an entry of a fix was written
+-- a nemesis: its state, and how often a count, a sum or an entry of a fix of its environment was
+-- written
 pub record NemesisValue : Type 0 where
   pub state : State
   pub work : ℕ

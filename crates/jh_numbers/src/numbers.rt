@@ -158,9 +158,7 @@ impl Numbers {
     /// Takes the time of one comparison where it is asked for behind the same value as the last time, else that of one look
     /// into a hash table, and of a copy in normal form where it has no number yet or other values stand in it.
     ///
-    /// # Errors
-    ///
-    /// Where there is no memory. The numbers stay as they were.
+    /// Errors: where there is no memory. The numbers stay as they were.
     pub fn number(
         &mut self,
         alloc: Global,

@@ -38,8 +38,9 @@ pub enum Call {
     Step(u32),
 }
 
-/// What a test asks a database to be, which gives the requests that a run may make and the checker
-/// of its history.
+/// What clients ask of a database that is run here: it says which requests a run may make, and
+/// which checker judges its history. `--workload` of `check` has more names, those of `Checker` of
+/// `jh_checkers`.
 #[derive(Clone, Copy, Debug, PartialEq, Eq)]
 pub enum Workload {
     /// One value that is read, written, and compared and set.

@@ -12,7 +12,9 @@ ghost use Rattle.jh_ops.specs.Words as words;
 use crate::operation::Kind;
 use jh_edn::Value;
 
-/// The greatest number of integers in a recorded vector.
+/// The greatest number of integers in a recorded vector: a claim of `jh_slots` has at most 255 rows
+/// of five words, and the heading takes three of them. `jh_workers` has the same number
+/// (`MAX_INTEGERS`).
 pub(crate) const MAX_INTEGERS: usize = 1272;
 
 /// What a recorded operation asks for (`:f`).

@@ -35,7 +35,9 @@ fn nodes_named(count: usize, choice: u64) -> usize
     }
 }
 
-/// Milliseconds of a delay.
+/// Milliseconds of a delay. An answer comes in time where the links there and back take at most
+/// 1,000 together (`MAX_ANSWER_MS` of `jh_simnode`): delayed both ways, and by nothing else, the
+/// first two leave it in time, and the last two do not.
 fn drawn_delay(choice: u64) -> u64
     ensures delay { result ≡ rule.drawn_delay choice }
     ensures slow { env.IsSlowAmount result }

@@ -5,8 +5,8 @@ use jh_random_faults::Palette;
 
 /// What a search takes beside a plan: which candidates are made and tried, and by which budget each is
 /// judged. On how many threads they are tried is no option, for the answer is the same. What a
-/// command line asks is `jh_cli::SearchQuestion`: it may leave the kinds of faults out, or ask to
-/// show one candidate.
+/// command line asks is `jh_cli::SearchQuestion`: its kinds may be unknown, where a name is none of
+/// a kind, and it may ask to show one candidate.
 #[derive(Clone, Copy, Debug, PartialEq, Eq)]
 pub struct Options {
     /// The number of the first candidate.

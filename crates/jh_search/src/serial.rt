@@ -14,7 +14,8 @@ use std::alloc::{AllocError, Global};
 pub struct Searched {
     /// The number of the least candidate that fails, where one does.
     pub failing: Option<u64>,
-    /// How many of those below it are unknown, or of all.
+    /// Of how many candidates below it the verdict is unknown; where none fails, of how many in
+    /// all.
     pub unknown: u64,
 }
 

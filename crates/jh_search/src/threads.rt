@@ -223,8 +223,8 @@ fn after_block(
 
 /// Tries candidates on so many threads, this one among them: what is found is what `search_serial`
 /// may find, the least candidate that fails, whatever the number of threads. A thread that is free
-/// takes the next candidate, and none above one that fails is begun. All threads have ended when
-/// it returns. It tells an observer after each 1,024 candidates how many were tried.
+/// takes the next candidate, and once one is known to fail none above it is begun. All threads have
+/// ended when it returns. It tells an observer after each 1,024 candidates how many were tried.
 ///
 /// May wait, and promises only if it returns. Takes the time of each run and of its judge, and
 /// memory for one at a time for each thread, and 2 bytes for each candidate of 1,024 at once.

@@ -29,7 +29,8 @@ pub(crate) struct Tables {
     pub(crate) shown: Vec<Sighting>,
     /// The reads that happened.
     pub(crate) reads: Vec<Pair>,
-    /// Where the last of them was invoked that completes nearer to the end.
+    /// For each distance from the end of the history: where the last of them was invoked, of those
+    /// that completed nearer to the end (`newest.rt`).
     pub(crate) newest: Vec<Option<usize>>,
 }
 
@@ -198,8 +199,8 @@ fn next_invoked(shown: &[Sighting], place: usize) -> Option<usize>
     }
 }
 
-/// The place where the first of all reads was invoked that does not show an element. Those that show
-/// it stand in the same order, so it is the first at which the two lists differ.
+/// The place where the last read was invoked that does not show an element. Both lists begin with
+/// the read that was invoked last, so it is the first at which they differ.
 ///
 /// Takes as many steps as reads show the element, and one more.
 fn first_lacking(reads: &[Pair], shown: &[Sighting]) -> Option<usize>
@@ -234,7 +235,7 @@ fn spot_since(history: &[Op], tables: &Tables, shown: &[Sighting], add: Pair) ->
     }
 }
 
-/// The first of the operations.
+/// The operation at the front: as these lists stand, the one that was invoked last.
 fn first_pair(sightings: &[Sighting]) -> Option<Pair>
     ensures { result ≡ slice_get (sighted_pairs sightings.now) 0 }
 {

@@ -13,7 +13,7 @@ use thiserror::Error;
 /// How many bytes a key has at most that is shown itself.
 pub(crate) const MAX_SHOWN_KEY: usize = 200;
 
-/// The text of a key that no setting has. A contract sees its bytes, which are UTF-8.
+/// The text of a key that is none of the command's. A contract sees its bytes, which are UTF-8.
 ///
 /// It is shown on one line: control characters are written as `\u{..}`, with their number in
 /// hexadecimal digits, and all others as they are. A key of more than 200 bytes is shown by how
@@ -66,13 +66,15 @@ impl Display for KeyText {
     }
 }
 
-/// Why settings are refused. The first that applies is given, in the order of the variants.
+/// Why settings are refused. Of a run the first that applies is given, in the order of the
+/// variants; of a test a key that says how keys are shared may be missing behind a bad value
+/// (`drive_settings_in`).
 #[derive(Debug, Drop, Error)]
 pub enum SettingsError {
     /// The bytes are not UTF-8, or spell no TOML document.
     #[error("not TOML")]
     NotToml,
-    /// A key that no setting has, the first of such in byte order.
+    /// A key that is none of the command's, the first of such in byte order.
     #[error("{0}: unknown")]
     Unknown(KeyText),
     /// A needed key does not stand in the document, the first of such in their order.

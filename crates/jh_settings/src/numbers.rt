@@ -24,10 +24,10 @@ pub(crate) const DEFAULT_ROWS: u64 = 4_096;
 /// The greatest seed: the greatest integer of TOML.
 pub(crate) const MAX_SEED: u64 = i64::MAX as u64;
 
-/// The greatest budget of a judgement.
+/// The greatest budget of a judgement, in configurations.
 pub const MAX_BUDGET: u64 = 10_000_000;
 
-/// The budget of a judgement, where settings have none.
+/// The budget of a judgement, in configurations, where settings have none.
 pub(crate) const DEFAULT_BUDGET: u64 = 100_000;
 
 /// The latest moment of a test, in milliseconds: a day. So is `MAX_SPREAD_MS` of `jh_arguments`,

@@ -176,11 +176,11 @@ fn settings_in(alloc: Global, table: &Table) -> Result<RunSettings, SettingsErro
 ///
 /// Takes time and memory in proportion to the bytes.
 ///
-/// Errors, in this order: `NotToml`; `Unknown` with the first key, in byte order, that no setting
-/// has; `Missing` with the first needed key that does not stand there; `BadValue` with the first
-/// key, in their order, whose value is bad by itself, and then with `Generator` where it
-/// does not suit the workload and the number of clients (`Gen::suits`); `OutOfMemory` where memory
-/// was refused before another error was found.
+/// Errors, in this order: `NotToml`; `Unknown` with the first key, in byte order, that is none of
+/// `run_keys`; `Missing` with the first needed key that does not stand there; `BadValue` with the
+/// first key, in their order, whose value is bad by itself, and then with `Generator` where it does
+/// not suit the workload and the number of clients (`Gen::suits`); `OutOfMemory` where memory was
+/// refused before another error was found.
 pub fn settings_of(alloc: Global, bytes: &[u8]) -> Result<RunSettings, SettingsError>
     ensures { MatchResult result
         (λ settings. AreSettingsOf bytes.now settings.plan settings.mode settings.budget)

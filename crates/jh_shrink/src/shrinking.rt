@@ -52,7 +52,8 @@ pub trait ScheduleJudge {
     /// The second is what the first becomes by being asked.
     ghost becomes: { Self → Self → Type 0 };
 
-    /// Whether a schedule fails, or nothing where that can't be said.
+    /// Whether a schedule fails, or nothing where that can't be said. One that does not fail
+    /// passes, also where it is not known to be good.
     fn judge(&mut self, schedule: &Schedule) -> Option<bool>
         requires ready { is_ready self.old }
         requires room { asked self.old + 1 < 2 ^ 64 }

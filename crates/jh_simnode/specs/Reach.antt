@@ -1,4 +1,4 @@
--- Whom a call of a node reaches, and whom it hears in time (this project's own).
+-- Which nodes a call of a node reaches, and which respond in time (this project's own).
 use Rattle.std.specs.Prelude.{ℕ, ◌+◌, ◌%◌, ◌==◌, ◌&&◌, ◌||◌, Bool, true, false, not}
 use Rattle.std.specs.Prelude.{List, Option, Some, None, nat_le, filter, option_map}
 use Rattle.jh_tables.specs.Limits.{max_loss}

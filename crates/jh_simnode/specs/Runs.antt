@@ -29,7 +29,7 @@ use Rattle.jh_simnode.specs.Events.{Setup, IsLegal}
 use Rattle.jh_simnode.specs.Histories.{journal_history}
 use Rattle.jh_simnode.specs.Plans.{PlanValue}
 
--- the world of a plan
+-- what the world of a plan keeps for good
 abbrev pub setup_of : PlanValue → Setup
 setup_of p = record { names = p.env.names; start = p.env.start; database = p.database }
 

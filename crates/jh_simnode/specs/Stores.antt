@@ -86,9 +86,9 @@ lww_change replicas stamp reached (Some e) =
 
 -- a change at a majority, of which so many nodes respond
 abbrev pub quorum_change : List Replica → ℕ → List ℕ → ℕ → Option RequestEffect → ReplyAndReplicas
-quorum_change replicas best reached answering None = reply_alone replicas Fail
-quorum_change replicas best reached answering (Some e) = record {
-  reply = if nat_lt answering (majority (length replicas)) then Info else Ok e.got;
+quorum_change replicas best reached responding None = reply_alone replicas Fail
+quorum_change replicas best reached responding (Some e) = record {
+  reply = if nat_lt responding (majority (length replicas)) then Info else Ok e.got;
   replicas =
       replicas_with_new_at
       (record { recency = Version (version_at replicas best + 1); contents = e.after }) replicas
@@ -110,16 +110,16 @@ lww_reply env replicas at node request draw =
 
 -- a read of the greatest version of those that respond; fails below a majority
 abbrev pub quorum_read : List Replica → List ℕ → ReplyAndReplicas
-quorum_read replicas answering =
-    if nat_lt (length answering) (majority (length replicas)) then reply_alone replicas Fail
+quorum_read replicas responding =
+    if nat_lt (length responding) (majority (length replicas)) then reply_alone replicas Fail
     else reply_alone replicas
-    (Ok (got_of (replica_at replicas (newest_place replicas answering)).contents))
+    (Ok (got_of (replica_at replicas (newest_place replicas responding)).contents))
 
 -- a change of the greatest version reached; fails below a majority
 abbrev pub quorum_write : List Replica → List ℕ → ℕ → Request → ReplyAndReplicas
-quorum_write replicas reached answering request =
+quorum_write replicas reached responding request =
     if nat_lt (length reached) (majority (length replicas)) then reply_alone replicas Fail
-    else quorum_change replicas (newest_place replicas reached) reached answering
+    else quorum_change replicas (newest_place replicas reached) reached responding
     (effect request (replica_at replicas (newest_place replicas reached)).contents)
 
 -- the store of quorums

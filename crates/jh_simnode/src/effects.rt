@@ -84,7 +84,8 @@ fn add(amount: i64, value: Option<i64>) -> Option<RequestEffect>
     }
 }
 
-/// What the next number makes of the numbers that are left.
+/// What a new id makes of the number that is held: the id is that number, and the next one is held
+/// after it.
 fn generate(value: Option<i64>) -> Option<RequestEffect>
     ensures { result ≡ generate_change value }
 {

@@ -108,7 +108,7 @@ pub struct PlanData {
     pub database: Database,
     /// How many client threads make calls: 1 to 16.
     pub clients: u32,
-    /// How many calls are made: 1 to `Workload::max_calls`; each makes two `Op`s.
+    /// How many calls are made at most: 1 to `Workload::max_calls`; each makes two `Op`s.
     pub ops: u32,
     /// Where the calls come from.
     pub generator: Gen,

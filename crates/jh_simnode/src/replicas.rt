@@ -56,10 +56,11 @@ pub enum Reply {
 pub enum Recency {
     /// As at first.
     First,
-    /// The number of changes, in a store of quorums.
+    /// In a store of quorums: one more than the greatest version that the change reached. Where
+    /// killed nodes lose their replicas, two changes can have the same one.
     Version(u64),
-    /// The time of the last change, the event's number and the clock of its node together, and the
-    /// place of that node.
+    /// The time of the last change, which is its event's number plus the milliseconds by which the
+    /// clock of its node is ahead, and the place of that node.
     Stamp(i128, u8),
 }
 

@@ -321,7 +321,7 @@ fn serve_local(
     }
 }
 
-/// The time of a stamp: the event's number and the node's clock together.
+/// The time of a stamp: the event's number and the node's clock, added.
 fn stamp_time(number: u64, clock: i64) -> i128
     ensures { result ≡ pos number +ℤ clock }
 {
@@ -370,17 +370,17 @@ fn serve_lww(
 fn quorum_read(
     alloc: Global,
     replicas: &[Replica],
-    answering: &[Node],
+    responding: &[Node],
 ) -> Result<ReplyAndTaken, AllocError>
-    requires known { All (λ p. p < length replicas.now) answering.now }
+    requires known { All (λ p. p < length replicas.now) responding.now }
     requires some { 0 < length replicas.now }
     ensures { IfOk result
-        (λ served. GivesReply replicas.now served (quorum_read replicas.now answering.now)) }
+        (λ served. GivesReply replicas.now served (quorum_read replicas.now responding.now)) }
 {
-    if answering.len() < replicas.len() / 2 + 1 {
+    if responding.len() < replicas.len() / 2 + 1 {
         return Ok(unchanged(alloc, Reply::Fail));
     }
-    let best = newest(replicas, answering).place() as usize;
+    let best = newest(replicas, responding).place() as usize;
     let got = replicas[best].contents.got(alloc)?;
     Ok(unchanged(alloc, Reply::Ok(got)))
 }
@@ -391,7 +391,7 @@ fn quorum_write(
     alloc: Global,
     replicas: &[Replica],
     reached: &[Node],
-    answering: usize,
+    responding: usize,
     request: Request,
 ) -> Result<ReplyAndTaken, AllocError>
     requires known { All (λ p. p < length replicas.now) reached.now }
@@ -399,7 +399,7 @@ fn quorum_write(
     requires low { (place : ℕ) → version_at replicas.now place < max_events }
     ensures { IfOk result
         (λ served. GivesReply replicas.now served
-        (quorum_write replicas.now reached.now answering request)) }
+        (quorum_write replicas.now reached.now responding request)) }
 {
     if reached.len() < replicas.len() / 2 + 1 {
         return Ok(unchanged(alloc, Reply::Fail));
@@ -412,7 +412,7 @@ fn quorum_write(
                 contents: change.after,
             };
             let taken = give_all(alloc, replicas, &new, reached)?;
-            let reply = if answering < replicas.len() / 2 + 1 {
+            let reply = if responding < replicas.len() / 2 + 1 {
                 Reply::Info
             } else {
                 Reply::Ok(change.got)
@@ -440,11 +440,11 @@ fn serve_quorum(
         (quorum_reply (env_cells env.now) replicas.now node request draw)) }
 {
     let reached = reached_nodes(env, draw, node);
-    let answering = responding_nodes(env, node, &reached);
+    let responding = responding_nodes(env, node, &reached);
     if is_read_request(request) {
-        return quorum_read(alloc, replicas, &answering);
+        return quorum_read(alloc, replicas, &responding);
     }
-    quorum_write(alloc, replicas, &reached, answering.len(), request)
+    quorum_write(alloc, replicas, &reached, responding.len(), request)
 }
 
 /// What a node replies to a request, and the replicas after it.

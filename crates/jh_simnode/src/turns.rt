@@ -179,6 +179,7 @@ impl Run {
             Ok(GenAnswer::Call(process, Call::Client(request))) => {
                 Assignment::Calls(number_of(process), request)
             }
+            // This never comes: the generator of a plan has no steps.
             Ok(GenAnswer::Call(_, Call::Step(_))) => {
                 self.has_ended = true;
                 Assignment::Ends

@@ -22,7 +22,7 @@ use std::marker::Model;
 
 /// An environment under faults, the replicas of a database on its nodes, and a journal of all that
 /// happened. A contract sees what the world keeps for good, its names, starting cells and database,
-/// and the journal.
+/// the journal, and how often the environment was written.
 #[derive(Debug, Drop)]
 pub struct World {
     alloc: Global,

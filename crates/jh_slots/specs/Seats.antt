@@ -114,7 +114,8 @@ AreClaimsApart v =
 abbrev pub BeginsAbove : Knowledge → ℕ → Type 0
 BeginsAbove v first = (v.low ≤ first) × ((r : ℕ) (m : Mark) → map.get v.seen r ≡ Some m → r < first)
 
--- two seats have seen the same marks, and their claims have no row in common
+-- of each row that both seats have seen they have seen the same mark, and their claims have no row
+-- in common
 abbrev pub Agree : Knowledge → Knowledge → Type 0
 Agree v w =
     ((r : ℕ) (m n : Mark) → map.get v.seen r ≡ Some m → map.get w.seen r ≡ Some n → m ≡ n)

@@ -1,5 +1,5 @@
 //! Counted tables: what a link and a node are like, faults that are put on them and taken off, and
-//! how often a cell is written for it.
+//! how often a count, a sum or an entry is written for it.
 #![tactic(auto)]
 
 mod cells;

@@ -81,6 +81,7 @@ fn own_entries(alloc: Global, test: &Test) -> Result<Vec<TestEntry>, AllocError>
     ensures entries { IfOk result (λ entries. entries.items ≡ test.now.schedule) }
     ensures kept { IfOk result (λ entries. AreEntriesForTest test.now entries.items) }
 {
+    // The answer is not used: this call's contract says that the test can be made.
     let _clients = test.clients();
     entries_copied(alloc, test.schedule())
 }

@@ -24,6 +24,7 @@ fn faults_until(test: &Test) -> When
     ensures some { IsAfterBeginning result }
     ensures writable { IsWritableWithin test.now result }
 {
+    // The answer is not used: this call's contract says that the test can be made.
     let _clients = test.clients();
     match test.time_limit() {
         Some(limit) => When::Milliseconds(limit.max(1)),

@@ -19,8 +19,8 @@ use Rattle.jh_ops.specs.Operation.{operation}
 use Rattle.jh_test_parts.specs.declared.line.LineMeaning.{LineMeaning}
 use Rattle.jh_test_parts.specs.declared.line.LineMeaning.TheVariants as meant
 
--- What a line means by itself: nothing; a time in nanoseconds; stop; an operation, with its time, where
--- it has one; or nothing that can be understood.
+-- What a line means by itself: nothing, where it has no element; a time in nanoseconds; stop; an
+-- operation, with its time, where it has one; or it is no reply, for a reason.
 pub data MeaningValue : Type 0 where
   Nothing : MeaningValue
   Clock : ℕ → MeaningValue

@@ -14,7 +14,7 @@ pub enum Complaint {
     /// means nothing.
     Edn(EdnError),
     MoreThanOne,
-    /// What the text of no operation is.
+    /// Why its element is no operation.
     Op(OpError),
     BadTime,
     NoStepOpen,

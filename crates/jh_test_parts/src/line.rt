@@ -18,13 +18,15 @@ use std::str;
 /// What a line means by itself.
 #[derive(Drop)]
 pub enum LineMeaning {
+    /// It has no element.
     Nothing,
     /// So many nanoseconds have passed since the test began.
     Clock(u64),
+    /// Whoever looks after the test wants its calls to end.
     Stop,
     /// An operation, with its time, where it has one.
     Op(Op, Option<u64>),
-    /// Nothing that can be understood.
+    /// It is no reply, for this reason.
     Bad(Complaint),
 }
 

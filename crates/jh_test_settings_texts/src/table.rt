@@ -71,7 +71,7 @@ pub(crate) fn put_seed_and_schedule(
     ensures ordered { OnOk result (IsOrdered string_cmp table.new) }
     ensures texts { OnOk result (IsTestWithTexts test.now) }
 {
-    // Read so that the prover knows that the test is fit.
+    // The answer is not used: this call's contract says that the test can be made.
     let _clients = test.clients();
     let values = entry_texts(alloc, test.environment().nodes(), test.schedule())?;
     put(alloc, table, Key::Seed, Value::from(test.seed() as i64))?;

@@ -50,7 +50,7 @@ fn notes_of(alloc: Global, marks: &[Mark]) -> Result<BTreeMap<usize, Note>, Allo
     Ok(notes)
 }
 
-/// The number in an order that a note gives.
+/// The place in an order that a note gives.
 fn place_noted(note: Note) -> Option<usize>
     ensures { result ≡ rule.place_noted note }
 {

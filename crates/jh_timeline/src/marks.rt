@@ -18,7 +18,8 @@ pub enum StepKind {
 /// Where an operation stands in an order that was found.
 #[derive(Clone, Copy, Debug, PartialEq, Eq)]
 pub struct Place {
-    /// Its number in the order, from 0.
+    /// Where in the order it stands, from 0. The number by which orders name it is another: its
+    /// place among the operations.
     pub number: usize,
     /// What the register holds behind it: the last value that was written or read up to there in the
     /// order. None where there is none yet, and of what is no register.

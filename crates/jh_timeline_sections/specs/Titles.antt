@@ -71,10 +71,10 @@ abbrev pub process_text : Process → List ℕ
 process_text (Process.Client client) = codes "process " ++ decimal client
 process_text Process.Nemesis = codes "the nemesis"
 
--- where a history is stuck: the index of a completion, its process, and what it says
+-- where a history is stuck: the place of a completion, its process, and what it says
 abbrev pub stuck_text : ℕ → Operation → List ℕ
 stuck_text end completion =
-    codes ", stuck at index " ++ (decimal end ++ (codes " (" ++ (process_text completion.process
+    codes ", stuck at record " ++ (decimal end ++ (codes " (" ++ (process_text completion.process
     ++ (codes ": " ++ (answered_text completion.f completion.value ++ codes ")")))))
 
 -- where it is stuck, if that was explained

@@ -129,7 +129,7 @@ fn stuck_text(alloc: Global, end: usize, completion: &Op) -> Result<Vec<u8>, All
 {
     let process = process_text(alloc, completion.process)?;
     let said = answered_text(alloc, &completion.f, &completion.value)?;
-    let mut text = format!(in alloc; ", stuck at index {end} ({process}: ")?.into_bytes();
+    let mut text = format!(in alloc; ", stuck at record {end} ({process}: ")?.into_bytes();
     text.extend_from_slice(&said)?;
     text.push(b')')?;
     Ok(text)

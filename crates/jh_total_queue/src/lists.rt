@@ -63,7 +63,7 @@ impl Lists {
 }
 
 impl Times {
-    /// How often it came out as it was tried to be put in.
+    /// How often it came out, but no more often than clients tried to put it in.
     pub(crate) fn ok(self) -> usize
         ensures { result ≡ inside.ok_times self }
     {

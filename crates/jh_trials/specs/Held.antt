@@ -52,6 +52,7 @@ module _ (judging : Judging) (first last : TrialValue) (input rest before after 
       (past : List TalkEvent) × IsJudgedAs judging first last past status line
       × Consumes input rest (heard_in past) × Appends before after (told_in past)
 
+  -- It did not come to its end, or a line was no reply: its report is written, if it had begun.
   pub record IsBroken (error : DriveError) : Type 0 where
     pub past : List TalkEvent
     pub ending : Ending

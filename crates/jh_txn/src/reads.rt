@@ -64,8 +64,8 @@ pub(crate) fn run(lists: &mut [Vec<usize>], txn: &Txn) -> Result<bool, AllocErro
     run_ops(lists, is_done(txn.outcome), txn.ops.as_slice())
 }
 
-/// Runs micro-operations on the lists, as long as reads saw them, where somebody looks; whether all
-/// did.
+/// Runs micro-operations on the lists, as long as each read saw the list of its key; whether all
+/// did. Reads count only where `looks` says so: where their transaction is done.
 pub(crate) fn run_ops(
     lists: &mut [Vec<usize>],
     looks: bool,
@@ -94,8 +94,8 @@ fn is_done(outcome: Outcome) -> bool
     }
 }
 
-/// Runs a micro-operation on the lists; whether it saw the list of its key, if it is a read and
-/// somebody looks.
+/// Runs a micro-operation on the lists; whether it saw the list of its key, if it is a read that
+/// counts (`looks`).
 fn run_op(lists: &mut [Vec<usize>], looks: bool, op: &MicroOp) -> Result<bool, AllocError>
     requires key { IsKeyBelow (length lists.old) op.now }
     ensures sees { IfOk result (λ yes. IsTrue yes ↔ (looks ≡ true → SawList lists.old op.now)) }

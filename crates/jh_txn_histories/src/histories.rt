@@ -76,12 +76,11 @@ fn refusal(bad: Option<usize>, repeated: Option<usize>) -> Option<TxnError>
 /// Takes time linear in what the pairs spell, but for looks into hash tables and for bringing values into normal form. Each
 /// pair is read three times: for bad values, for repeated appends, and for its numbers.
 ///
-/// # Errors
-///
-/// That of the least place, and of one place `BadValue` first. `BadValue` at an invocation that spells no micro-operations,
-/// and at an `:ok` completion that does not answer its invocation. `RepeatedAppend` at an invocation that appends an element
-/// to a key to which it, or one of a pair in front, appends an equal one, whether or not these happened. `OutOfMemory` where
-/// there is no memory, whatever else is wrong.
+/// Errors: that of the least place, and of one place `BadValue` first. `BadValue` at an invocation
+/// that spells no micro-operations, and at an `:ok` completion that does not answer its invocation.
+/// `RepeatedAppend` at an invocation that appends an element to a key to which it, or one of a pair
+/// in front, appends an equal one, whether or not these happened. `OutOfMemory` where there is no
+/// memory, whatever else is wrong.
 pub fn transactions(alloc: Global, history: &[Op], pairs: &[Pair]) -> Result<Transactions, TxnError>
     requires within { All (IsPairWithin (length history.now)) pairs.now }
     ensures read { MatchResult result

@@ -74,7 +74,8 @@ fn order_before(
     }
 }
 
-/// Where an operation ended.
+/// Where an operation ended, whatever its outcome; behind all others where it has no end
+/// (`op_end`). `end_of` of `keys.rt` counts only what is known to have happened.
 fn end_of(op: RegOp) -> usize
     requires { (end : ℕ) → op.ended ≡ Some end → op.invoked ≤ end }
     ensures is { result ≡ rule.op_end op }

@@ -6,13 +6,14 @@ use jh_linear::Linearization;
 /// number is that of an operation.
 #[derive(Clone, Copy, Debug, PartialEq, Eq)]
 pub enum UniqueReason {
-    /// What this operation needs comes from nowhere: no compare-and-sets lead to that value from a
-    /// write or from the initial value.
+    /// `:no-origin`: what this operation needs comes from nowhere, since no compare-and-sets lead to
+    /// that value from a write or from the initial value.
     Nowhere(usize),
-    /// Two compare-and-sets from one value.
+    /// `:replaced-twice`: two compare-and-sets from one value.
     FromOne(usize, usize),
-    /// The second operation ended before the first one was invoked, and has to stand behind it: by
-    /// what they read and write, or since neither of their clusters can stand before the other.
+    /// `:out-of-order`: the second operation ended before the first one was invoked, and has to stand
+    /// behind it: by what they read and write, or since neither of their clusters can stand before the
+    /// other.
     Behind(usize, usize),
 }
 

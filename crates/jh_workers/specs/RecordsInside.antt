@@ -10,7 +10,7 @@ use Rattle.jh_simnode.specs.declared.replicas.Got.TheVariants.{Many}
 use Rattle.jh_simnode.specs.declared.replicas.Reply.{Reply}
 use Rattle.jh_simnode.specs.declared.replicas.Reply.TheVariants.{Ok}
 
--- how many integers the completion of a request has, after the three words of each record
+-- how many integers the completion of a request has at most, after the three words of each record
 abbrev pub integers_written : Request → Reply → ℕ
 integers_written request (Ok (Many numbers)) = length numbers
 integers_written (Cas old new) reply = 2

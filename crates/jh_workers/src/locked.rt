@@ -21,8 +21,8 @@ use std::alloc::{AllocError, Global};
 use std::sync::ledger::{Blank, Book, Ledger, Share};
 use std::sync::{Mutex, Wait};
 
-/// The parts of a world's ledger, one for each share: enough for the most client threads, 16, and
-/// the thread that applies the schedule.
+/// The parts of a world's ledger, one for each share: 17 are needed, for the most client threads,
+/// 16, and the thread that applies the schedule.
 pub(crate) const PARTS: u64 = 32;
 
 /// How many calls of a locked world were accepted from one thread. All shares together count the

@@ -61,7 +61,7 @@ pub(crate) struct Worker<B: OfLog, S> {
     pub(crate) share: S,
 }
 
-/// How many integers the completion of a request has.
+/// How many integers the completion of a request has at most.
 fn integers_written(request: Request, reply: &Reply) -> usize
     ensures { result ≡ records.integers_written request reply.now }
 {

@@ -3,7 +3,7 @@ use Rattle.std.proofs.lemmas.List.{take_all}
 use Rattle.jh_edn.specs.Fingerprint.{fingerprint}
 use Rattle.jh_edn.specs.View.{view, view_pairs}
 use Rattle.jh_edn.proofs.KeyListLemmas.{keys_seen}
-use Rattle.jh_edn.proofs.pairs.key_numbers.Goals as goal
+use Rattle.jh_edn.proofs.pairs.key_fingerprints.Goals as goal
 
 pub returns : goal.returns
 returns c =
