@@ -130,9 +130,9 @@ impl<P: Eprint + Clock> CommandObserver for Teller<'_, P> {
 }
 
 impl<P: Eprint> ShrinkObserver for Teller<'_, P> {
-    fn see(&mut self, entries: usize, calls: u64) {
+    fn see(&mut self, entries: usize, asked: u64) {
         if self.is_shown() {
-            let _ = eprint!(self.rt; "{EMPTY_LINE}run {calls}, {entries} entries left");
+            let _ = eprint!(self.rt; "{EMPTY_LINE}run {asked}, {entries} entries left");
         }
     }
 }

@@ -147,7 +147,7 @@ fn is_over_at(history: &[Op], place: usize) -> bool
 }
 
 /// Whether just before an invocation stands nothing, or what is over.
-fn may_ask(history: &[Op], place: usize) -> bool
+fn may_invoke(history: &[Op], place: usize) -> bool
     requires { place < length history.now }
     ensures { IsTrue result ↔ MayInvoke (operations history.now) place }
 {
@@ -158,7 +158,7 @@ fn may_ask(history: &[Op], place: usize) -> bool
 }
 
 /// Whether an operation is not the last of its process.
-fn is_gone_on(history: &[Op], place: usize) -> bool
+fn is_not_last(history: &[Op], place: usize) -> bool
     requires { place < length history.now }
     ensures { IsTrue result ↔ IsNotLast (operations history.now) place }
 {
@@ -230,7 +230,7 @@ fn is_paired(history: &[Op], place: usize, form: Form) -> bool
 {
     match form {
         Form::Asks { .. } | Form::Begins { .. } => {
-            may_ask(history, place) && is_gone_on(history, place)
+            may_invoke(history, place) && is_not_last(history, place)
         }
         Form::Completes {
             process,

@@ -2,14 +2,12 @@
 //! request is a case here and there, and of `specs/Forms.antt`.
 
 ghost use Rattle.std.specs.Prelude.{◌≡◌, ◌<◌, ◌^◌, IfSome};
-ghost use Rattle.std.specs.List.{list_all};
-ghost use Rattle.jh_edn.specs.Edn.{is_integer};
 ghost use Rattle.jh_edn.specs.View.{view, view_pairs, views};
 ghost use Rattle.jh_audit.specs.DecodeInside as rule;
 ghost use Rattle.jh_audit.specs.Forms as form;
 
 use jh_edn::Value;
-use jh_ops::{Kind, Request};
+use jh_ops::{Kind, Request, are_integers};
 
 /// The text of a keyword, and none of another value.
 pub(crate) fn name_in(value: &Value) -> &str
@@ -46,13 +44,6 @@ pub(crate) fn pair_in(value: &Value) -> Option<(i64, i64)>
         Value::Vector(items) => pair_among(items.as_slice()),
         _ => None,
     }
-}
-
-/// Whether all values are integers.
-fn are_integers(values: &[Value]) -> bool
-    ensures { result ≡ list_all (λ value. is_integer (view value)) values.now }
-{
-    values.iter().all(|value| value.is_integer())
 }
 
 /// Whether it is what a read may get.

@@ -161,7 +161,7 @@ fn bounded_reads(
 }
 
 /// Whether a read gave a value within its bounds.
-fn is_within(read: ReadBounds) -> bool
+pub fn is_within(read: ReadBounds) -> bool
     ensures { result ≡ rule.is_in_bounds read }
 {
     let value = i128::from(read.value);

@@ -19,7 +19,7 @@ mod totals;
 mod verdict;
 
 pub use asked::{in_normal_order, push_normal, sorted_normal, sorted_values};
-pub use counter::{CounterResult, ReadBounds, Reads, check_counter, read_ends};
+pub use counter::{CounterResult, ReadBounds, Reads, check_counter, is_within, read_ends};
 pub use distinct::{each_once, is_among, is_same, selected};
 pub use error::CheckError;
 pub use ids::{IdsResult, check_unique};

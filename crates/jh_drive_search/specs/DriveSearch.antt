@@ -119,7 +119,7 @@ module _ (t : TestValue) (judging : Judging) (options : TrialOptions) where
     BreaksOff OutOfMemory = Unit {0}
     BreaksOff error = IsBrokenOff error
 
-    module _ (held : Option ℤ) (model : ConsistencyModel) (budget : ℕ) where
+    module _ (initial : Option ℤ) (model : ConsistencyModel) (budget : ℕ) where
       -- A candidate fails, and none before it: its report is written, and behind it the settings that mean it.
       pub record IsFound : Type 0 where
         pub earlier : List Tried
@@ -131,7 +131,7 @@ module _ (t : TestValue) (judging : Judging) (options : TrialOptions) where
         pub report : List ℕ
         pub is_report : IsReportOf judging found.last.conversation 1 report
         pub settings : List ℕ
-        pub mean_it : AreDriveSettingsOf settings (candidate_behind earlier) held model budget
+        pub mean_it : AreDriveSettingsOf settings (candidate_behind earlier) initial model budget
         pub heard : Consumes input rest (heard_in_all (found ∷ earlier))
         pub written : Appends before after
             (told_in_all (found ∷ earlier) ++ (report ++ (found_heading ++ settings)))

@@ -104,16 +104,16 @@ fn write_found<W: Write>(
     candidate: &Test,
     writer: &mut W,
 ) -> Result<(), DriveError>
-    requires known { (held : Option ℤ) × (model : ConsistencyModel) × (budget : ℕ)
-        × AreSettingsUpToSeedAndSchedule (table_view table) candidate.now held model budget }
+    requires known { (initial : Option ℤ) × (model : ConsistencyModel) × (budget : ℕ)
+        × AreSettingsUpToSeedAndSchedule (table_view table) candidate.now initial model budget }
     requires seed { candidate.now.seed < 2 ^ 63 }
     requires written { All IsWritableTestEntry candidate.now.schedule }
     ensures { MatchResult result
         (λ _. (settings : List ℕ)
         × Appends (W.contents writer.old) (W.contents writer.new) (found_heading ++ settings)
-        × ((held : Option ℤ) (model : ConsistencyModel) (budget : ℕ)
-        → AreSettingsUpToSeedAndSchedule (table_view table) candidate.now held model budget
-        → AreDriveSettingsOf settings (test_in_order candidate.now) held model budget))
+        × ((initial : Option ℤ) (model : ConsistencyModel) (budget : ℕ)
+        → AreSettingsUpToSeedAndSchedule (table_view table) candidate.now initial model budget
+        → AreDriveSettingsOf settings (test_in_order candidate.now) initial model budget))
         IsNotWritten }
 {
     let settings = settings_with(alloc, table, candidate)?;

@@ -25,6 +25,7 @@ use Rattle.jh_test_parts.specs.declared.parts.TestEntry.{TestEntry}
 use Rattle.jh_test_parts.specs.declared.parts.When.{When}
 use Rattle.jh_test_parts.specs.declared.workload.TestWorkload.{TestWorkload}
 use Rattle.jh_drive_settings.specs.Limits.{max_rate, max_recovery_ms}
+use Rattle.jh_drive_settings.specs.Limits.{default_keys, default_max_txn, default_appends_per_key}
 
 -- what is asked of the database
 abbrev pub parsed_test_workload : Members → Option TestWorkload
@@ -92,13 +93,14 @@ transaction_number default most key document =
     (value_or_default default (whole_number_in 1 most) key document)
 
 abbrev pub parsed_keys : Members → Option ℕ
-parsed_keys document = transaction_number 4 max_transaction_keys Key.Keys document
+parsed_keys document = transaction_number default_keys max_transaction_keys Key.Keys document
 
 abbrev pub parsed_max_txn : Members → Option ℕ
-parsed_max_txn document = transaction_number 4 max_transaction_ops Key.MaxTxn document
+parsed_max_txn document = transaction_number default_max_txn max_transaction_ops Key.MaxTxn document
 
 abbrev pub parsed_appends_per_key : Members → Option ℕ
-parsed_appends_per_key document = transaction_number 32 max_key_appends Key.AppendsPerKey document
+parsed_appends_per_key document =
+    transaction_number default_appends_per_key max_key_appends Key.AppendsPerKey document
 
 -- the consistency model of a name, as `--model` has it, and the strict one where none is named
 abbrev pub model_or_strict : Members → Option ConsistencyModel

@@ -23,6 +23,15 @@ pub const MAX_RATE: u32 = 1_000_000;
 /// The longest recovery, in milliseconds: an hour.
 pub const MAX_RECOVERY_MS: u64 = 3_600_000;
 
+/// How many keys transactions have at once, where settings do not say.
+pub(crate) const DEFAULT_KEYS: u32 = 4;
+
+/// How many micro-operations a transaction has at most, where settings do not say.
+pub(crate) const DEFAULT_MAX_TXN: u32 = 4;
+
+/// How many appends a key gets, where settings do not say.
+pub(crate) const DEFAULT_APPENDS_PER_KEY: u32 = 32;
+
 /// How many calls, under `ops`: from 1 to 1,000,000.
 pub(crate) fn test_ops_under(table: &Table) -> Result<u32, SettingsError>
     ensures { IsValueParsed result Key.Ops (parsed_test_ops (table_view table.now)) }

@@ -20,7 +20,8 @@ ghost use Rattle.jh_drive_settings.specs.Settings.{RefusesDriveSettings};
 
 use crate::choices::{final_under, model_under, test_initial_under, test_workload_under};
 use crate::numbers::{
-    rate_under, recovery_under, share_under, test_ops_under, time_limit_under, transaction_number,
+    DEFAULT_APPENDS_PER_KEY, DEFAULT_KEYS, DEFAULT_MAX_TXN, rate_under, recovery_under,
+    share_under, test_ops_under, time_limit_under, transaction_number,
 };
 use crate::parts::{Asked, Details, Pace, Parts};
 use crate::schedule::TestFormat;
@@ -98,9 +99,27 @@ fn shape_of(table: &Table, workload: TestWorkload) -> Result<TransactionShape, S
         (inside.IsParsedShape (table_view table.now))
         (RefusesKeyValues (IsGoodForTest (table_view table.now)) inside.shape_keys) }
 {
-    let keys = transaction_number(table, Key::Keys, workload, 4, MAX_TRANSACTION_KEYS)?;
-    let most = transaction_number(table, Key::MaxTxn, workload, 4, MAX_TRANSACTION_OPS)?;
-    let appends = transaction_number(table, Key::AppendsPerKey, workload, 32, MAX_KEY_APPENDS)?;
+    let keys = transaction_number(
+        table,
+        Key::Keys,
+        workload,
+        DEFAULT_KEYS,
+        MAX_TRANSACTION_KEYS,
+    )?;
+    let most = transaction_number(
+        table,
+        Key::MaxTxn,
+        workload,
+        DEFAULT_MAX_TXN,
+        MAX_TRANSACTION_OPS,
+    )?;
+    let appends = transaction_number(
+        table,
+        Key::AppendsPerKey,
+        workload,
+        DEFAULT_APPENDS_PER_KEY,
+        MAX_KEY_APPENDS,
+    )?;
     Ok(TransactionShape {
         keys,
         most,

@@ -120,7 +120,7 @@ module _ (t : TestValue) (judging : Judging) where
       BreaksShrinking OutOfMemory = Unit {0}
       BreaksShrinking error = IsPartBroken error
 
-      module _ (held : Option ℤ) (model : ConsistencyModel) (budget : ℕ) where
+      module _ (initial : Option ℤ) (model : ConsistencyModel) (budget : ℕ) where
         -- What is left was tried once more: its report is written, what is known of it, and the settings that
         -- mean it.
         pub record IsPartShown (status : ℕ) : Type 0 where
@@ -133,7 +133,7 @@ module _ (t : TestValue) (judging : Judging) where
           pub heading : List ℕ
           pub is_heading : IsHeading earlier last heading status
           pub settings : List ℕ
-          pub mean_it : AreDriveSettingsOf settings (test_in_order (test_of_part t (entries_tried last))) held model budget
+          pub mean_it : AreDriveSettingsOf settings (test_in_order (test_of_part t (entries_tried last))) initial model budget
           pub heard : Consumes input rest (heard_in_all (last ∷ earlier))
           pub written : Appends before after
               (told_in_all (last ∷ earlier) ++ (report ++ (heading ++ settings)))

@@ -40,16 +40,6 @@ pub(crate) fn numbers_of(alloc: Global, places: &Schedule) -> Result<Vec<u32>, A
     places.entries().iter().map(|place| place.at).collect(alloc)
 }
 
-/// The same entry once more.
-fn copied(alloc: Global, entry: &TestEntry) -> Result<TestEntry, AllocError>
-    ensures { IfOk result (λ copy. copy ≡ entry.now) }
-{
-    Ok(TestEntry {
-        at: entry.at,
-        step: entry.step.copy(alloc)?,
-    })
-}
-
 /// Whether this place is the next that is named, where so many were found.
 fn is_next(places: &[Entry], found: usize, place: usize) -> bool
     ensures { MatchBool result
@@ -72,7 +62,7 @@ fn entries_at(
     let mut found = 0;
     for place in 0..entries.len() {
         if is_next(places, found, place) {
-            part.push(copied(alloc, &entries[place])?)?;
+            part.push(entries[place].copy(alloc)?)?;
             found += 1;
         }
     }

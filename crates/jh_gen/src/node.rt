@@ -277,7 +277,7 @@ impl Node {
 
 impl Row {
     /// The place of the first member that isn't done.
-    fn open_at(&self) -> usize
+    fn first_open_place(&self) -> usize
         ensures { result ≡ first_open_place self.now }
     {
         for (at, member) in self.members.iter().enumerate() {
@@ -315,7 +315,7 @@ impl Row {
         ensures rest { self.new
             ≡ rest_of self.old (first_turn awaited.now self.old (question asked.entry)) }
     {
-        let at = self.open_at();
+        let at = self.first_open_place();
         if at < self.members.len() {
             self.take_at(at, awaited, asked)
         } else {

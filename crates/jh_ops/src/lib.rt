@@ -21,4 +21,5 @@ pub use op_written::{operations_read_back, value_of};
 pub use operation::{Kind, Op, Process};
 pub use pairing::pair;
 pub use pairs::{Pair, PairError};
+pub use record::are_integers;
 pub use words::{WordsError, of_words, recorded_once, to_words};

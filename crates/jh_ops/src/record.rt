@@ -175,7 +175,7 @@ impl ValueShape {
 }
 
 /// Whether all values are integers.
-fn are_integers(values: &[Value]) -> bool
+pub fn are_integers(values: &[Value]) -> bool
     ensures { result ≡ list_all (λ value. is_integer (view value)) values.now }
 {
     values.iter().all(|value| value.is_integer())

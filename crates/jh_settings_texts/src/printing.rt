@@ -30,7 +30,9 @@ use jh_step_texts::value_of_step;
 use std::alloc::{AllocError, Global};
 
 /// What is printed of a value, where that is UTF-8.
-fn printed(alloc: Global, value: &Value) -> Result<String, AllocError>
+///
+/// Errors: where there is no memory for it.
+pub fn printed(alloc: Global, value: &Value) -> Result<String, AllocError>
     requires { IsUtf8 (print (view value.now)) }
     ensures { IfOk result (λ text. string_bytes text ≡ print (view value.now)) }
 {

@@ -39,8 +39,10 @@ fn time_of(at: u32, milliseconds: u32, calls: u32) -> u64
     u64::from(at) * u64::from(milliseconds) / u64::from(calls)
 }
 
-/// `[:ms TIME]`.
-fn time_value(alloc: Global, milliseconds: u64) -> Result<Value, AllocError>
+/// `[:ms TIME]`, by which an entry is due at this time.
+///
+/// Errors: where there is no memory for it.
+pub fn time_value(alloc: Global, milliseconds: u64) -> Result<Value, AllocError>
     requires { milliseconds < 2 ^ 63 }
     ensures { IfOk result (λ value. view value
         ≡ vector (items_of (keyword (codes "ms") ∷ int (pos milliseconds) ∷ []))) }

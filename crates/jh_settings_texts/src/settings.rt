@@ -64,7 +64,7 @@ fn has_writable_texts(plan: &Plan) -> bool
 }
 
 /// Whether the numbers and the schedule can be written.
-fn has_writable_load(plan: &Plan) -> bool
+fn has_writable_numbers_and_schedule(plan: &Plan) -> bool
     ensures { IsTrue result ↔ HasWritableLoad plan.now }
 {
     has_writable_numbers(plan) && are_writable(plan.schedule().entries())
@@ -79,7 +79,7 @@ fn has_writable_load(plan: &Plan) -> bool
 pub fn can_be_written(plan: &Plan) -> bool
     ensures { IsTrue result ↔ CanBeWritten plan.now }
 {
-    has_writable_texts(plan) && has_writable_load(plan)
+    has_writable_texts(plan) && has_writable_numbers_and_schedule(plan)
 }
 
 /// The settings of a plan that `can_be_written`, which `settings_of` of `jh_settings` reads back as

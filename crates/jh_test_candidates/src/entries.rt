@@ -35,28 +35,18 @@ pub(crate) fn greatest_id(entries: &[TestEntry]) -> u32
     greatest
 }
 
-/// The same entry once more.
-fn copied(alloc: Global, entry: &TestEntry) -> Result<TestEntry, AllocError>
-    ensures { IfOk result (λ copy. copy ≡ entry.now) }
-{
-    Ok(TestEntry {
-        at: entry.at,
-        step: entry.step.copy(alloc)?,
-    })
-}
-
 /// The same entries once more.
 pub(crate) fn entries_copied(
     alloc: Global,
     entries: &[TestEntry],
 ) -> Result<Vec<TestEntry>, AllocError>
-    ensures { IfOk result (λ copy. copy.items ≡ entries.now) }
+    ensures { IfOk result (λ copies. copies.items ≡ entries.now) }
 {
-    let mut copy = Vec::new(alloc);
+    let mut copies = Vec::new(alloc);
     for entry in entries {
-        copy.push(copied(alloc, entry)?)?;
+        copies.push(entry.copy(alloc)?)?;
     }
-    Ok(copy)
+    Ok(copies)
 }
 
 /// The same entry, with the links, nodes or bumps of its fault in order.

@@ -1,6 +1,9 @@
 //! The parts of what a test is set to. `specs/Test.antt` says what they are for.
 
+ghost use Rattle.std.specs.Prelude.{◌≡◌, IfOk};
+
 use jh_nemesis::Step;
+use std::alloc::{AllocError, Global};
 
 /// Over how many keys at a time transactions are, at most.
 pub const MAX_TRANSACTION_KEYS: u32 = 1_000;
@@ -25,6 +28,20 @@ pub enum When {
 pub struct TestEntry {
     pub at: When,
     pub step: Step,
+}
+
+impl TestEntry {
+    /// The same entry once more.
+    ///
+    /// Errors: where there is no memory for it.
+    pub fn copy(&self, alloc: Global) -> Result<TestEntry, AllocError>
+        ensures { IfOk result (λ copy. copy ≡ self.now) }
+    {
+        Ok(TestEntry {
+            at: self.at,
+            step: self.step.copy(alloc)?,
+        })
+    }
 }
 
 /// Keys are independent: threads fall into groups of so many, and so many calls of a group go to one

@@ -1,9 +1,7 @@
 //! What is printed of the entries of a schedule, each a text that settings have.
 //! `specs/DocumentWritten.antt` has the rule.
 
-ghost use Rattle.std.specs.Prelude.{◌≡◌, ◌∷◌, [], pos, codes, IfOk, length, string_bytes};
-ghost use Rattle.std.specs.Str.{IsUtf8};
-ghost use Rattle.jh_edn.specs.Edn.{int, items_of, keyword, vector};
+ghost use Rattle.std.specs.Prelude.{◌≡◌, IfOk, length, string_bytes};
 ghost use Rattle.jh_edn.specs.Print.{print};
 ghost use Rattle.jh_edn.specs.View.{view};
 ghost use Rattle.jh_env.specs.Names.{AreNodeNames};
@@ -12,23 +10,12 @@ ghost use Rattle.jh_laws.specs.StepLines.{IsStepOver};
 ghost use Rattle.jh_test_settings_texts.specs.DocumentWritten.{test_entry_value, when_value};
 ghost use Rattle.jh_test_settings_texts.specs.WritableEntries.{IsWritableTestEntry};
 
-use jh_edn::{Value, Values, write};
+use jh_edn::{Value, Values};
 use jh_env::Nodes;
-use jh_settings_texts::step_has_text;
+use jh_settings_texts::{printed, step_has_text, time_value};
 use jh_step_texts::value_of_step;
 use jh_test_parts::{TestEntry, When};
 use std::alloc::{AllocError, Global};
-
-/// `[:ms T]`.
-fn time_value(alloc: Global, milliseconds: u32) -> Result<Value, AllocError>
-    ensures { IfOk result (λ value. view value
-        ≡ vector (items_of (keyword (codes "ms") ∷ int (pos milliseconds) ∷ []))) }
-{
-    let mut parts = Vec::new(alloc);
-    parts.push(Value::keyword(alloc, "ms")?)?;
-    parts.push(Value::Int(i64::from(milliseconds)))?;
-    Ok(Value::Vector(Values::of(parts)))
-}
 
 /// When an entry is due, as a schedule has it.
 fn value_of_when(alloc: Global, at: When) -> Result<Value, AllocError>
@@ -36,7 +23,7 @@ fn value_of_when(alloc: Global, at: When) -> Result<Value, AllocError>
 {
     match at {
         When::Calls(calls) => Ok(Value::Int(i64::from(calls))),
-        When::Milliseconds(milliseconds) => time_value(alloc, milliseconds),
+        When::Milliseconds(milliseconds) => time_value(alloc, u64::from(milliseconds)),
     }
 }
 
@@ -49,21 +36,6 @@ fn value_of_test_entry(alloc: Global, nodes: &Nodes, entry: &TestEntry) -> Resul
     parts.push(value_of_when(alloc, entry.at)?)?;
     parts.push(value_of_step(alloc, nodes, &entry.step)?)?;
     Ok(Value::Vector(Values::of(parts)))
-}
-
-/// What is printed of a value, where that is UTF-8.
-fn printed(alloc: Global, value: &Value) -> Result<String, AllocError>
-    requires { IsUtf8 (print (view value.now)) }
-    ensures { IfOk result (λ text. string_bytes text ≡ print (view value.now)) }
-{
-    let mut bytes = Vec::new(alloc);
-    if write(value, &mut bytes).is_err() {
-        return Err(AllocError);
-    }
-    match String::from_utf8(bytes) {
-        Ok(text) => Ok(text),
-        Err(_) => unreachable!(),
-    }
 }
 
 /// What is printed of an entry over these nodes that can be written.

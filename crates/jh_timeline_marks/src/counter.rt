@@ -11,7 +11,7 @@ ghost use Rattle.jh_timeline_marks.specs.MarkedInside.{bounds_with};
 use crate::notes::{noted, push_note};
 use crate::pairs::pairs_of;
 use crate::places::{place_of, places_of};
-use jh_check::{ReadBounds, read_ends};
+use jh_check::{ReadBounds, is_within, read_ends};
 use jh_ops::Op;
 use jh_timeline::{Call, Mark, Note};
 use std::alloc::{AllocError, Global};
@@ -24,14 +24,6 @@ fn ends_of(alloc: Global, history: &[Op]) -> Result<Vec<usize>, AllocError>
 {
     let pairs = pairs_of(alloc, history)?;
     read_ends(alloc, history, &pairs)
-}
-
-/// Whether a read lies within its bounds.
-fn is_within(read: ReadBounds) -> bool
-    ensures { result ≡ counter.is_in_bounds read }
-{
-    let value = i128::from(read.value);
-    read.lower <= value && value <= read.upper
 }
 
 /// The bounds, where a read lies outside.

@@ -1,19 +1,12 @@
 //! Operations by what they ask for, and the two of a call.
 
-ghost use Rattle.std.specs.Prelude.{◌≡◌, option_map, slice_get};
+ghost use Rattle.std.specs.Prelude.{◌≡◌, option_map};
 ghost use Rattle.jh_ops.specs.Operation.{operation, operations};
 ghost use Rattle.jh_timeline_marks.specs.Marked as rule;
 
+use jh_check::op_at;
 use jh_ops::Op;
 use jh_timeline::Call;
-
-/// The operation at an index, if there is one.
-pub(crate) fn op_at(history: &[Op], index: usize) -> Option<&Op>
-    ensures { option_map (λ op. operation op.now) result
-        ≡ slice_get (operations history.now) index }
-{
-    history.get(index)
-}
 
 /// The completion of a call, if it has one.
 pub(crate) fn completion_of<'a>(history: &'a [Op], call: &Call) -> Option<&'a Op>

@@ -8,8 +8,8 @@ ghost use Rattle.jh_check.specs.Distinct.{Ascends, has_same_value};
 ghost use Rattle.jh_check.specs.Tallies.{view_tally};
 ghost use Rattle.jh_timeline_marks.specs.Marked as rule;
 
-use crate::operations::{completion_of, op_at};
-use jh_check::{Counted, in_normal_order, is_among, selected};
+use crate::operations::completion_of;
+use jh_check::{Counted, in_normal_order, is_among, op_at, selected};
 use jh_edn::Value;
 use jh_ops::{Kind, Op};
 use jh_timeline::Call;

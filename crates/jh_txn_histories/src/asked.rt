@@ -14,7 +14,7 @@ use jh_txn::Outcome;
 use std::alloc::{AllocError, Global};
 
 /// The operation at a place, if there is one.
-fn op_at(history: &[Op], place: usize) -> Option<&Op>
+fn record_at(history: &[Op], place: usize) -> Option<&Op>
     ensures { option_map (λ op. operation op.now) result ≡ slice_get (operations history.now) place }
 {
     history.get(place)
@@ -24,7 +24,7 @@ fn op_at(history: &[Op], place: usize) -> Option<&Op>
 fn is_txn_at(history: &[Op], place: usize) -> bool
     ensures { result ≡ rule.is_txn_at (operations history.now) place }
 {
-    match op_at(history, place) {
+    match record_at(history, place) {
         Some(op) => op.f.is_keyword("txn"),
         None => false,
     }
@@ -51,7 +51,7 @@ pub(crate) fn txn_asked(
     ensures { IfOk result (λ asked. option_map (λ ops. written_ops ops.items) asked
         ≡ rule.txn_asked (operations history.now) pair) }
 {
-    match op_at(history, pair.invoke) {
+    match record_at(history, pair.invoke) {
         Some(op) => asked_by(alloc, op),
         None => Ok(None),
     }
@@ -62,7 +62,7 @@ fn pair_completion(history: &[Op], pair: Pair) -> Option<&Op>
     ensures { option_map (λ op. operation op.now) result
         ≡ rule.pair_completion (operations history.now) pair }
 {
-    op_at(history, pair.outcome?)
+    record_at(history, pair.outcome?)
 }
 
 /// The value of the completion of a transaction, where that is `:ok`.

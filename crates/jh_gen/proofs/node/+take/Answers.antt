@@ -62,7 +62,7 @@ Row::take_at-returns t c =
 pub Row::take_first-returns-else-at-len : goal.Row::take_first-returns-else-at-len
 Row::take_first-returns-else-at-len t c =
     let same = row_length c.self.inside.members.items c.args.self.now c.self.view_is in
-    let over : length c.args.self.now ≤ first_open_place c.args.self.now = omega (arith, c.open_at-at.ensures, c.len.ensures, same) in
+    let over : length c.args.self.now ≤ first_open_place c.args.self.now = omega (arith, c.first_open_place-at.ensures, c.len.ensures, same) in
     let none = past_end c.args.awaited.now c.args.self.now (first_open_place c.args.self.now) (question c.args.asked) over in
     record {
       call = sym (ap taken_call none);

@@ -2,4 +2,4 @@ use Rattle.std.proofs.Common.{◌≡◌, take}
 use Rattle.jh_test_candidates.proofs.entries.entries_copied.Given as goal
 
 abbrev pub invariant-loop-entry : goal.invariant-loop-entry
-invariant-loop-entry l = l.copy.items ≡ take l.entry-index l.entries
+invariant-loop-entry l = l.copies.items ≡ take l.entry-index l.entries
