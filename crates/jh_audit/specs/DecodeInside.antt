@@ -79,8 +79,12 @@ natural_in _ = None
 abbrev pub begun_entry : Edn → Option ℕ
 begun_entry value = option_and_then natural_in (integer_of value)
 
+-- how many codes of answers to steps there are
+abbrev pub answer_codes : ℕ
+answer_codes = 8
+
 abbrev pub is_code : ℤ → Bool
-is_code (pos n) = nat_lt n 8
+is_code (pos n) = nat_lt n answer_codes
 is_code _ = false
 
 -- the entry that has ended, with the code of an answer

@@ -118,12 +118,14 @@ pub(crate) fn begun_entry(value: &Value) -> Option<u64>
     natural_in(value.as_integer()?)
 }
 
-/// Whether it is the code of an answer to a step: there are eight (`StepAnswer::code` of
-/// `jh_nemesis`).
+/// How many codes of answers to steps there are: from 0 on, as `StepAnswer::code` of `jh_nemesis` gives them.
+const ANSWER_CODES: i64 = 8;
+
+/// Whether it is the code of an answer to a step.
 fn is_code(integer: i64) -> bool
     ensures { result ≡ rule.is_code integer }
 {
-    0 <= integer && integer < 8
+    0 <= integer && integer < ANSWER_CODES
 }
 
 /// The entry of the schedule that has ended, with the code of an answer.

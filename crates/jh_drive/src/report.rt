@@ -117,7 +117,7 @@ fn write_known<W: Write>(
 /// what was found.
 ///
 /// Errors: `Write`; `OutOfMemory`. A part of it may be written before either.
-pub fn write_report<W: Write>(
+pub fn write_test_report<W: Write>(
     alloc: Global,
     conversation: &Conversation,
     judged: &Output,

@@ -21,7 +21,7 @@ ghost use Rattle.jh_drive_search.specs.SearchInside.{HasEnded, IsFailing};
 use crate::options::TrialOptions;
 use crate::settings::SearchSettings;
 use jh_checkers::Judging;
-use jh_drive::{DriveError, judging_of, write_report};
+use jh_drive::{DriveError, judging_of, write_test_report};
 use jh_drive_settings::DriveSettings;
 use jh_lines::ByLines;
 use jh_reports::{DONE, INVALID, Output, UNKNOWN};
@@ -167,7 +167,7 @@ fn write_failing<W: Write>(
 {
     // So settings can say the candidate.
     time_limits_are_writable();
-    write_report(alloc, trial.conversation(), judged, writer)?;
+    write_test_report(alloc, trial.conversation(), judged, writer)?;
     let test = &settings.settings.test;
     let candidate = test_candidate(alloc, test, options.palette, options.faults, number)?;
     write_found(alloc, settings.table, &candidate, writer)

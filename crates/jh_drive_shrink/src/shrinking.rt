@@ -20,7 +20,7 @@ use crate::judge::{Smallest, shrink_by_trials};
 use crate::parts::test_at;
 use crate::told::Told;
 use crate::trying::{HeldTrial, hold_test, judging_by};
-use jh_drive::{DriveError, write_report};
+use jh_drive::{DriveError, write_test_report};
 use jh_drive_search::SearchSettings;
 use jh_drive_settings::DriveSettings;
 use jh_lines::ByLines;
@@ -83,7 +83,7 @@ fn write_shown<W: Write>(
         (W.contents writer.old) (W.contents writer.new))
         IsNotWritten }
 {
-    write_report(alloc, held.trial.conversation(), &held.judged, writer)?;
+    write_test_report(alloc, held.trial.conversation(), &held.judged, writer)?;
     write_part(alloc, settings, places, told, writer)
 }
 

@@ -22,7 +22,7 @@ ghost use Rattle.jh_slots.specs.Reading.{ReadsRow};
 ghost use Rattle.jh_slots.specs.Stored.{mark_of};
 ghost use Rattle.jh_slots.specs.Sizes.{IsSize, RefusesSize, max_claimed};
 
-use crate::answers::{Full, MAX_ROWS, Read, Receipt, SlotsError};
+use crate::answers::{Full, MAX_ROWS, ROW_WORDS, Read, Receipt, SlotsError};
 use crate::steps::{Copy, End, Gather, Law, Look, Peek, Recall, Take, Unite, View, Write};
 use atomic_table::Table;
 use std::alloc::{AllocError, Global};
@@ -122,7 +122,7 @@ impl Slots {
             return Err(SlotsError::BadSize);
         }
         let rows = rows as usize;
-        let words = zeros(alloc, 1 + 6 * rows)?;
+        let words = zeros(alloc, 1 + (ROW_WORDS + 1) * rows)?;
         let (table, inner) = Table::of_words(alloc, &words, &rows)?;
         Ok((Slots { table, rows }, Seat { inner }))
     }
@@ -230,7 +230,7 @@ impl Slots {
     {
         self.table.shared.store::<Write>(
             &mut seat.inner,
-            1 + (5 * claim.first as usize + place),
+            1 + (ROW_WORDS * claim.first as usize + place),
             value,
         );
     }
@@ -249,7 +249,7 @@ impl Slots {
         let Claim { first, rows: _ } = claim;
         self.table.shared.store::<End>(
             &mut seat.inner,
-            1 + (5 * self.rows + first as usize),
+            1 + (ROW_WORDS * self.rows + first as usize),
             status,
         );
     }
@@ -297,7 +297,7 @@ impl Slots {
         let status = self
             .table
             .shared
-            .load::<Peek>(&mut seat.inner, 1 + (5 * self.rows + row));
+            .load::<Peek>(&mut seat.inner, 1 + (ROW_WORDS * self.rows + row));
         if status == 0 {
             return Read::Absent;
         }
@@ -312,7 +312,7 @@ impl Slots {
             buffer[place] = self
                 .table
                 .shared
-                .load::<Gather>(&mut seat.inner, 1 + (5 * row + place));
+                .load::<Gather>(&mut seat.inner, 1 + (ROW_WORDS * row + place));
         }
         Read::Words(len)
     }

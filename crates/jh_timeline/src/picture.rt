@@ -12,7 +12,7 @@ pub struct Window {
 /// answers no invocation. Indexes count the records of the whole history from 0.
 #[derive(Clone, Copy, Debug, PartialEq, Eq)]
 pub struct Call {
-    /// Who did it.
+    /// The number of the process that did it.
     pub client: u64,
     /// The index of its first record: its invocation, or the completion that stands alone.
     pub first: usize,
@@ -44,6 +44,6 @@ pub struct Picture {
 /// A lane.
 #[derive(Debug, Drop)]
 pub struct Lane {
-    /// The processes that had it, in order.
+    /// The numbers of the processes that had it, in order.
     pub clients: Vec<u64>,
 }

@@ -12,7 +12,7 @@ returns g c = λ judging input rest before invalid failing.
     let last = c.args.trial.now in
     let between = g.W.Write.contents c.args.writer.now in
     let text = found_text s.settings.test judging o input rest before between c.args.number last c.args.judged.now.text.items failing c.conversation.result.now c.args.judged.now.status c.conversation.ensures invalid in
-    let report = c.in_ok-write_report.ensures judging text in
+    let report = c.in_ok-write_test_report.ensures judging text in
     let reported = found_report s.settings.test judging o input rest before last c.conversation.result.now c.args.judged.now.status report.0 c.conversation.ensures invalid report.1 in
     match_map c.write_found.result _ _ _ c.write_found.ensures (λ _ it.
     found_so s.settings.test judging o input rest before between _ s.settings.initial s.settings.model s.settings.budget c.args.number last c.args.judged.now.text.items report.0 it.0 _ failing reported report.2 it.1

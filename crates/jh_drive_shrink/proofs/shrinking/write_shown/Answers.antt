@@ -11,7 +11,7 @@ pub returns : goal.returns
 returns g c = λ judging text.
     let judged = c.args.held.now.judged in
     let its_text = subst (λ v. IsTextBy (is_some v.test.keys) judging (recorded_history v.test v.machine) judged.status judged.text.items) (sym c.conversation.ensures) text in
-    let report = c.in_ok-write_report.ensures judging its_text in
+    let report = c.in_ok-write_test_report.ensures judging its_text in
     let reported = subst (λ v. IsReportOf judging v judged.status report.0) c.conversation.ensures report.1 in
     match_map c.write_part.result _ _ _ c.write_part.ensures (λ _ it. record {
       report = report.0;

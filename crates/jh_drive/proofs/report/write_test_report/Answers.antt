@@ -2,7 +2,7 @@ use Rattle.std.proofs.Common.{◌++◌, subst}
 use Rattle.std.specs.Io.KnownBytes.{Appends}
 use Rattle.std.proofs.KnownBytes.{Appends-trans}
 use Rattle.jh_drive.proofs.DriveLemmas.{report_is}
-use Rattle.jh_drive.proofs.report.write_report.Goals as goal
+use Rattle.jh_drive.proofs.report.write_test_report.Goals as goal
 
 pub returns : goal.returns
 returns g c = λ judging judged.
