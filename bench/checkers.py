@@ -1,20 +1,27 @@
 #!/usr/bin/env python3
-"""How fast histories are judged. Run it at the top of the repository, after `rt run` in crates/jeprun:
+"""How fast histories are judged, beside a plain program that reads them as a stream. Run it at the top of the repository, after
+`rt run` in crates/jeprun; it builds the plain program, bench/checkers/plain.rs, by `rustc -O`:
 
-    bench/checkers.py [MOST [SEED]]
+    bench/checkers.py [--most OPERATIONS] [--times N] [--seed SEED] [WORKLOAD ..]
 
-Histories of a set, a counter and unique ids, of 10,000 operations and ten times as many each time, up to MOST (1,000,000): ten
-clients, one in a hundred completions `:info`. Prints megabytes and operations a second, and the most memory.
+Histories of unique ids, a counter and a set, of 10,000 operations and ten times as many each time, up to OPERATIONS (100,000,
+which are some 8.5 megabytes): ten clients, one in a hundred completions `:info`. Each is given to both programs in turn, N times
+(5); the least processor time counts, and the most memory. The script stops where they do not write the same bytes.
+
+A row has the workload, its operations and megabytes; the seconds and megabytes of the plain program; then those of `jeprun check`,
+and how many times as long and as much that is. Compare these ratios only: the rest is the machine's.
 """
 
+import argparse
 import os
 import random
 import subprocess
 import sys
 import tempfile
-import time
 
 PROGRAM = "crates/jeprun/out/jeprun"
+PLAIN = "bench/checkers/plain.rs"
+WORKLOADS = ("unique-ids", "counter", "set")
 CLIENTS = 10
 
 
@@ -67,33 +74,55 @@ def history(workload, operations, seed):
     return "".join(lines).encode()
 
 
-def measured(workload, operations, seed):
-    """The status, the seconds, the megabytes of text, and the most memory of one run."""
+def run(words, source):
+    """What a program writes of this history, its processor time in seconds, and the most memory in megabytes."""
+    source.seek(0)
+    with tempfile.TemporaryFile() as output:
+        child = subprocess.Popen(words, stdin=source, stdout=output)
+        _, status, usage = os.wait4(child.pid, 0)
+        if os.waitstatus_to_exitcode(status) not in (0, 1):
+            sys.exit(f"{' '.join(words)}: status {os.waitstatus_to_exitcode(status)}")
+        output.seek(0)
+        return output.read(), usage.ru_utime + usage.ru_stime, usage.ru_maxrss / 1024
+
+
+def row(plain, workload, operations, seed, times):
+    """The cells of a row."""
     with tempfile.TemporaryFile() as source:
         # The history is made by a process of its own: what a process was before it runs a program counts among its memory.
         subprocess.run([sys.executable, __file__, "--write", workload, str(operations), str(seed)], stdout=source, check=True)
         size = source.seek(0, os.SEEK_END)
-        source.seek(0)
-        start = time.perf_counter()
-        run = subprocess.Popen([PROGRAM, "check", "--workload", workload], stdin=source, stdout=subprocess.DEVNULL)
-        _, status, usage = os.wait4(run.pid, 0)
-        return os.waitstatus_to_exitcode(status), time.perf_counter() - start, size / 1e6, usage.ru_maxrss // 1024
+        all_words = [plain, workload], [PROGRAM, "check", "--workload", workload]
+        runs = [[run(words, source) for words in all_words] for _ in range(times)]
+    if any(ours[0] != theirs[0] for theirs, ours in runs):
+        sys.exit(f"the answers to {operations} operations of {workload} differ")
+    (plain_s, plain_mb), (s, mb) = ((min(it[place][1] for it in runs), max(it[place][2] for it in runs)) for place in (0, 1))
+    cells = [workload, f"{operations:,}", f"{size / 1e6:.1f}", f"{plain_s:.3f}", f"{plain_mb:.1f}", f"{s:.3f}", f"{mb:.1f}"]
+    return cells + [f"{s / plain_s:.1f}", f"{mb / plain_mb:.1f}"]
 
 
 def main():
     if sys.argv[1:2] == ["--write"]:
         sys.stdout.buffer.write(history(sys.argv[2], int(sys.argv[3]), int(sys.argv[4])))
         return
-    most, seed = (int(word) for word in (sys.argv[1:] + ["1000000", "1"][len(sys.argv) - 1 :]))
-    operations = 10_000
-    while operations <= most:
-        for workload in ("set", "counter", "unique-ids"):
-            status, took, size, memory = measured(workload, operations, seed)
-            print(
-                f"{operations:,} operations of a {workload}, {size:.1f} MB, status {status}: {took:.2f} s, "
-                f"{size / took:.0f} MB/s, {operations / took:,.0f} operations a second, {memory} MB"
-            )
-        operations *= 10
+    words = argparse.ArgumentParser(description="How fast histories are judged, beside a plain program.")
+    words.add_argument("--most", type=int, default=100_000, metavar="OPERATIONS", help="the largest history")
+    words.add_argument("--times", type=int, default=5, metavar="N", help="runs of each")
+    words.add_argument("--seed", type=int, default=1, help="of the histories")
+    words.add_argument("workload", nargs="*", metavar="WORKLOAD", help="unique-ids, counter or set; all where none is named")
+    asked = words.parse_args()
+    if not os.path.exists(PROGRAM):
+        sys.exit(f"{PROGRAM} is not there: build it first, by rt run in crates/jeprun")
+    print("| Workload | Operations | MB | plain s | MB | jeprun s | MB | times as long | as much |")
+    print("|---|---|---|---|---|---|---|---|---|")
+    with tempfile.TemporaryDirectory() as room:
+        plain = os.path.join(room, "plain")
+        subprocess.run(["rustc", "-O", "--edition", "2021", "-o", plain, PLAIN], check=True)
+        operations = 10_000
+        while operations <= asked.most:
+            for workload in asked.workload or WORKLOADS:
+                print("|", " | ".join(row(plain, workload, operations, asked.seed, asked.times)), "|", flush=True)
+            operations *= 10
 
 
 if __name__ == "__main__":
