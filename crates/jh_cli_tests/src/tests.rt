@@ -49,7 +49,7 @@ const SETTINGS: &str = "\
     ops = 1\n\
     generator = '[:once :read]'\n";
 
-/// The read is of 0, which was there, or of 3, which nobody wrote.
+/// The read is of 0, which was there, or of 3, which nobody wrote. Candidate 1 is one of those that withdraw nothing before the end.
 #[test]
 fn conducts_tries_and_reduces_tests(rt: HostRuntime) {
     let rows = r#"jeprun drive test.toml
@@ -62,11 +62,11 @@ fn conducts_tries_and_reduces_tests(rt: HostRuntime) {
 :active []
 {:nodes ["n1"], :cut [], :slow [], :loss [], :down [], :clock []}
 {:valid? true, :order [0]}
-§jeprun search --drive test.toml --runs 1 --faults 0
+§jeprun search --drive test.toml --from 1 --runs 1 --faults 0
 :ready
 {:type :ok, :process 0, :f :read, :value 3, :time 7}
 → 1
-{:type :test, :number 0, :seed 0}
+{:type :test, :number 1, :seed 1}
 {:index 0, :time 0, :type :invoke, :process 0, :f :read, :value nil, :node "n1"}
 :end
 {:index 0, :time 0, :type :invoke, :process 0, :f :read, :value nil, :node "n1"}
@@ -80,7 +80,7 @@ generator = "[:once :read]"
 initial = 0
 ops = 1
 schedule = []
-seed = 0
+seed = 1
 start = '{:nodes ["n1"]}'
 workload = "register"
 §jeprun shrink --drive test.toml
