@@ -3,6 +3,7 @@ pub mod ClientPairLemmas
 pub mod StageLemmas
 pub mod PlaceLemmas
 pub mod MapPairLemmas
+pub mod FieldLemmas
 pub mod ReadBackLemmas
 pub mod PrintedLemmas
 pub mod FourPairLemmas

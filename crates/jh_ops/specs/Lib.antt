@@ -1,6 +1,6 @@
 pub mod Operation
 pub mod OperationText
-pub mod PartsInside
+pub mod FieldsInside
 pub mod OperationWritten
 pub mod HistoryWritten
 pub mod PrintedInside

@@ -1,17 +1,19 @@
 //! Operations as EDN values: read. `specs/OperationText.antt` has the rule, key by key.
 
-ghost use Rattle.std.specs.Prelude.{◌≡◌, IfOk, IfSome, filter, find, position};
-ghost use Rattle.std.specs.Prelude.{option_map, option_copied};
-ghost use Rattle.jh_edn.specs.Edn.{int, is_keyword, value_under};
-ghost use Rattle.jh_edn.specs.View.{view, view_pair, view_pairs};
+ghost use Rattle.std.specs.Prelude.{◌≡◌, List, IfOk, IfSome, Some, option_map};
+ghost use Rattle.std.specs.Option.{option_or};
+ghost use Rattle.jh_edn.specs.Edn.{Edn, int};
+ghost use Rattle.jh_edn.specs.View.{view, view_pairs};
 ghost use Rattle.jh_ops.specs.OperationText as rule;
 ghost use Rattle.jh_ops.specs.OperationText.{IsOperationParsed, parsed_op, op_of_pairs};
 ghost use Rattle.jh_ops.specs.OperationWritten.{IsWritable};
-ghost use Rattle.jh_ops.specs.PartsInside.{pairs_without_first};
+ghost use Rattle.jh_ops.specs.FieldsInside as inside;
+ghost use Rattle.jh_ops.specs.FieldsInside.{FieldsValue, Holds};
+ghost use Rattle.jh_ops.specs.declared.op_text.Field.TheVariants as field;
 
 use crate::operation::{Kind, Op, Process};
-use jh_edn::{Pairs, Value, value_under};
-use std::alloc::{AllocError, Global};
+use jh_edn::{Pairs, Value};
+use std::alloc::Global;
 use thiserror::Error;
 
 /// Why a value is refused as an operation.
@@ -35,84 +37,138 @@ pub enum OpError {
     OutOfMemory,
 }
 
-/// Whether a pair has a keyword and an integer.
-fn is_integer_under(name: &str, pair: &(Value, Value)) -> bool
-    ensures { result ≡ rule.is_integer_under name.now (view_pair pair.now) }
-{
-    pair.0.is_keyword(name) && pair.1.is_integer()
+/// Which part of an operation a pair is.
+#[derive(Clone, Copy)]
+enum Field {
+    Kind,
+    F,
+    Process,
+    Value,
+    /// A `:time` that is an integer.
+    Time(i64),
+    /// An `:index` that is an integer.
+    Index(i64),
+    /// No part of its own: the pair is kept as it stands.
+    Other,
 }
 
-/// The first pair with a keyword and an integer, if there is one.
-fn find_integer<'a>(name: &str, pairs: &'a [(Value, Value)]) -> Option<&'a (Value, Value)>
-    ensures { option_copied result
-        ≡ find (λ pair. rule.is_integer_under name.now (view_pair pair)) pairs.now }
+/// What a value says under `:time`.
+fn time_field(value: &Value) -> Field
+    ensures { result ≡ inside.time_field (view value.now) }
 {
-    pairs.iter().find(|pair| is_integer_under(name, pair))
-}
-
-/// The integer under a keyword.
-fn integer_under(name: &str, pairs: &[(Value, Value)]) -> Option<i64>
-    ensures { result ≡ rule.integer_under name.now (view_pairs pairs.now) }
-{
-    let pair = find_integer(name, pairs)?;
-    pair.1.as_integer()
-}
-
-/// The place of the first pair with a keyword, if there is one.
-fn place_of(name: &str, pairs: &[(Value, Value)]) -> Option<usize>
-    ensures { result ≡ position (λ pair. is_keyword name.now (view pair.0)) pairs.now }
-{
-    pairs.iter().position(|pair| pair.0.is_keyword(name))
-}
-
-/// Takes out the first pair with a keyword, and gives its value.
-fn take_under(name: &str, pairs: &mut Vec<(Value, Value)>) -> Option<Value>
-    ensures value { option_map view result
-        ≡ value_under name.now (view_pairs pairs.old.items) }
-    ensures rest { view_pairs pairs.new.items
-        ≡ pairs_without_first name.now (view_pairs pairs.old.items) }
-{
-    let place = place_of(name, pairs)?;
-    let (_key, value) = pairs.remove(place);
-    Some(value)
-}
-
-/// Whether a key is that of a part of each operation, whatever its value.
-fn is_common_key(key: &Value) -> bool
-    ensures { result ≡ rule.is_common_key (view key.now) }
-{
-    match key {
-        Value::Keyword(name) => matches!(name.as_str(), "type" | "process" | "f" | "value"),
-        _ => false,
+    match value {
+        Value::Int(number) => Field::Time(*number),
+        _ => Field::Other,
     }
 }
 
-/// Whether a key is that of a part only where its value is an integer.
-fn is_integer_key(key: &Value) -> bool
-    ensures { result ≡ rule.is_integer_key (view key.now) }
+/// What a value says under `:index`.
+fn index_field(value: &Value) -> Field
+    ensures { result ≡ inside.index_field (view value.now) }
 {
-    match key {
-        Value::Keyword(name) => matches!(name.as_str(), "time" | "index"),
-        _ => false,
+    match value {
+        Value::Int(number) => Field::Index(*number),
+        _ => Field::Other,
     }
 }
 
-/// Whether a pair is no part of its own, and is kept as it stands.
-fn is_other(pair: &(Value, Value)) -> bool
-    ensures { result ≡ rule.is_other (view_pair pair.now) }
+/// Which part a pair is.
+fn field_of(key: &Value, value: &Value) -> Field
+    ensures { result ≡ inside.field_of (view key.now) (view value.now) }
 {
-    !is_common_key(&pair.0) && !(is_integer_key(&pair.0) && pair.1.is_integer())
+    let Value::Keyword(name) = key else {
+        return Field::Other;
+    };
+    match name.as_str() {
+        "type" => Field::Kind,
+        "f" => Field::F,
+        "process" => Field::Process,
+        "value" => Field::Value,
+        "time" => time_field(value),
+        "index" => index_field(value),
+        _ => Field::Other,
+    }
 }
 
-/// The pairs that are kept as they stand.
-fn others(alloc: Global, pairs: Vec<(Value, Value)>) -> Result<Vec<(Value, Value)>, AllocError>
-    ensures { IfOk result (λ kept. kept.items
-        ≡ filter (λ pair. rule.is_other (view_pair pair)) pairs.items) }
+/// Keeps what is given, where nothing is kept yet.
+fn keep_first<T: Drop>(kept: &mut Option<T>, given: T)
+    ensures { kept.new ≡ option_or kept.old (Some given) }
 {
-    pairs
-        .into_iter()
-        .filter(|pair| is_other(pair))
-        .collect(alloc)
+    if kept.is_none() {
+        *kept = Some(given);
+    }
+}
+
+/// The parts of an operation, as far as the pairs of its map were gone through. Of two pairs with one
+/// key the first counts.
+struct Fields {
+    kind: Option<Value>,
+    f: Option<Value>,
+    process: Option<Value>,
+    value: Option<Value>,
+    time: Option<i64>,
+    index: Option<i64>,
+    /// The other pairs, as they stand.
+    rest: Vec<(Value, Value)>,
+    /// No memory was refused for the other pairs. A refusal waits until all pairs are seen, since what
+    /// is wrong with the operation comes first.
+    is_whole: bool,
+}
+
+impl Fields {
+    /// The parts before the first pair.
+    fn none(alloc: Global) -> Fields
+        ensures { Holds result inside.no_fields }
+    {
+        Fields {
+            kind: None,
+            f: None,
+            process: None,
+            value: None,
+            time: None,
+            index: None,
+            rest: Vec::new(alloc),
+            is_whole: true,
+        }
+    }
+
+    /// Adds a pair that is no part of its own.
+    fn add_other(&mut self, key: Value, value: Value)
+        ensures { (said : FieldsValue) → Holds self.old said
+            → Holds self.new (inside.with_field said field.Other (view key, view value)) }
+    {
+        if self.rest.push((key, value)).is_err() {
+            self.is_whole = false;
+        }
+    }
+
+    /// Adds a pair.
+    fn add(&mut self, key: Value, value: Value)
+        ensures { (said : FieldsValue) → Holds self.old said
+            → Holds self.new (inside.with_pair said (view key, view value)) }
+    {
+        match field_of(&key, &value) {
+            Field::Kind => keep_first(&mut self.kind, value),
+            Field::F => keep_first(&mut self.f, value),
+            Field::Process => keep_first(&mut self.process, value),
+            Field::Value => keep_first(&mut self.value, value),
+            Field::Time(number) => keep_first(&mut self.time, number),
+            Field::Index(number) => keep_first(&mut self.index, number),
+            Field::Other => self.add_other(key, value),
+        }
+    }
+}
+
+/// The parts of an operation that the pairs of a map say.
+fn fields_in(alloc: Global, pairs: Vec<(Value, Value)>) -> Fields
+    ensures { Holds result (inside.fields_of (view_pairs pairs.items)) }
+{
+    let mut fields = Fields::none(alloc);
+    let mut rest = pairs.into_iter();
+    while let Some((key, value)) = rest.next() {
+        fields.add(key, value);
+    }
+    fields
 }
 
 /// The kind that a value means, if it means one.
@@ -151,49 +207,60 @@ fn process_of(value: &Value) -> Option<Process>
     }
 }
 
-/// The kind of the operation of these pairs.
-fn kind_in(pairs: &[(Value, Value)]) -> Result<Kind, OpError>
-    ensures { result ≡ rule.kind_in (view_pairs pairs.now) }
+/// The kind that is said by what stands under `:type`.
+fn kind_under(value: &Option<Value>) -> Result<Kind, OpError>
+    ensures { result ≡ inside.kind_under (option_map view value.now) }
 {
-    kind_of_value(value_under("type", pairs).ok_or(OpError::MissingType)?).ok_or(OpError::BadType)
+    match value {
+        Some(value) => kind_of_value(value).ok_or(OpError::BadType),
+        None => Err(OpError::MissingType),
+    }
 }
 
-/// The process of the operation of these pairs.
-fn process_in(pairs: &[(Value, Value)]) -> Result<Process, OpError>
-    ensures named { result ≡ rule.process_in (view_pairs pairs.now) }
+/// The process that is said by what stands under `:process`.
+fn process_under(value: &Option<Value>) -> Result<Process, OpError>
+    ensures named { result ≡ inside.process_under (option_map view value.now) }
     ensures writable { IfOk result IsWritable }
 {
-    process_of(value_under("process", pairs).ok_or(OpError::MissingProcess)?).ok_or(
-        OpError::BadProcess,
-    )
+    match value {
+        Some(value) => process_of(value).ok_or(OpError::BadProcess),
+        None => Err(OpError::MissingProcess),
+    }
 }
 
-/// The operation that the pairs of a map mean, or the first refusal that applies.
-fn op_in(alloc: Global, pairs: Vec<(Value, Value)>) -> Result<Op, OpError>
-    ensures parsed { IsOperationParsed result (op_of_pairs (view_pairs pairs.items)) }
+/// The operation of these parts, or the first refusal that applies.
+fn op_with(fields: Fields) -> Result<Op, OpError>
+    ensures parsed { (pairs : List (Edn × Edn)) → Holds fields (inside.fields_of pairs)
+        → IsOperationParsed result (op_of_pairs pairs) }
     ensures writable { IfOk result (λ op. IsWritable op.process) }
 {
-    let mut pairs = pairs;
-    let kind = kind_in(&pairs)?;
-    let Some(f) = take_under("f", &mut pairs) else {
+    let Fields {
+        kind,
+        f,
+        process,
+        value,
+        time,
+        index,
+        rest,
+        is_whole,
+    } = fields;
+    let kind = kind_under(&kind)?;
+    let Some(f) = f else {
         return Err(OpError::MissingF);
     };
-    let process = process_in(&pairs)?;
-    let value = take_under("value", &mut pairs).unwrap_or(Value::Nil);
-    let time = integer_under("time", &pairs);
-    let index = integer_under("index", &pairs);
-    match others(alloc, pairs) {
-        Ok(rest) => Ok(Op {
-            kind,
-            f,
-            value,
-            process,
-            time,
-            index,
-            rest: Pairs::of(rest),
-        }),
-        Err(_) => Err(OpError::OutOfMemory),
+    let process = process_under(&process)?;
+    if !is_whole {
+        return Err(OpError::OutOfMemory);
     }
+    Ok(Op {
+        kind,
+        f,
+        value: value.unwrap_or(Value::Nil),
+        process,
+        time,
+        index,
+        rest: Pairs::of(rest),
+    })
 }
 
 /// The operation that a value means: a map of `:type`, one of `:invoke`, `:ok`, `:fail` and
@@ -211,7 +278,7 @@ pub fn op_of(alloc: Global, value: Value) -> Result<Op, OpError>
     ensures writable { IfOk result (λ op. IsWritable op.process) }
 {
     match value.untagged().into_pairs() {
-        Some(pairs) => op_in(alloc, pairs),
+        Some(pairs) => op_with(fields_in(alloc, pairs)),
         None => Err(OpError::NotMap),
     }
 }

@@ -10,4 +10,4 @@ returns-in-Some-clause-parsed c =
     let parsed : parsed_op (view c.args.value) ≡ op_of_pairs (view_pairs c.in-Some.pairs.items) =
     ap (λ v. result_of_needed (map_pairs v) NotMap op_of_pairs) (sym c.untagged.ensures)
     ∙ ap (λ pairs. result_of_needed pairs NotMap op_of_pairs) (sym c.in-Some.ensures) in
-    rw parsed c.op_in.ensures.parsed
+    rw parsed (c.op_with.ensures.parsed (view_pairs c.in-Some.pairs.items) c.fields_in.ensures)
