@@ -6,7 +6,7 @@ use Rattle.std.specs.List.{list_all}
 use Rattle.std.specs.Str.{bytes_eq}
 use Rattle.std.proofs.lemmas.Bool.Decides.{Decides-eqb, Decides-ltb}
 use Rattle.std.proofs.lemmas.Slice.Eq.{bytes_eq-Decides}
-use Rattle.jh_edn.specs.Edn.{Edn, Items, nil, int, keyword, vector, no_items, item, items_of, list_of, is_integer, integer_of}
+use Rattle.jh_edn.specs.Edn.{Edn, Items, nil, int, keyword, vector, no_items, item, items_of, list_of, is_nil, is_integer, integer_of}
 use Rattle.jh_ops.specs.Operation.{Operation}
 use Rattle.jh_ops.specs.Words.{content_value, pairs_of_event}
 use Rattle.jh_ops.specs.declared.call.Request.{Request}
@@ -24,7 +24,7 @@ use Rattle.jh_nemesis.specs.Steps.{code_of}
 use Rattle.jh_audit.specs.declared.forms.Form.{Form}
 use Rattle.jh_audit.specs.declared.forms.Form.TheVariants.{Asks, Completes, Begins, Ends}
 use Rattle.jh_audit.specs.Forms.{MayGet, MayReply, Says, SaysAt, named_event}
-use Rattle.jh_audit.specs.DecodeInside.{name_in, is_nil, pair_among, pair_in, is_read_value, is_one, request_asked, request_done, completed_request, natural_in, begun_entry, is_code, ended_entry_by, ended_entry_in, client_form, step_form, form_by, event_by, is_index_of, is_none, form_of, form_at}
+use Rattle.jh_audit.specs.DecodeInside.{name_in, pair_among, pair_in, is_read_value, is_one, request_asked, request_done, completed_request, natural_in, begun_entry, is_code, ended_entry_by, ended_entry_in, client_form, step_form, form_by, event_by, is_index_of, is_none, form_of, form_at}
 use Rattle.jh_audit.proofs.ChoiceLemmas.{same_some, chosen, mapped, bound, both_true}
 use Rattle.jh_ops.specs.Pairing.{is_info}
 

@@ -4,7 +4,7 @@ use Rattle.std.proofs.Math.ListN.{drop_of_length-le}
 use Rattle.std.specs.Bool.{Decides}
 use Rattle.std.specs.Prelude.{ℤ, pos}
 use Rattle.std.proofs.lemmas.Bool.Decides.{Decides-and, Decides-int_eq, Decides-like, nat_tests}
-use Rattle.jh_edn.specs.Edn.{Edn, nil, int, keyword, vector, items_of, list_of, integer_of}
+use Rattle.jh_edn.specs.Edn.{Edn, nil, int, keyword, vector, items_of, list_of, is_nil, integer_of}
 use Rattle.jh_edn.specs.View.{views}
 use Rattle.jh_edn.specs.declared.value.Value.{Value}
 use Rattle.jh_ops.specs.Operation.{Operation}
@@ -22,7 +22,7 @@ use Rattle.jh_ops.specs.Requests.{request_name, asked_content}
 use Rattle.jh_nemesis.specs.Steps.{code_of}
 use Rattle.jh_audit.specs.Forms.{Says}
 use Rattle.jh_audit.specs.declared.forms.Form.TheVariants.{Completes}
-use Rattle.jh_audit.specs.DecodeInside.{is_nil, pair_in}
+use Rattle.jh_audit.specs.DecodeInside.{pair_in}
 use Rattle.jh_audit.specs.RepliesInside.{is_number, are_numbers, is_numbers, is_asked_value, is_got, is_replied}
 use Rattle.jh_audit.proofs.ChoiceLemmas.{same_some}
 use Rattle.jh_audit.proofs.FormLemmas.{items-list, list-items, made}

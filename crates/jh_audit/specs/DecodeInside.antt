@@ -5,7 +5,7 @@ use Rattle.std.specs.Prelude.{codes, if◌then◌else◌, Option, Some, None, op
 use Rattle.std.specs.Option.{option_map}
 use Rattle.std.specs.List.{list_all}
 use Rattle.std.specs.Str.{bytes_eq}
-use Rattle.jh_edn.specs.Edn.{Edn, nil, int, keyword, vector, list_of, is_integer, integer_of}
+use Rattle.jh_edn.specs.Edn.{Edn, nil, int, keyword, vector, list_of, is_nil, is_integer, integer_of}
 use Rattle.jh_ops.specs.Operation.{Operation}
 use Rattle.jh_ops.specs.declared.call.Request.{Request}
 use Rattle.jh_ops.specs.declared.call.Request.TheVariants.{Read, Write, Cas, Add, Generate, Txn}
@@ -19,10 +19,6 @@ use Rattle.jh_ops.specs.Pairing.{is_info}
 abbrev pub name_in : Edn → List ℕ
 name_in (keyword name) = name
 name_in _ = []
-
-abbrev pub is_nil : Edn → Bool
-is_nil nil = true
-is_nil _ = false
 
 -- the two integers that are all of a list
 abbrev pub pair_among : List Edn → Option (ℤ × ℤ)

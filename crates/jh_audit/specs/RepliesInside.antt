@@ -1,13 +1,12 @@
 -- Which value a reply has, as the code compares them; `Audit` has the rule (this project's own).
 use Rattle.std.specs.Prelude.{◌&&◌, Bool, true, false, ℤ, List, [], ◌∷◌, Some, None}
 use Rattle.std.specs.Ordering.{int_eq}
-use Rattle.jh_edn.specs.Edn.{Edn, int, vector, list_of}
+use Rattle.jh_edn.specs.Edn.{Edn, int, vector, list_of, is_nil}
 use Rattle.jh_ops.specs.declared.call.Request.{Request}
 use Rattle.jh_ops.specs.declared.call.Request.TheVariants.{Read, Write, Cas, Add, Generate, Txn}
 use Rattle.jh_simnode.specs.declared.replicas.Got.{Got}
 use Rattle.jh_simnode.specs.declared.replicas.Reply.{Reply}
 use Rattle.jh_simnode.specs.declared.replicas.Reply.TheVariants as reply
-use Rattle.jh_audit.specs.DecodeInside.{is_nil}
 
 -- it is this integer
 abbrev pub is_number : ℤ → Edn → Bool

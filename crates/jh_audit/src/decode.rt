@@ -19,13 +19,6 @@ pub(crate) fn name_in(value: &Value) -> &str
     }
 }
 
-/// Whether the value is nil.
-pub(crate) fn is_nil(value: &Value) -> bool
-    ensures { result ≡ rule.is_nil (view value.now) }
-{
-    matches!(value, Value::Nil)
-}
-
 /// The two integers that are all of some values.
 fn pair_among(values: &[Value]) -> Option<(i64, i64)>
     ensures { result ≡ rule.pair_among (views values.now) }
@@ -69,15 +62,15 @@ pub(crate) fn request_asked(name: &str, value: &Value) -> Option<Request>
     ensures { result ≡ rule.request_asked name.now (view value.now) }
 {
     match name {
-        "read" => is_nil(value).then_some(Request::Read),
+        "read" => value.is_nil().then_some(Request::Read),
         "write" => Some(Request::Write(value.as_integer()?)),
         "cas" => {
             let (old, new) = pair_in(value)?;
             Some(Request::Cas(old, new))
         }
         "add" => Some(Request::Add(value.as_integer()?)),
-        "generate" => is_nil(value).then_some(Request::Generate),
-        "txn" => is_nil(value).then_some(Request::Txn),
+        "generate" => value.is_nil().then_some(Request::Generate),
+        "txn" => value.is_nil().then_some(Request::Txn),
         _ => None,
     }
 }

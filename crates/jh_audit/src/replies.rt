@@ -13,7 +13,7 @@ ghost use Rattle.jh_audit.specs.Forms.{Says};
 ghost use Rattle.jh_audit.specs.RepliesInside as rule;
 ghost use Rattle.jh_audit.specs.declared.forms.Form.TheVariants.{Ends};
 
-use crate::decode::{is_nil, pair_in};
+use crate::decode::pair_in;
 use crate::forms::Form;
 use jh_edn::Value;
 use jh_nemesis::StepAnswer;
@@ -62,7 +62,7 @@ fn is_asked_value(value: &Value, request: Request) -> bool
     ensures { result ≡ rule.is_asked_value request (view value.now) }
 {
     match request {
-        Request::Read | Request::Generate | Request::Txn => is_nil(value),
+        Request::Read | Request::Generate | Request::Txn => value.is_nil(),
         Request::Write(number) => is_number(value, number),
         Request::Add(amount) => is_number(value, amount),
         Request::Cas(old, new) => is_numbers(value, &[old, new]),
@@ -75,7 +75,7 @@ fn is_got(value: &Value, request: Request, got: &Got) -> bool
 {
     match got {
         Got::Nothing => is_asked_value(value, request),
-        Got::One(None) => is_nil(value),
+        Got::One(None) => value.is_nil(),
         Got::One(Some(number)) => is_number(value, *number),
         Got::Many(numbers) => is_numbers(value, numbers.as_slice()),
     }

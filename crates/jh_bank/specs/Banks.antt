@@ -8,7 +8,7 @@ use Rattle.std.specs.Prelude.{Option, Some, None, is_some, option_map, option_an
 use Rattle.std.specs.List.{list_any, list_all}
 use Rattle.std.specs.Option.{option_map_or}
 use Rattle.std.specs.Ordering.{int_eq}
-use Rattle.jh_edn.specs.Edn.{Edn, nil, int, map_pairs}
+use Rattle.jh_edn.specs.Edn.{Edn, nil, int, is_nil, map_pairs}
 use Rattle.jh_edn.specs.Normal.{normal}
 use Rattle.jh_edn.specs.Order.{in_order, is_below}
 use Rattle.jh_ops.specs.Operation.{Operation, operation}
@@ -58,10 +58,6 @@ is_balance nil = true
 is_balance (int z) = true
 is_balance _ = false
 
-abbrev pub is_nil_balance : Edn → Bool
-is_nil_balance nil = true
-is_nil_balance _ = false
-
 abbrev pub is_negative_balance : Edn → Bool
 is_negative_balance (int z) = int_lt z (pos 0)
 is_negative_balance _ = false
@@ -87,7 +83,7 @@ distance bank pairs = unsigned_abs (total_of (balances pairs) -ℤ bank.total)
 abbrev pub bank_error : Bank → List (Edn × Edn) → Option BankError
 bank_error bank pairs =
     if list_any (λ pair. not (is_account bank.accounts pair.0)) pairs then Some UnexpectedKey
-    else if list_any is_nil_balance (balances pairs) then Some NilBalance
+    else if list_any is_nil (balances pairs) then Some NilBalance
     else if not (int_eq (total_of (balances pairs)) bank.total) then Some WrongTotal
     else if not bank.negative_balances && list_any is_negative_balance (balances pairs)
     then Some NegativeValue

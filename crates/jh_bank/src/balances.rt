@@ -3,7 +3,7 @@
 ghost use Rattle.std.specs.Prelude.{◌≡◌, ◌&&◌, ◌+ℤ◌, IfOk, fold, not, option_map, pos};
 ghost use Rattle.std.specs.List.{list_all, list_any};
 ghost use Rattle.std.specs.Ordering.{int_eq};
-ghost use Rattle.jh_edn.specs.Edn.{map_pairs};
+ghost use Rattle.jh_edn.specs.Edn.{is_nil, map_pairs};
 ghost use Rattle.jh_edn.specs.View.{view, view_pairs};
 ghost use Rattle.jh_bank.specs.Banks as rule;
 ghost use Rattle.jh_bank.specs.Banks.{is_account};
@@ -51,21 +51,11 @@ pub(crate) fn shows_balances(value: &Value) -> bool
     }
 }
 
-/// Whether the balance is nil.
-fn is_nil(value: &Value) -> bool
-    ensures { result ≡ rule.is_nil_balance (view value.now) }
-{
-    match value {
-        Value::Nil => true,
-        _ => false,
-    }
-}
-
 /// Whether a balance is nil.
 fn has_nil(pairs: &[(Value, Value)]) -> bool
-    ensures { result ≡ list_any (λ pair. rule.is_nil_balance (view pair.1)) pairs.now }
+    ensures { result ≡ list_any (λ pair. is_nil (view pair.1)) pairs.now }
 {
-    pairs.iter().any(|pair| is_nil(&pair.1))
+    pairs.iter().any(|pair| pair.1.is_nil())
 }
 
 /// Whether the balance is below 0.

@@ -84,6 +84,10 @@ abbrev pub is_keyword : List ℕ → Edn → Bool
 is_keyword name (keyword text) = bytes_eq text name
 is_keyword name _ = false
 
+abbrev pub is_nil : Edn → Bool
+is_nil nil = true
+is_nil _ = false
+
 abbrev pub is_integer : Edn → Bool
 is_integer (int z) = true
 is_integer _ = false

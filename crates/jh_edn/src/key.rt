@@ -5,7 +5,7 @@
 
 ghost use Rattle.std.specs.Prelude.{◌≡◌, [], ◌∷◌, ◌++◌, IfOk, OnOk};
 ghost use Rattle.jh_edn.specs.Edn.{vector, items_of, members_of};
-ghost use Rattle.jh_edn.specs.Key as keys;
+ghost use Rattle.jh_edn.specs.Key as rule;
 ghost use Rattle.jh_edn.specs.Key.{is_key_below, key_parts, keys_in};
 ghost use Rattle.jh_edn.specs.Order.{in_order};
 ghost use Rattle.jh_edn.specs.View.{view};
@@ -45,7 +45,7 @@ pub(crate) struct Part<'a> {
 impl<'a> Part<'a> {
     /// A part that is a mark alone.
     fn bare(mark: KeyMark) -> Part<'a>
-        ensures { keys.key_part result ≡ keys.bare_part mark }
+        ensures { rule.key_part result ≡ rule.bare_part mark }
     {
         Part {
             mark,
@@ -56,7 +56,7 @@ impl<'a> Part<'a> {
 
     /// A part of a mark and a number.
     fn numbered(mark: KeyMark, number: i64) -> Part<'a>
-        ensures { keys.key_part result ≡ keys.numbered_part mark number }
+        ensures { rule.key_part result ≡ rule.numbered_part mark number }
     {
         Part {
             mark,
@@ -67,7 +67,7 @@ impl<'a> Part<'a> {
 
     /// A part of a mark and a text.
     fn texted(mark: KeyMark, text: &'a str) -> Part<'a>
-        ensures { keys.key_part result ≡ keys.text_part mark text.now }
+        ensures { rule.key_part result ≡ rule.text_part mark text.now }
     {
         Part {
             mark,
@@ -80,32 +80,32 @@ impl<'a> Part<'a> {
 /// Appends a part.
 fn push<'a>(part: Part<'a>, key: &mut Vec<Part<'a>>) -> Result<(), AllocError>
     ensures { OnOk result
-        (key_parts key.new.items ≡ key_parts key.old.items ++ keys.key_part part.entry ∷ []) }
+        (key_parts key.new.items ≡ key_parts key.old.items ++ rule.key_part part.entry ∷ []) }
 {
     key.push(part)?;
     Ok(())
 }
 
 /// Appends the keys, each led by a mark, and an end.
-fn push_marked<'a>(codes: &[Vec<Part<'a>>], key: &mut Vec<Part<'a>>) -> Result<(), AllocError>
+fn push_marked<'a>(keys: &[Vec<Part<'a>>], key: &mut Vec<Part<'a>>) -> Result<(), AllocError>
     ensures { OnOk result (key_parts key.new.items
-        ≡ key_parts key.old.items ++ keys.marked_keys (keys_in codes.now)) }
+        ≡ key_parts key.old.items ++ rule.marked_keys (keys_in keys.now)) }
 {
-    for code in codes {
+    for item_key in keys {
         push(Part::bare(KeyMark::More), key)?;
-        key.extend_from_slice(code)?;
+        key.extend_from_slice(item_key)?;
     }
     push(Part::bare(KeyMark::Last), key)
 }
 
 /// Appends the keys in ascending order, each led by a mark, and an end.
-fn push_sorted<'a>(mut codes: Vec<Vec<Part<'a>>>, key: &mut Vec<Part<'a>>) -> Result<(), AllocError>
+fn push_sorted<'a>(mut keys: Vec<Vec<Part<'a>>>, key: &mut Vec<Part<'a>>) -> Result<(), AllocError>
     ensures { OnOk result (key_parts key.new.items
         ≡ key_parts key.old.items
-        ++ keys.marked_keys (in_order is_key_below (keys_in codes.entry.items))) }
+        ++ rule.marked_keys (in_order is_key_below (keys_in keys.entry.items))) }
 {
-    codes.sort()?;
-    push_marked(&codes, key)
+    keys.sort()?;
+    push_marked(&keys, key)
 }
 
 /// Appends the value's key.
@@ -116,7 +116,7 @@ pub(crate) fn push_key<'a>(
     key: &mut Vec<Part<'a>>,
 ) -> Result<(), AllocError>
     ensures { OnOk result
-        (key_parts key.new.items ≡ key_parts key.old.items ++ keys.key_of (view value.now)) }
+        (key_parts key.new.items ≡ key_parts key.old.items ++ rule.key_of (view value.now)) }
 {
     match value {
         Value::Nil => push(Part::bare(KeyMark::Nil), key),
@@ -151,7 +151,7 @@ fn push_items<'a>(
     key: &mut Vec<Part<'a>>,
 ) -> Result<(), AllocError>
     ensures { OnOk result (key_parts key.new.items
-        ≡ key_parts key.old.items ++ keys.key_of (vector (items_of items.now))) }
+        ≡ key_parts key.old.items ++ rule.key_of (vector (items_of items.now))) }
 {
     push(Part::bare(KeyMark::Sequence), key)?;
     for item in &items.items {
@@ -164,29 +164,29 @@ fn push_items<'a>(
 /// The key of each element.
 #[cycle(key)]
 pub(crate) fn item_keys(alloc: Global, items: &Values) -> Result<Vec<Vec<Part<'_>>>, AllocError>
-    ensures { IfOk result (λ codes. keys_in codes.items ≡ keys.item_keys (items_of items.now)) }
+    ensures { IfOk result (λ keys. keys_in keys.items ≡ rule.item_keys (items_of items.now)) }
 {
-    let mut codes = Vec::new(alloc);
+    let mut keys = Vec::new(alloc);
     for item in &items.items {
-        let mut code = Vec::new(alloc);
-        push_key(alloc, item, &mut code)?;
-        codes.push(code)?;
+        let mut item_key = Vec::new(alloc);
+        push_key(alloc, item, &mut item_key)?;
+        keys.push(item_key)?;
     }
-    Ok(codes)
+    Ok(keys)
 }
 
 /// The key of each pair: that of its key, and then that of its value.
 #[cycle(key)]
 fn pair_keys(alloc: Global, pairs: &Pairs) -> Result<Vec<Vec<Part<'_>>>, AllocError>
-    ensures { IfOk result (λ codes. keys_in codes.items ≡ keys.pair_keys (members_of pairs.now)) }
+    ensures { IfOk result (λ keys. keys_in keys.items ≡ rule.pair_keys (members_of pairs.now)) }
 {
-    let mut codes = Vec::new(alloc);
+    let mut keys = Vec::new(alloc);
     for pair in &pairs.items {
         let (key, value) = pair;
-        let mut code = Vec::new(alloc);
-        push_key(alloc, key, &mut code)?;
-        push_key(alloc, value, &mut code)?;
-        codes.push(code)?;
+        let mut pair_key = Vec::new(alloc);
+        push_key(alloc, key, &mut pair_key)?;
+        push_key(alloc, value, &mut pair_key)?;
+        keys.push(pair_key)?;
     }
-    Ok(codes)
+    Ok(keys)
 }

@@ -39,7 +39,7 @@ pub use laws::{
 pub use line::values_in_line;
 pub use parts::{Element, write_part};
 pub use place::{FirstError, first_error};
-pub use reader::read_one;
+pub use reader::{DEPTH_LIMIT, read_one};
 pub use sequence::{Sink, read_sequence};
 pub use text::Text;
 pub use value::{Pairs, Tagged, Value, Values};

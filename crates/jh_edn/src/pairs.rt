@@ -7,7 +7,7 @@ ghost use Rattle.std.specs.Prelude.{◌≡◌, IfOk, map};
 ghost use Rattle.std.specs.Bool.{MatchBool};
 ghost use Rattle.std.specs.List.Sorted.{IsStrictlyIncreasing};
 ghost use Rattle.jh_edn.specs.Fingerprint.{StandOnce, fingerprint, fingerprints};
-ghost use Rattle.jh_edn.specs.Key as key;
+ghost use Rattle.jh_edn.specs.Key as rule;
 ghost use Rattle.jh_edn.specs.Key.{keys_in};
 ghost use Rattle.jh_edn.specs.Reading as reading;
 ghost use Rattle.jh_edn.specs.Reading.{pairs_of};
@@ -40,7 +40,7 @@ pub(crate) fn make_pairs(alloc: Global, items: Vec<Value>) -> Result<Option<Pair
 
 /// Whether one of the keys stands twice. Looks each up in a tree of those before it.
 fn has_twice(alloc: Global, keys: &[Vec<Part<'_>>]) -> Result<bool, AllocError>
-    ensures { IfOk result (λ b. b ≡ key.has_twice (keys_in keys.now)) }
+    ensures { IfOk result (λ b. b ≡ rule.has_twice (keys_in keys.now)) }
 {
     let mut seen = BTreeSet::new(alloc);
     for key in keys {
@@ -98,13 +98,13 @@ fn item_fingerprints(alloc: Global, items: &Values) -> Result<Fingerprints, Allo
 
 /// The key of each pair's key.
 fn map_keys(alloc: Global, pairs: &Pairs) -> Result<Vec<Vec<Part<'_>>>, AllocError>
-    ensures { IfOk result (λ codes. keys_in codes.items ≡ map (λ m. key.key_of m.0) pairs.now) }
+    ensures { IfOk result (λ keys. keys_in keys.items ≡ map (λ m. rule.key_of m.0) pairs.now) }
 {
     let mut keys = Vec::new(alloc);
     for pair in &pairs.items {
-        let mut code = Vec::new(alloc);
-        push_key(alloc, &pair.0, &mut code)?;
-        keys.push(code)?;
+        let mut key = Vec::new(alloc);
+        push_key(alloc, &pair.0, &mut key)?;
+        keys.push(key)?;
     }
     Ok(keys)
 }

@@ -16,8 +16,8 @@ use crate::syntax_error::ReadError;
 use crate::value::Value;
 use std::alloc::Global;
 
-/// How many brackets, tags and discards may be open at once.
-pub(crate) const DEPTH_LIMIT: usize = 64;
+/// How many brackets, tags and discards may be open at once: `depth_limit` of `specs/Spelling.antt`.
+pub const DEPTH_LIMIT: usize = 64;
 
 /// The line, from 1, of the place with so many bytes left.
 fn line_of(text: &str, left: usize) -> u64

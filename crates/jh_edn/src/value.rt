@@ -166,6 +166,13 @@ impl Value {
         }
     }
 
+    /// Whether the value is nil.
+    pub fn is_nil(&self) -> bool
+        ensures { result ≡ edn.is_nil (view self.now) }
+    {
+        matches!(self, Value::Nil)
+    }
+
     /// Whether the value is an integer.
     pub fn is_integer(&self) -> bool
         ensures { result ≡ edn.is_integer (view self.now) }

@@ -4,7 +4,7 @@ use Rattle.std.specs.Prelude.{codes, map, slice_get, Option, None, Some, is_some
 use Rattle.std.specs.List.{AllByRecursion}
 use Rattle.std.proofs.lemmas.Bool.{false≢true}
 use Rattle.std.proofs.lemmas.List.Elements.{All-contains, All-map}
-use Rattle.jh_edn.specs.Edn.{Edn, nil, boolean, int, char, str, keyword, symbol, list, vector, mapping, set, tagged, is_integer, is_keyword}
+use Rattle.jh_edn.specs.Edn.{Edn, nil, boolean, int, char, str, keyword, symbol, list, vector, mapping, set, tagged, is_nil, is_integer, is_keyword}
 use Rattle.jh_linear.specs.Operations.{IsLeastBad, answer_in, answered_value, bad_place, completion_of, op_with_call, place_of_value, read_of, reg_call_of, reg_op_of}
 use Rattle.jh_linear.specs.declared.operations.Object.{Object}
 use Rattle.jh_ops.specs.Operation.{Operation}
@@ -16,7 +16,7 @@ use Rattle.jh_ops.specs.declared.call.Request.{Request}
 use Rattle.jh_ops.specs.declared.call.Request.TheVariants.{Read, Write, Cas, Add, Generate, Txn}
 use Rattle.jh_ops.specs.declared.operation.Kind.{Kind}
 use Rattle.jh_ops.specs.declared.pairs.Pair.{Pair}
-use Rattle.jh_test_parts.specs.Values.{is_nil_value, is_readable}
+use Rattle.jh_test_parts.specs.Values.{is_readable}
 use Rattle.jh_test_parts.specs.declared.workload.TestWorkload.TheVariants.{Register}
 use Rattle.jh_test_laws.specs.HistoryInside.{AllFit, Invokes, Completes, IsAskedValue, suits_call}
 use Rattle.jh_test_laws.proofs.PairLemmas.{IsEndAt, IsPairOf, all_pairs}
@@ -25,7 +25,7 @@ use Rattle.jh_test_laws.proofs.ReadLemmas.{all_of, good_read}
 abbrev NotBad : List Operation → Pair → Type 0
 NotBad history pair = bad_place Object.Register history pair ≡ None
 
-readable : (value : Edn) → (is_nil_value value || is_integer value) ≡ true → is_some (read_of value) ≡ true
+readable : (value : Edn) → (is_nil value || is_integer value) ≡ true → is_some (read_of value) ≡ true
 readable nil e = refl
 readable (boolean b) e = absurd (false≢true e)
 readable (int z) e = refl

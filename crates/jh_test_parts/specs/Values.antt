@@ -3,7 +3,7 @@
 use Rattle.std.specs.Prelude.{Bool, true, false, ◌&&◌, ◌||◌, List}
 use Rattle.std.specs.Prelude.{[], ◌∷◌, Option, None, Some}
 use Rattle.std.specs.Prelude.{is_some}
-use Rattle.jh_edn.specs.Edn.{Edn, nil, elements_of, is_integer}
+use Rattle.jh_edn.specs.Edn.{Edn, nil, elements_of, is_nil, is_integer}
 use Rattle.jh_ops.specs.declared.call.Request.{Request}
 use Rattle.jh_ops.specs.declared.call.Request.TheVariants.{Read, Generate, Txn}
 use Rattle.jh_ops.specs.declared.operation.Kind.{Kind}
@@ -15,10 +15,6 @@ use Rattle.jh_test_parts.specs.declared.workload.TestWorkload.{TestWorkload}
 use Rattle.jh_test_parts.specs.declared.workload.TestWorkload.TheVariants.{Register, Counter, Set}
 use Rattle.jh_test_parts.specs.declared.workload.TestWorkload.TheVariants.{Ids, ListAppend}
 
-abbrev pub is_nil_value : Edn → Bool
-is_nil_value nil = true
-is_nil_value _ = false
-
 abbrev pub is_collection : Edn → Bool
 is_collection (Edn.set xs) = true
 is_collection value = is_some (elements_of value)
@@ -26,7 +22,7 @@ is_collection value = is_some (elements_of value)
 -- what a read may see: an integer or nil of a register, an integer of a counter, of a set a list, a
 -- vector or a set
 abbrev pub is_readable : TestWorkload → Edn → Bool
-is_readable Register value = is_nil_value value || is_integer value
+is_readable Register value = is_nil value || is_integer value
 is_readable Counter value = is_integer value
 is_readable Set value = is_collection value
 is_readable Ids value = true

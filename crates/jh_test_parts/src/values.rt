@@ -12,16 +12,6 @@ use jh_ops::{Kind, Request};
 use jh_txn_histories::{is_answered, is_equal};
 use std::alloc::{AllocError, Global};
 
-/// Whether a value is nil.
-fn is_nil(value: &Value) -> bool
-    ensures { result ≡ rule.is_nil_value (view value.now) }
-{
-    match value {
-        Value::Nil => true,
-        _ => false,
-    }
-}
-
 /// Whether a value is a list, a vector or a set.
 fn is_collection(value: &Value) -> bool
     ensures { result ≡ rule.is_collection (view value.now) }
@@ -39,7 +29,7 @@ fn is_readable(workload: TestWorkload, value: &Value) -> bool
     ensures { result ≡ rule.is_readable workload (view value.now) }
 {
     match workload {
-        TestWorkload::Register => is_nil(value) || value.is_integer(),
+        TestWorkload::Register => value.is_nil() || value.is_integer(),
         TestWorkload::Counter => value.is_integer(),
         TestWorkload::Set => is_collection(value),
         TestWorkload::Ids | TestWorkload::ListAppend => true,

@@ -7,11 +7,9 @@ ghost use Rattle.std.specs.Prelude.{◌≡◌, reverse, length, option_map, IfOk
 ghost use Rattle.jh_unread.specs.Nesting as nesting;
 
 use crate::parts::{Opened, Part};
+use jh_edn::DEPTH_LIMIT;
 use jh_lexemes::Bracket;
 use std::alloc::AllocError;
-
-/// How many brackets and discards may be open at once: `depth_limit` of `jh_edn`, as the reader takes them.
-const DEPTH_LIMIT: usize = 64;
 
 /// Whether the bracket closes this.
 fn closes(opened: Opened, bracket: Bracket) -> bool

@@ -3,7 +3,7 @@ use Rattle.std.specs.List.{list_any}
 use Rattle.std.specs.Ordering.{int_eq}
 use Rattle.jh_edn.specs.View.{view_pairs}
 use Rattle.jh_bank.specs.BankInside.{first_error_of}
-use Rattle.jh_bank.specs.Banks.{balances, is_account, is_negative_balance, is_nil_balance, total_of}
+use Rattle.jh_bank.specs.Banks.{balances, is_account, is_negative_balance, total_of}
 use Rattle.jh_bank.proofs.BalanceLemmas.{any_balance, any_key, total_held}
 use Rattle.jh_bank.proofs.balances.bank_error.Goals as goal
 
@@ -14,7 +14,7 @@ returns c =
     let pairs = view_pairs held in
     let unexpected : c.in_ok-unexpected.unexpected ≡ list_any (λ pair. not (is_account bank.accounts pair.0)) pairs =
     c.in_ok-unexpected.ensures ∙ sym (any_key (λ key. not (is_account bank.accounts key)) held) in
-    let nil : c.has_nil-nil.result ≡ list_any is_nil_balance (balances pairs) = c.has_nil-nil.ensures ∙ sym (any_balance is_nil_balance held) in
+    let nil : c.has_nil-nil.result ≡ list_any is_nil (balances pairs) = c.has_nil-nil.ensures ∙ sym (any_balance is_nil held) in
     let wrong : c.has_wrong_total-wrong.result ≡ not (int_eq (total_of (balances pairs)) bank.total) =
     c.has_wrong_total-wrong.ensures ∙ ap (λ total. not (int_eq total bank.total)) (sym (total_held held)) in
     let negative : c.has_forbidden-negative.result ≡ (not bank.negative_balances && list_any is_negative_balance (balances pairs)) =
