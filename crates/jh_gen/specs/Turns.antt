@@ -5,9 +5,9 @@ use Rattle.std.specs.Prelude.{length, None}
 use Rattle.std.specs.Option.{option_or}
 use Rattle.jh_gen.specs.Scope.{Question, has_busy_thread, is_in_scope}
 use Rattle.jh_gen.specs.State.{GeneratorState, is_done, Taking, taking_within, taking}
-use Rattle.jh_gen.specs.declared.node.Query.{Query}
+use Rattle.jh_gen.specs.declared.node.Question as asked
 
-abbrev pub question : Query → Question
+abbrev pub question : asked.Question → Question
 question a = record { asker = a.asker; random_number = a.random_number; busy = a.busy.now }
 
 abbrev pub RowMembers : Type 0

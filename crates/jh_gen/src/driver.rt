@@ -16,7 +16,7 @@ ghost use Rattle.jh_gen.specs.DriverState.{thread_number};
 use crate::answers::{DriverError, Ended, GenAnswer, GenError, Thread};
 use crate::build::{build, fits};
 use crate::generator::Gen;
-use crate::node::{Node, Query};
+use crate::node::{Node, Question};
 use jh_ops::Process;
 use std::alloc::{AllocError, Global};
 use std::marker::Model;
@@ -176,7 +176,7 @@ impl Driver {
         if self.root.is_done() {
             return Ok(GenAnswer::Done);
         }
-        let asked = Query {
+        let asked = Question {
             asker: number,
             random_number,
             busy: self.busy.as_slice(),

@@ -17,7 +17,7 @@ use std::marker::Model;
 
 /// Who asks, with which random number, and which threads have an operation outstanding.
 #[derive(Clone, Copy)]
-pub(crate) struct Query<'a> {
+pub(crate) struct Question<'a> {
     pub(crate) asker: usize,
     pub(crate) random_number: u64,
     pub(crate) busy: &'a [bool],
@@ -235,7 +235,7 @@ fn is_any_busy(busy: &[bool], threads: &[usize]) -> bool
 impl Node {
     /// The call that a thread gets now. It is gone from what is left.
     #[cycle(take)]
-    pub(crate) fn take(&mut self, asked: Query) -> Option<Call>
+    pub(crate) fn take(&mut self, asked: Question) -> Option<Call>
         ensures call { result ≡ taken_call (taking (node_state self.old) (question asked.entry)) }
         ensures rest { node_state self.new
             ≡ rest_of (node_state self.old) (taking (node_state self.old) (question asked.entry)) }
@@ -291,7 +291,7 @@ impl Row {
     /// The call that a thread gets from the member at a place. A member that has given none waits for
     /// the awaited threads.
     #[cycle(take)]
-    fn take_at(&mut self, at: usize, awaited: &[usize], asked: Query) -> Option<Call>
+    fn take_at(&mut self, at: usize, awaited: &[usize], asked: Question) -> Option<Call>
         requires { at < length self.old }
         ensures call { result
             ≡ taken_call (turn_at awaited.now self.old at (question asked.entry)) }
@@ -309,7 +309,7 @@ impl Row {
 
     /// The call that a thread gets from the first member that isn't done.
     #[cycle(take)]
-    fn take_first(&mut self, awaited: &[usize], asked: Query) -> Option<Call>
+    fn take_first(&mut self, awaited: &[usize], asked: Question) -> Option<Call>
         ensures call { result
             ≡ taken_call (first_turn awaited.now self.old (question asked.entry)) }
         ensures rest { self.new
@@ -356,7 +356,7 @@ impl Row {
 
     /// The first call that there is at the places of a range.
     #[cycle(take)]
-    fn take_among(&mut self, from: usize, to: usize, asked: Query) -> Option<Call>
+    fn take_among(&mut self, from: usize, to: usize, asked: Question) -> Option<Call>
         requires { (from ≤ to) × (to ≤ length self.old) }
         ensures call { result
             ≡ taken_call (turn_among self.old (question asked.entry) from (to - from)) }
@@ -377,7 +377,7 @@ impl Row {
     /// Members that aren't done are tried in turn: from the one that the random number chooses to the
     /// last, and then from the first on.
     #[cycle(take)]
-    fn take_any(&mut self, asked: Query) -> Option<Call>
+    fn take_any(&mut self, asked: Question) -> Option<Call>
         ensures call { result ≡ taken_call (any_turn self.old (question asked.entry)) }
         ensures rest { self.new ≡ rest_of self.old (any_turn self.old (question asked.entry)) }
     {
@@ -410,7 +410,7 @@ impl Lots {
 
     /// The call that a thread gets from the first lot for it.
     #[cycle(take)]
-    fn take(&mut self, asked: Query) -> Option<Call>
+    fn take(&mut self, asked: Question) -> Option<Call>
         ensures call { result
             ≡ taken_call
             (lot_turn self.old (lot_at self.old asked.entry.asker) (question asked.entry)) }

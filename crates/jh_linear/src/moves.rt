@@ -14,7 +14,7 @@ ghost use Rattle.jh_linear.specs.SearchInside as rule;
 ghost use Rattle.jh_linear.specs.SearchInside.{AreMoves, HasHappened, HasUnknown, IsProblem, IsReady};
 ghost use Rattle.jh_linear.specs.SearchInside.{IsSettledAt, CanBePlaced, IsWanted};
 ghost use Rattle.jh_linear.specs.SearchInside.{IsAmong, MovesMore, IsNoneSettled, source_call, stages_in};
-ghost use Rattle.jh_linear.specs.WantedInside.{Holds};
+ghost use Rattle.jh_linear.specs.WantedInside.{HoldsValue};
 ghost use Rattle.jh_linear.specs.Stuck.{op_end};
 ghost use Rattle.jh_linear.specs.declared.moves.Source.TheVariants as source;
 
@@ -172,7 +172,7 @@ fn is_worth(problem: &Problem, config: &Config, wanted: &Wanted, class: usize) -
     ensures other { result ≡ false → IsReady problem.now config.now class → (next : Option ℤ)
         → Allows
         (source_call problem.now config.now (source.NextOfClass class)) config.now.value next
-        → Holds wanted.now next → ⊥ }
+        → HoldsValue wanted.now next → ⊥ }
 {
     if !is_ready(problem, config, class) {
         return false;
@@ -196,7 +196,7 @@ fn push_unknown(
     requires problem { IsProblem problem.now }
     requires stage { config.now.stage < stages_in problem.now }
     requires wanted { (value : Option ℤ) → IsWanted problem.now config.now value
-        → Holds wanted.now value }
+        → HoldsValue wanted.now value }
     ensures more { OnOk result (MovesMore problem.now config.now moves.old.items moves.new.items) }
     ensures unknown { OnOk result
         (HasUnknown problem.now config.now moves.new.items

@@ -9,7 +9,7 @@ ghost use Rattle.std.specs.Prelude.{◌≡◌, ℤ, ◌<◌, false, Option, Some
 ghost use Rattle.jh_linear.specs.SearchInside.{IsProblem, IsReady, IsWanted, Needs, source_call};
 ghost use Rattle.jh_linear.specs.SearchInside.{stages_in};
 ghost use Rattle.jh_linear.specs.declared.moves.Source.TheVariants as source;
-ghost use Rattle.jh_linear.specs.WantedInside.{Holds, HoldsHappened, HoldsMore, HoldsUnknown};
+ghost use Rattle.jh_linear.specs.WantedInside.{HoldsValue, HoldsHappened, HoldsMore, HoldsUnknown};
 
 use crate::config::Config;
 use crate::moves::{Source, is_ready, op_of};
@@ -26,7 +26,7 @@ pub(crate) struct Wanted {
 
 /// Adds the value that a call needs, if it needs one.
 fn put(wanted: &mut Wanted, call: RegCall) -> Result<(), AllocError>
-    ensures needs { OnOk result ((value : Option ℤ) → Needs call value → Holds wanted.new value) }
+    ensures needs { OnOk result ((value : Option ℤ) → Needs call value → HoldsValue wanted.new value) }
     ensures more { OnOk result (HoldsMore wanted.old wanted.new) }
 {
     if let Some(value) = needed(call) {
@@ -37,7 +37,7 @@ fn put(wanted: &mut Wanted, call: RegCall) -> Result<(), AllocError>
 
 /// Whether a value is wanted.
 pub(crate) fn is_held(wanted: &Wanted, value: Option<i64>) -> bool
-    ensures { result ≡ false → Holds wanted.now value → ⊥ }
+    ensures { result ≡ false → HoldsValue wanted.now value → ⊥ }
 {
     match value {
         Some(held) => wanted.values.contains(&held),
@@ -69,7 +69,7 @@ fn put_next(
     requires class { class < length problem.now.sorted.classes.items }
     ensures needs { OnOk result ((value : Option ℤ) → IsReady problem.now config.now class
         → Needs (source_call problem.now config.now (source.NextOfClass class)) value
-        → Holds wanted.new value) }
+        → HoldsValue wanted.new value) }
     ensures more { OnOk result (HoldsMore wanted.old wanted.new) }
 {
     if is_ready(problem, config, class) {
@@ -106,7 +106,7 @@ pub(crate) fn wanted_by(
     requires stage { config.now.stage < stages_in problem.now }
     ensures { IfOk result
         (λ wanted. (value : Option ℤ) → IsWanted problem.now config.now value
-        → Holds wanted value) }
+        → HoldsValue wanted value) }
 {
     let mut wanted = Wanted {
         values: HashSet::new(alloc),

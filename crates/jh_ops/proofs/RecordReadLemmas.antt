@@ -16,7 +16,7 @@ use Rattle.jh_ops.specs.declared.operation.Kind.{Kind}
 use Rattle.jh_ops.specs.declared.operation.Process.{Process}
 use Rattle.jh_ops.specs.declared.record.Function.{Function}
 use Rattle.jh_ops.specs.declared.record.ValueShape.{ValueShape}
-use Rattle.jh_ops.specs.declared.words.Head.{Head}
+use Rattle.jh_ops.specs.declared.words.FirstWord.{FirstWord}
 use Rattle.jh_ops.specs.declared.words.Heading.{Heading}
 use Rattle.jh_ops.proofs.RecordLemmas.{shape_in, number_is, may_have, takes_again, few, holds_again, event_small, kept_function, kept_event}
 
@@ -52,8 +52,8 @@ pub record_parsed : (words : List ℕ) (h : Heading) → All (λ word. word < 2 
 record_parsed words h small begins =
     let rest = drop 3 words in
     let zs = map (cast_signed w64) rest in
-    let s = h.head.shape in
-    let f = h.head.function in
+    let s = h.first.shape in
+    let f = h.first.function in
     let parts = and_parts (holds s (length rest)) (takes f s (length rest)) begins.fit in
     let held : holds s (length zs) ≡ true = rw (length-map rest (cast_signed w64)) parts.0 in
     let is = shape_is s zs held in
@@ -68,16 +68,16 @@ record_parsed words h small begins =
 
 -- ---- and there are no others
 
-abbrev pub head_of : Record → Head
-head_of r = record { kind = r.kind; function = r.function; shape = shape_in r.content }
+abbrev pub first_word_of : Record → FirstWord
+first_word_of r = record { kind = r.kind; function = r.function; shape = shape_in r.content }
 
-first_is : (r : Record) → kind_number r.kind + 4 * function_number r.function + 64 * content_number r.content ≡ first_word (head_of r)
+first_is : (r : Record) → kind_number r.kind + 4 * function_number r.function + 64 * content_number r.content ≡ first_word (first_word_of r)
 first_is r = ap (λ n. kind_number r.kind + 4 * function_number r.function + 64 * n) (sym (number_is r.content))
 
 pub not_short : (words : List ℕ) (r : Record) → length words < 3 → AreWordsOf words r → ⊥
 not_short words r short are = absurd (let long : length words ≡ suc (suc (suc (length are.0))) = ap length are.1 in omega (arith, short, long))
 
-pub first_of : (words : List ℕ) (d : ℕ) (r : Record) → AreWordsOf words r → first_word (head_of r) ≡ slice_index_or words 0 d
+pub first_of : (words : List ℕ) (d : ℕ) (r : Record) → AreWordsOf words r → first_word (first_word_of r) ≡ slice_index_or words 0 d
 first_of words d r are = sym (first_is r) ∙ sym (ap (λ ws. slice_index_or ws 0 d) are.1)
 
 pub process_of : (words : List ℕ) (d : ℕ) (r : Record) → AreWordsOf words r → process_word r.process ≡ slice_index_or words 1 d
@@ -139,9 +139,9 @@ shape_again ValueShape.Nil = refl
 shape_again ValueShape.Integer = refl
 shape_again ValueShape.Vector = refl
 
-same_head : (these those : Head) → first_word these ≡ first_word those → these ≡ those
-same_head these those same =
-    let parts : (h : Head) → (first_word h % 4 ≡ kind_number h.kind) × (first_word h / 4 % 16 ≡ function_number h.function) × (first_word h / 64 ≡ shape_number h.shape) =
+same_first_word : (these those : FirstWord) → first_word these ≡ first_word those → these ≡ those
+same_first_word these those same =
+    let parts : (h : FirstWord) → (first_word h % 4 ≡ kind_number h.kind) × (first_word h / 4 % 16 ≡ function_number h.function) × (first_word h / 64 ≡ shape_number h.shape) =
     λ h. (
       low (kind_number h.kind) (function_number h.function) (shape_number h.shape) (kind_small h.kind) (function_small h.function),
       middle (kind_number h.kind) (function_number h.function) (shape_number h.shape) (kind_small h.kind) (function_small h.function),
@@ -177,14 +177,14 @@ content_again (Several zs) = refl
 -- no other record has these words
 same_record : (this that : Record) (words : List ℕ) → CanBeKept this → CanBeKept that → AreWordsOf words this → AreWordsOf words that → this ≡ that
 same_record this that words can could are were =
-    let head : head_of this ≡ head_of that = same_head (head_of this) (head_of that) (first_of words 0 this are ∙ sym (first_of words 0 that were)) in
+    let first : first_word_of this ≡ first_word_of that = same_first_word (first_word_of this) (first_word_of that) (first_of words 0 this are ∙ sym (first_of words 0 that were)) in
     let process : this.process ≡ that.process = same_process this.process that.process can.process could.process (process_of words 0 this are ∙ sym (process_of words 0 that were)) in
     let event : this.event ≡ that.event = sym (event_again this.event) ∙ ap event_of (event_at words 0 this are ∙ sym (event_at words 0 that were)) ∙ event_again that.event in
     let rest : are.0 ≡ were.0 = sym (ap (drop 3) are.1) ∙ ap (drop 3) were.1 in
     let zs : integers this.content ≡ integers that.content = sym are.2.1 ∙ ap (map (cast_signed w64)) rest ∙ were.2.1 in
     let content : this.content ≡ that.content =
-    sym (content_again this.content) ∙ ap (λ s. content_of s (integers this.content)) (ap (λ h. h.shape) head) ∙ ap (content_of (shape_in that.content)) zs ∙ content_again that.content in
-    λ i. record { kind = (head i).kind; process = process i; function = (head i).function; content = content i; event = event i }
+    sym (content_again this.content) ∙ ap (λ s. content_of s (integers this.content)) (ap (λ h. h.shape) first) ∙ ap (content_of (shape_in that.content)) zs ∙ content_again that.content in
+    λ i. record { kind = (first i).kind; process = process i; function = (first i).function; content = content i; event = event i }
 
 -- ---- one list of words
 

@@ -15,7 +15,7 @@ use Rattle.jh_ops.specs.declared.operation.Kind.{Kind}
 use Rattle.jh_ops.specs.declared.operation.Process.{Process}
 use Rattle.jh_ops.specs.declared.record.Function.{Function}
 use Rattle.jh_ops.specs.declared.record.ValueShape.{ValueShape}
-use Rattle.jh_ops.specs.declared.words.Head.{Head}
+use Rattle.jh_ops.specs.declared.words.FirstWord.{FirstWord}
 use Rattle.jh_ops.specs.declared.words.Heading.{Heading}
 
 abbrev pub function_named : List ℕ → Option Function
@@ -105,12 +105,12 @@ event_word_in ((key, int (pos number)) ∷ []) =
 event_word_in _ = None
 
 -- the first word of these parts
-abbrev pub first_word : Head → ℕ
-first_word head =
-    kind_number head.kind + 4 * function_number head.function + 64 * shape_number head.shape
+abbrev pub first_word : FirstWord → ℕ
+first_word first =
+    kind_number first.kind + 4 * function_number first.function + 64 * shape_number first.shape
 
 abbrev pub IsNoFirstWord : ℕ → Type 0
-IsNoFirstWord word = (head : Head) → first_word head ≡ word → ⊥
+IsNoFirstWord word = (first : FirstWord) → first_word first ≡ word → ⊥
 
 abbrev pub IsNoProcessWord : ℕ → Type 0
 IsNoProcessWord word = (process : Process) → IsWritable process → process_word process ≡ word → ⊥
@@ -150,17 +150,17 @@ content_of ValueShape.Vector zs = Several zs
 abbrev pub record_of : Heading → List ℕ → Record
 record_of h words =
     record {
-      kind = h.head.kind;
+      kind = h.first.kind;
       process = h.process;
-      function = h.head.function;
-      content = content_of h.head.shape (map (cast_signed w64) words);
+      function = h.first.function;
+      content = content_of h.first.shape (map (cast_signed w64) words);
       event = event_of h.event;
     }
 
 -- Words begin with a heading, and go on with as many as its shape wants.
 pub record BeginWith (words : List ℕ) (h : Heading) : Type 0 where
-  pub first : words ≡ first_word h.head ∷ process_word h.process ∷ h.event ∷ drop 3 words
+  pub first : words ≡ first_word h.first ∷ process_word h.process ∷ h.event ∷ drop 3 words
   pub process : IsWritable h.process
   pub event : h.event ≤ 2 ^ 63
-  pub fit : (holds h.head.shape (length (drop 3 words))
-      && takes h.head.function h.head.shape (length (drop 3 words))) ≡ true
+  pub fit : (holds h.first.shape (length (drop 3 words))
+      && takes h.first.function h.first.shape (length (drop 3 words))) ≡ true

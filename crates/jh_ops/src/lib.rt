@@ -22,4 +22,4 @@ pub use operation::{Kind, Op, Process};
 pub use pairing::pair;
 pub use pairs::{Pair, PairError};
 pub use record::are_integers;
-pub use words::{WordsError, of_words, recorded_once, to_words};
+pub use words::{WordsError, event_pairs, of_words, recorded_once, to_words};

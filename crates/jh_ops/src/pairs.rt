@@ -10,7 +10,8 @@ use thiserror::Error;
 #[derive(Clone, Copy, Debug, PartialEq, Eq)]
 pub struct Pair {
     pub invoke: usize,
-    /// The next operation of the same process, if there is one.
+    /// The place of its completion, which is the next operation of the same process, if there is one.
+    /// How it ended is `Outcome` in `jh_linear` and `jh_txn`.
     pub outcome: Option<usize>,
 }
 

@@ -24,7 +24,7 @@ use thiserror::Error;
 /// Why an operation has no words, or words are of no operation.
 #[derive(Clone, Copy, Debug, PartialEq, Eq, Error)]
 pub enum WordsError {
-    /// `to_words`: the operation has more than words keep.
+    /// `to_words`: the operation is none of those that can be recorded, which are listed there.
     #[error("not recordable")]
     NotRecordable,
     /// `to_words`: there are more words than places.
@@ -40,13 +40,13 @@ pub enum WordsError {
 
 /// What the first word means.
 #[derive(Clone, Copy)]
-struct Head {
+struct FirstWord {
     kind: Kind,
     function: Function,
     shape: ValueShape,
 }
 
-impl Head {
+impl FirstWord {
     /// The first word of a record with these parts.
     fn word(self) -> u64
         ensures { result ≡ parts.first_word self }
@@ -55,11 +55,11 @@ impl Head {
     }
 
     /// What a word means as the first of a record, if it can be that.
-    fn of_word(word: u64) -> Option<Head>
+    fn of_word(word: u64) -> Option<FirstWord>
         ensures { MatchOption result (parts.IsNoFirstWord word)
-            (λ head. parts.first_word head ≡ word) }
+            (λ first. parts.first_word first ≡ word) }
     {
-        Some(Head {
+        Some(FirstWord {
             kind: kind_of_number(word % 4),
             function: Function::of_number(word / 4 % 16)?,
             shape: ValueShape::of_number(word / 64)?,
@@ -128,12 +128,12 @@ fn heading_of(op: &Op) -> Option<[u64; 3]>
     if !function.may_have(shape, count) {
         return None;
     }
-    let head = Head {
+    let first = FirstWord {
         kind: op.kind,
         function,
         shape,
     };
-    Some([head.word(), process_word(op.process), event])
+    Some([first.word(), process_word(op.process), event])
 }
 
 /// The word of an integer; 0 for any other value.
@@ -221,7 +221,7 @@ pub fn to_words(op: &Op, words: &mut [u64]) -> Result<usize, WordsError>
 /// What the first words of a record mean.
 #[derive(Clone, Copy)]
 struct Heading {
-    head: Head,
+    first: FirstWord,
     process: Process,
     event: u64,
 }
@@ -233,16 +233,16 @@ fn heading_in(words: &[u64]) -> Option<Heading>
     let [first, process, event, integers @ ..] = words else {
         return None;
     };
-    let head = Head::of_word(*first)?;
+    let first = FirstWord::of_word(*first)?;
     let process = process_of_word(*process)?;
     if *event > 1 << 63 {
         return None;
     }
-    if !head.function.may_have(head.shape, integers.len()) {
+    if !first.function.may_have(first.shape, integers.len()) {
         return None;
     }
     Some(Heading {
-        head,
+        first,
         process,
         event: *event,
     })
@@ -273,37 +273,41 @@ fn value_with(alloc: Global, shape: ValueShape, words: &[u64]) -> Result<Value, 
     }
 }
 
-/// The other keys of an operation with this word of its event.
-fn event_pairs(alloc: Global, word: u64) -> Result<Vec<(Value, Value)>, AllocError>
-    requires { word ≤ 2 ^ 63 }
-    ensures { IfOk result
-        (λ pairs. view_pairs pairs.items ≡ rule.pairs_of_event (parts.event_of word)) }
+/// The other keys of an operation that names this event: the pair of `:event` with its number, or no
+/// pair where it names none.
+pub fn event_pairs(alloc: Global, event: Option<u64>) -> Result<Pairs, AllocError>
+    requires { IfSome event (λ number. number < 2 ^ 63) }
+    ensures { IfOk result (λ pairs. pairs ≡ rule.pairs_of_event event) }
 {
     let mut pairs = Vec::new(alloc);
-    if word > 0 {
-        pairs.push((
-            Value::keyword(alloc, "event")?,
-            Value::Int((word - 1) as i64),
-        ))?;
+    if let Some(number) = event {
+        pairs.push((Value::keyword(alloc, "event")?, Value::Int(number as i64)))?;
     }
-    Ok(pairs)
+    Ok(Pairs::of(pairs))
+}
+
+/// The event of a word.
+fn event_of_word(word: u64) -> Option<u64>
+    ensures { result ≡ parts.event_of word }
+{
+    word.checked_sub(1)
 }
 
 /// The operation of a heading with these integers.
 fn op_with(alloc: Global, heading: Heading, integers: &[u64]) -> Result<Op, AllocError>
     requires event { heading.event ≤ 2 ^ 63 }
-    requires shape { parts.holds heading.head.shape (length integers.now) ≡ true }
+    requires shape { parts.holds heading.first.shape (length integers.now) ≡ true }
     ensures { IfOk result
         (λ op. operation op ≡ rule.operation_of (parts.record_of heading integers.now)) }
 {
     Ok(Op {
-        kind: heading.head.kind,
-        f: Value::keyword(alloc, heading.head.function.name())?,
-        value: value_with(alloc, heading.head.shape, integers)?,
+        kind: heading.first.kind,
+        f: Value::keyword(alloc, heading.first.function.name())?,
+        value: value_with(alloc, heading.first.shape, integers)?,
         process: heading.process,
         time: None,
         index: None,
-        rest: Pairs::of(event_pairs(alloc, heading.event)?),
+        rest: event_pairs(alloc, event_of_word(heading.event))?,
     })
 }
 

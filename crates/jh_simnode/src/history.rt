@@ -1,11 +1,10 @@
 //! The history of the journal of a run. `specs/Histories.antt` has the rule.
 
 ghost use Rattle.std.specs.Prelude.{◌≡◌, ◌≤◌, ◌<◌, ◌+◌, ◌*◌, ◌^◌, ◌++◌, ◌∷◌, [], length, IfOk};
-ghost use Rattle.std.specs.Prelude.{OnOk, pos};
-ghost use Rattle.jh_edn.specs.Edn.{keyword};
+ghost use Rattle.std.specs.Prelude.{OnOk};
 ghost use Rattle.jh_edn.specs.View.{view};
 ghost use Rattle.jh_ops.specs.Operation.{operation, operations};
-ghost use Rattle.jh_ops.specs.Words.{Several, content_value, pairs_of_event};
+ghost use Rattle.jh_ops.specs.Words.{Several, content_value};
 ghost use Rattle.jh_simnode.specs.Histories as rule;
 ghost use Rattle.jh_simnode.specs.Limits.{max_events};
 ghost use Rattle.jh_simnode.specs.Histories.{indexed_entry_completion};
@@ -16,9 +15,9 @@ ghost use Rattle.jh_simnode.specs.Histories.{got_content};
 
 use crate::events::Event;
 use crate::replicas::{Got, Reply};
-use jh_edn::{Pairs, Value};
+use jh_edn::Value;
 use jh_nemesis::StepAnswer;
-use jh_ops::{Kind, Op, Process, Request, vector_of};
+use jh_ops::{Kind, Op, Process, Request, event_pairs, vector_of};
 use std::alloc::{AllocError, Global};
 
 /// How a completion with this reply is recorded.
@@ -53,19 +52,6 @@ fn value_replied(alloc: Global, request: Request, reply: &Reply) -> Result<Value
         Reply::Ok(got) => value_got(alloc, request, got),
         Reply::Fail | Reply::Info => request.argument(alloc),
     }
-}
-
-/// The pair of `:event` with the number of the event that an operation names, or no pair where it
-/// names none.
-fn event_pairs(alloc: Global, event: Option<u64>) -> Result<Pairs, AllocError>
-    requires { rule.HasSmallEvent event }
-    ensures { IfOk result (λ pairs. pairs ≡ pairs_of_event event) }
-{
-    let mut pairs = Vec::new(alloc);
-    if let Some(number) = event {
-        pairs.push((Value::keyword(alloc, "event")?, Value::Int(number as i64)))?;
-    }
-    Ok(Pairs::of(pairs))
 }
 
 /// The operation in which a client's process asks, in no history yet.
