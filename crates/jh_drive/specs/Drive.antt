@@ -91,11 +91,15 @@ judging_of t initial model budget =
       model = Some model;
     }
 
--- A conversation that did not come to its end.
+-- A conversation that did not come to its end: `RepliesEnded` where its input ended. (After `Over` a test is at its
+-- end.)
 abbrev pub ended_early : Ending → DriveError
 ended_early (Endings.ReadFailed error) = Read
+ended_early (Endings.WriteFailed error) = Write
+ended_early Endings.OutOfMemory = OutOfMemory
 ended_early Endings.TooManyTurns = TooManyTurns
-ended_early _ = RepliesEnded
+ended_early Endings.InputEnded = RepliesEnded
+ended_early Endings.Over = RepliesEnded
 
 -- The answer of a test whose report is written: the first line that was no reply is its error; else, if it came
 -- to its end, the exit status of its verdict.

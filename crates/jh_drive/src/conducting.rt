@@ -37,18 +37,17 @@ pub fn judging_of(
     }
 }
 
-/// Why a conversation did not come to its end. Of the four endings of the last case only `InputEnded`
-/// comes here: `drive_answer` has an answer of its own for a test that is over, and `hold` returns before
-/// where a write failed or memory ran out.
+/// Why a conversation did not come to its end. `Over` never comes here: `drive_answer` has an answer of
+/// its own for a test that is over.
 fn ended_early(ending: Ending) -> DriveError
     ensures { result ≡ rule.ended_early ending }
 {
     match ending {
         Ending::ReadFailed(_) => DriveError::Read,
+        Ending::WriteFailed(_) => DriveError::Write,
+        Ending::OutOfMemory => DriveError::OutOfMemory,
         Ending::TooManyTurns => DriveError::TooManyTurns,
-        Ending::Over | Ending::InputEnded | Ending::WriteFailed(_) | Ending::OutOfMemory => {
-            DriveError::RepliesEnded
-        }
+        Ending::InputEnded | Ending::Over => DriveError::RepliesEnded,
     }
 }
 
@@ -126,7 +125,7 @@ fn conduct<R: Read, W: Write, O: CallObserver>(
 /// the first line that was no reply, `RepliesEnded` where the input ended before the test did,
 /// `Read` where the input could not be read on, `TooManyTurns` after 2^64 - 1 turns; `Mismatch`
 /// where the history can't be judged, with all of the report written but its last line; `Write`;
-/// `OutOfMemory`. Never `SettingsRead`.
+/// `OutOfMemory`. No other: neither `SettingsRead` nor `BadPalette`.
 pub fn drive<R: Read, W: Write, O: CallObserver>(
     alloc: Global,
     settings: &[u8],

@@ -14,8 +14,8 @@ use std::alloc::AllocError;
 use std::error::Error;
 use std::fmt::{self, Display, Formatter};
 
-/// Why a test ended otherwise than with a verdict. Where its conversation was held to an end, the report
-/// is written before `Reply`, `RepliesEnded`, `Read` and `TooManyTurns`.
+/// Why a test ended otherwise than with a verdict. The report is written before `Reply`, `RepliesEnded`,
+/// `Read` and `TooManyTurns`, but for a trial whose adapter had not answered `:ready`.
 #[derive(Debug, Drop)]
 pub enum DriveError {
     /// The settings are none of a test.

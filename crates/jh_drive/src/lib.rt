@@ -10,4 +10,4 @@ mod report;
 pub use calls::{CallCounts, CallObserver};
 pub use conducting::{drive, drive_answer, judging_of};
 pub use error::DriveError;
-pub use report::{judge_test, report_test, write_test_report};
+pub use report::{judge_test, report_test, write_bytes, write_test_report};

@@ -20,9 +20,11 @@ use std::alloc::{AllocError, Global};
 use std::io::Write;
 
 /// Writes these bytes.
-fn write<W: Write>(writer: &mut W, bytes: &[u8]) -> Result<(), DriveError>
-    ensures written { OnOk result
-        (Appends (W.contents writer.old) (W.contents writer.new) bytes.now) }
+///
+/// Error: `Write`.
+pub fn write_bytes<W: Write>(writer: &mut W, bytes: &[u8]) -> Result<(), DriveError>
+    ensures written { MatchResult result
+        (λ _. Appends (W.contents writer.old) (W.contents writer.new) bytes.now) IsNotWritten }
     ensures failed { IfErr result (λ e. e ≡ DriveErrors.Write) }
 {
     match writer.write_all(bytes) {
@@ -109,7 +111,7 @@ fn write_known<W: Write>(
         IsNotWritten }
 {
     let known = known_of(alloc, conversation)?;
-    write(writer, &known)?;
+    write_bytes(writer, &known)?;
     Ok(())
 }
 
@@ -132,7 +134,7 @@ pub fn write_test_report<W: Write>(
         IsNotWritten }
 {
     write_known(alloc, conversation, writer)?;
-    write(writer, &judged.text)?;
+    write_bytes(writer, &judged.text)?;
     Ok(())
 }
 
@@ -156,6 +158,6 @@ pub fn report_test<W: Write, O: CallObserver>(
     // as judging, and is given back before.
     write_known(alloc, conversation, writer)?;
     let output = judge_test(alloc, conversation, judging, observer)?;
-    write(writer, &output.text)?;
+    write_bytes(writer, &output.text)?;
     Ok(output.status)
 }

@@ -35,8 +35,8 @@ no_settings_early error (Endings.ReadFailed it) e = let bad : Read ≡ Settings 
 no_settings_early error Endings.TooManyTurns e = let bad : TooManyTurns ≡ Settings error = e in cc
 no_settings_early error Endings.Over e = let bad : RepliesEnded ≡ Settings error = e in cc
 no_settings_early error Endings.InputEnded e = let bad : RepliesEnded ≡ Settings error = e in cc
-no_settings_early error (Endings.WriteFailed it) e = let bad : RepliesEnded ≡ Settings error = e in cc
-no_settings_early error Endings.OutOfMemory e = let bad : RepliesEnded ≡ Settings error = e in cc
+no_settings_early error (Endings.WriteFailed it) e = let bad : Write ≡ Settings error = e in cc
+no_settings_early error Endings.OutOfMemory e = let bad : OutOfMemory ≡ Settings error = e in cc
 
 no_settings_answer : (error : SettingsError) (bad : Option BadLine) (over : Bool) (ending : Ending) → drive_answer bad over ending 0 ≡ Err (Settings error) → ⊥
 no_settings_answer error (Some bad) over ending e = let same : Reply bad.number bad.why ≡ Settings error = the_same _ _ e in cc

@@ -21,7 +21,7 @@ ghost use Rattle.jh_drive_search.specs.SearchInside.{HasEnded, IsFailing};
 use crate::options::TrialOptions;
 use crate::settings::SearchSettings;
 use jh_checkers::Judging;
-use jh_drive::{DriveError, judging_of, write_test_report};
+use jh_drive::{DriveError, judging_of, write_bytes, write_test_report};
 use jh_drive_settings::DriveSettings;
 use jh_lines::ByLines;
 use jh_reports::{DONE, INVALID, Output, UNKNOWN};
@@ -86,17 +86,6 @@ fn try_candidates<B: BufRead, W: Write>(
     Ok(Searched::None { unknown })
 }
 
-/// Writes these bytes.
-fn write<W: Write>(writer: &mut W, bytes: &[u8]) -> Result<(), DriveError>
-    ensures { MatchResult result
-        (λ _. Appends (W.contents writer.old) (W.contents writer.new) bytes.now) IsNotWritten }
-{
-    match writer.write_all(bytes) {
-        Ok(()) => Ok(()),
-        Err(_) => Err(DriveError::Write),
-    }
-}
-
 /// Writes the line `:found`, and behind it the settings of a candidate.
 fn write_found<W: Write>(
     alloc: Global,
@@ -117,8 +106,8 @@ fn write_found<W: Write>(
         IsNotWritten }
 {
     let settings = settings_with(alloc, table, candidate)?;
-    write(writer, b":found\n")?;
-    write(writer, settings.as_bytes())?;
+    write_bytes(writer, b":found\n")?;
+    write_bytes(writer, settings.as_bytes())?;
     Ok(())
 }
 
@@ -134,7 +123,7 @@ fn write_none<W: Write>(
         IsNotWritten }
 {
     let line = format!(in alloc; ":none {{:tried {tried}, :unknown {unknown}}}\n")?;
-    write(writer, line.as_bytes())
+    write_bytes(writer, line.as_bytes())
 }
 
 /// The status of a search that found none.

@@ -20,7 +20,7 @@ use crate::judge::{Smallest, shrink_by_trials};
 use crate::parts::test_at;
 use crate::told::Told;
 use crate::trying::{HeldTrial, hold_test, judging_by};
-use jh_drive::{DriveError, write_test_report};
+use jh_drive::{DriveError, write_bytes, write_test_report};
 use jh_drive_search::SearchSettings;
 use jh_drive_settings::DriveSettings;
 use jh_lines::ByLines;
@@ -30,17 +30,6 @@ use jh_simnode::Schedule;
 use jh_test_settings_texts::settings_with;
 use std::alloc::Global;
 use std::io::{BufRead, Write};
-
-/// Writes these bytes.
-fn write<W: Write>(writer: &mut W, bytes: &[u8]) -> Result<(), DriveError>
-    ensures { MatchResult result
-        (λ _. Appends (W.contents writer.old) (W.contents writer.new) bytes.now) IsNotWritten }
-{
-    match writer.write_all(bytes) {
-        Ok(()) => Ok(()),
-        Err(_) => Err(DriveError::Write),
-    }
-}
 
 /// Writes what is told of the part at these places, and behind it the settings that mean it.
 fn write_part<W: Write>(
@@ -61,8 +50,8 @@ fn write_part<W: Write>(
 {
     let part = test_at(alloc, &settings.settings.test, places)?;
     let text = settings_with(alloc, settings.table, &part)?;
-    write(writer, told.heading())?;
-    write(writer, text.as_bytes())?;
+    write_bytes(writer, told.heading())?;
+    write_bytes(writer, text.as_bytes())?;
     Ok(())
 }
 
@@ -137,7 +126,7 @@ fn show_smallest<B: BufRead, W: Write>(
         settings.settings.initial settings.settings.model settings.settings.budget result }
 {
     if smallest.told.has_passed() {
-        write(writer, smallest.told.heading())?;
+        write_bytes(writer, smallest.told.heading())?;
         return Ok(DONE);
     }
     let held = hold_last(alloc, &settings.settings, smallest, lines, writer)?;

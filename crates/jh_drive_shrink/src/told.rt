@@ -1,4 +1,4 @@
-//! What is told of the part that is left. `specs/ShrinkInside.antt` has the rule.
+//! What is told of the part that is left. `specs/ToldInside.antt` has the rule.
 
 ghost use Rattle.std.specs.Prelude.{◌≡◌, ◌≢◌, MatchBool};
 ghost use Rattle.jh_drive_shrink.specs.ToldInside as rule;

@@ -18,8 +18,8 @@ early (Endings.ReadFailed error) e = let bad : Read ≡ Mismatch = e in cc
 early Endings.TooManyTurns e = let bad : TooManyTurns ≡ Mismatch = e in cc
 early Endings.Over e = let bad : RepliesEnded ≡ Mismatch = e in cc
 early Endings.InputEnded e = let bad : RepliesEnded ≡ Mismatch = e in cc
-early (Endings.WriteFailed error) e = let bad : RepliesEnded ≡ Mismatch = e in cc
-early Endings.OutOfMemory e = let bad : RepliesEnded ≡ Mismatch = e in cc
+early (Endings.WriteFailed error) e = let bad : Write ≡ Mismatch = e in cc
+early Endings.OutOfMemory e = let bad : OutOfMemory ≡ Mismatch = e in cc
 
 the_same : (a b : DriveError) → ◌≡◌ {A = Result ℕ DriveError} (Err a) (Err b) → a ≡ b
 the_same a b e = cc

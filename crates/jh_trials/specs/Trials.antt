@@ -17,7 +17,7 @@ use Rattle.jh_trials.specs.declared.trial.Stage.{Stage}
 use Rattle.jh_trials.specs.declared.trial.Stage.TheVariants.{Waiting, Refused, Begun}
 
 pub record TrialValue : Type 0 where
-  -- the number of the test, among those that are tried
+  -- the number by which the test is told: that of its candidate, or how many trials were held before
   pub number : ℕ
   -- the test, of which nothing is told before it has begun
   pub conversation : ConversationValue

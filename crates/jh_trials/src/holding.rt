@@ -23,8 +23,8 @@ impl CallObserver for Nobody {
 /// Holds the conversation of a trial that waits, and judges its history. It writes what the trial says,
 /// and where it does not come to its end, or a line was no reply, its report, if it had begun.
 ///
-/// Errors: with the report written `Reply` with the first line that was no reply, by its number over all
-/// trials, `RepliesEnded` where the input ended before the test did, `Read` where the input could
+/// Errors: with the report written, if it had begun, `Reply` with the first line that was no reply, by its
+/// number over all trials, `RepliesEnded` where the input ended before the test did, `Read` where the input could
 /// not be read on, `TooManyTurns` after 2^64 - 1 turns; `Mismatch` where the history can't be
 /// judged; `Write`; `OutOfMemory`, also where memory was refused for a line that was read.
 pub fn hold_trial<B: BufRead, W: Write>(

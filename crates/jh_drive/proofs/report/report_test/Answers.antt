@@ -10,5 +10,5 @@ returns g c =
     let line = c.in_ok-output.output.text.items in (
       known.0 ++ line,
       report_is c.args.judging c.args.conversation.now c.in_ok-output.output.status known.0 line known.1 c.in_ok-output.ensures,
-      Appends-trans _ _ _ known.0 line known.2 (subst (Appends _ _) c.deref.ensures.value c.in_ok-write.ensures.written),
+      Appends-trans _ _ _ known.0 line known.2 (subst (Appends _ _) c.deref.ensures.value c.in_ok-write_bytes.ensures.written),
     )

@@ -6,5 +6,5 @@ pub returns : goal.returns
 returns g c = (
   c.in_ok-known.known.items,
   c.in_ok-known.ensures,
-  subst (Appends _ _) c.deref.ensures.value c.in_ok-write.ensures.written,
+  subst (Appends _ _) c.deref.ensures.value c.in_ok-write_bytes.ensures.written,
 )

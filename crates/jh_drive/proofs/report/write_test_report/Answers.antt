@@ -10,5 +10,5 @@ returns g c = λ judging judged.
     let line = c.args.judged.now.text.items in (
       known.0 ++ line,
       report_is judging c.args.conversation.now c.args.judged.now.status known.0 line known.1 judged,
-      Appends-trans _ _ _ known.0 line known.2 (subst (Appends _ _) c.deref.ensures.value c.in_ok-write.ensures.written),
+      Appends-trans _ _ _ known.0 line known.2 (subst (Appends _ _) c.deref.ensures.value c.in_ok-write_bytes.ensures.written),
     )

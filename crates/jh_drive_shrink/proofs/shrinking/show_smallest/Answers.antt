@@ -7,17 +7,17 @@ use Rattle.jh_drive_shrink.specs.ToldInside.{told_status}
 use Rattle.jh_drive_shrink.proofs.ShownLemmas.{breaks_unwritten, broken_so, last_broken, not_shown, shown_so}
 use Rattle.jh_drive_shrink.proofs.shrinking.show_smallest.Goals as goal
 
-pub returns-in_err-write : goal.returns-in_err-write
-returns-in_err-write g c = λ runs input before left.
+pub returns-in_err-write_bytes : goal.returns-in_err-write_bytes
+returns-in_err-write_bytes g c = λ runs input before left.
     let s = c.args.settings.settings in
-    let error = c.in_err-write.field-0.0 in
+    let error = c.in_err-write_bytes.field-0.0 in
     broken_so s.test (settings_judging s) runs input _ before _ s.initial s.model s.budget c.from_residual.result error c.from_residual.ensures.1
-    (breaks_unwritten s.test (settings_judging s) runs input _ before _ error c.in_err-write.ensures)
+    (breaks_unwritten s.test (settings_judging s) runs input _ before _ error c.in_err-write_bytes.ensures.written)
 
 pub returns-then-has_passed : goal.returns-then-has_passed
 returns-then-has_passed g c = λ runs input before left.
     let s = c.args.settings.settings in
-    let written = subst (Appends (g.W.Write.contents c.args.writer.now) (g.W.Write.contents c.write.new.writer)) c.heading.ensures c.in_ok-write.ensures in
+    let written = subst (Appends (g.W.Write.contents c.args.writer.now) (g.W.Write.contents c.write_bytes.new.writer)) c.heading.ensures c.in_ok-write_bytes.ensures.written in
     inl (not_shown s.test (settings_judging s) runs input _ before _ c.args.smallest.now left _ c.if-has_passed.ensures written, refl)
 
 pub returns-in_err-held : goal.returns-in_err-held

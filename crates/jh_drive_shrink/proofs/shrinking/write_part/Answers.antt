@@ -22,8 +22,8 @@ pub returns : goal.returns
 returns g c =
     let s = c.args.settings.settings in
     let text = string_bytes c.in_ok-text.text in
-    let heading = subst (Appends (g.W.Write.contents c.args.writer.now) _) c.heading.ensures c.in_ok-write.ensures in (
+    let heading = subst (Appends (g.W.Write.contents c.args.writer.now) _) c.heading.ensures c.in_ok-write_bytes.ensures.written in (
       text,
-      Appends-trans _ _ _ (told_heading c.args.told) text heading (rw c.as_bytes.ensures.value at c.in_ok-write-2.ensures),
+      Appends-trans _ _ _ (told_heading c.args.told) text heading (rw c.as_bytes.ensures.value at c.in_ok-write_bytes-2.ensures.written),
       means_part _ s.test _ c.in_ok-part.part text s.initial s.model s.budget c.in_ok-part.ensures c.requires.means.0 c.in_ok-text.ensures.read_back,
     )
