@@ -277,3 +277,10 @@ fn finds_what_stands_under_a_key(rt: HostRuntime) -> Result<(), Fail> {
         \x1e{a 1 \"a\" 2 [:a] 3}\x1fnothing";
     ask_all(rt.alloc(), &Ask::Under, rows)
 }
+
+/// `false` is another value.
+#[test]
+fn nil_alone_is_nil(rt: HostRuntime) {
+    assert!(rt; Value::Nil.is_nil());
+    assert!(rt; !Value::Bool(false).is_nil());
+}

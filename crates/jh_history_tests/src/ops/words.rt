@@ -6,7 +6,8 @@
 
 use crate::ops::operations::{op_once, print};
 use crate::ops::rows::{ask_all, shown};
-use jh_ops::{Op, WordsError, of_words, to_words};
+use jh_edn::Value;
+use jh_ops::{Op, WordsError, are_integers, of_words, to_words};
 use std::alloc::Global;
 use std::test::Fail;
 
@@ -91,4 +92,10 @@ fn refuses_words_of_no_operation(rt: HostRuntime) -> Result<(), Fail> {
 § operation 4 0 0 → BadWords
 "#;
     ask_all(rt.alloc(), rows)
+}
+
+#[test]
+fn integers_alone_are_integers(rt: HostRuntime) {
+    assert!(rt; are_integers(&[Value::Int(0), Value::Int(-1)]));
+    assert!(rt; !are_integers(&[Value::Int(0), Value::Nil]));
 }
