@@ -163,8 +163,8 @@ AreAskedTo bytes question None input before after result = result ≡ Err BadPal
 AreAskedTo bytes question (Some palette) input before after result =
     AreTriedTo bytes (trials_of question palette) input before after result
 
--- The schedule of the test that bytes set is made small by so many tests at most, with this answer. Or the bytes
--- are refused.
+-- The schedule of the test that bytes set is made small by so many tests at most, and one more with what is left,
+-- with this answer. Or the bytes are refused.
 abbrev pub IsReducedTo : List ℕ → ℕ → (input before after : Option (List ℕ)) → Result ℕ DriveError → Type 0
 IsReducedTo bytes runs input before after result =
     ((error : DriveError) × RefusesSearchSettings bytes error × (result ≡ Err error))

@@ -173,7 +173,8 @@ SubcommandHas name option (Some found) text =
     (found.0 ≡ name) × (first_of option found.1 ≡ Some text)
 
 -- What may be asked of a test of a real database, whose settings are in this file: that it is conducted, that
--- these candidates of it are tried, or that its schedule is made small by so many tests at most.
+-- these candidates of it are tried, or that its schedule is made small by so many tests at most, and one more
+-- with what is left.
 pub data TestAsked : Type 0 where
   Conducts : Text → TestAsked
   Tries : Text → TrialQuestion → TestAsked
@@ -190,7 +191,7 @@ abbrev pub SubcommandAsksTrials : Option (Text × List Row) → TrialQuestion �
 SubcommandAsksTrials None question = ⊥
 SubcommandAsksTrials (Some found) question = AsksTrials found.1 question
 
--- A subcommand with its options asks for so many tests at most.
+-- A subcommand with its options asks for so many tests at most, and one more with what is left.
 abbrev pub SubcommandHasBudget : Option (Text × List Row) → ℕ → Type 0
 SubcommandHasBudget None runs = ⊥
 SubcommandHasBudget (Some found) runs = IsNumber (one_of (codes "budget") found.1) runs

@@ -51,7 +51,8 @@ pub enum Refusal {
     Accounts(CliError),
     /// The command refuses its options or its input, or did not do its work.
     Command(CliError),
-    /// The settings of the run that is shown could not be read, or are refused.
+    /// The file that `timeline --settings` names could not be read, or what it holds is refused.
+    /// (Settings that `run` reads are refused as `Command`.)
     RunSettings(CliError),
     /// The test of a real database ended otherwise than with a verdict.
     Test(DriveError),
@@ -249,7 +250,7 @@ where
         Ok(accounts) => accounts,
         Err(error) => return Err(Refusal::Accounts(error)),
     };
-    // `clap` takes no arguments that ask for neither.
+    // `clap` takes no arguments that ask for neither a test nor a command.
     let Some(command) = command_of(&matches, accounts.as_deref()) else {
         unreachable!()
     };

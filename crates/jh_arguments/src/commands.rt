@@ -86,21 +86,22 @@ pub enum TestQuestion<'a> {
         path: &'a str,
         candidates: TrialQuestion,
     },
-    /// That its schedule is made small, by so many tests at most.
+    /// That its schedule is made small, by so many tests at most, and one more with what is left.
     Reduce {
         path: &'a str,
         runs: u64,
     },
 }
 
-/// Which candidates of a run or of a test are tried.
+/// Which candidates of a run or of a test are tried: what `search` asks, with `--drive` and without it.
+/// Only a candidate that is a test is held in a trial of `jh_trials`.
 #[derive(Clone, Copy, Debug, PartialEq, Eq)]
 pub struct TrialQuestion {
     /// The number of the first one.
     pub from: u64,
     /// How many are tried at most.
     pub runs: u64,
-    /// How many random faults each has among the entries of the test.
+    /// How many random faults each has among the entries of its schedule.
     pub faults: u32,
     /// Of which kinds these are. None: what is named is none of the kinds.
     pub palette: Option<Palette>,

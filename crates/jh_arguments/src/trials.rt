@@ -54,7 +54,8 @@ where
     search_drive(alloc, settings, &options, &mut lines, &mut streams.writer)
 }
 
-/// Makes the schedule of the test that bytes set small, by so many tests at most.
+/// Makes the schedule of the test that bytes set small, by so many tests at most, and one more with what
+/// is left.
 ///
 /// Errors: those of `search_settings_of`, before anything is told or read; else those of `shrink_drive`.
 pub(crate) fn reduce_test<R, W, O>(

@@ -60,8 +60,8 @@ fn is_due_entry(entries: &[Entry], number: usize, step: &Step, calls: usize, all
 }
 
 /// Whether an event keeps to its turn, behind so many steps and so many of all calls: a call is of
-/// its thread's node, and a step is the next one of the schedule and due. (That entries are taken
-/// in their order is asked in `planned.rt`.)
+/// its thread's node, and a step is the next one of the schedule and due. (That the completions of
+/// the history end the entries in this order too is asked in `planned.rt`.)
 fn keeps_turn(plan: &Plan, event: &Event, steps: usize, calls: usize, all: usize) -> bool
     ensures { IsTrue result ↔ KeepsTurn plan.now steps calls all event.now }
 {

@@ -63,7 +63,7 @@ fn bands_of_changes(alloc: Global, changes: &[Change]) -> Result<Vec<Band>, Allo
 /// out. A fault that an undo or a redo brings back begins a new band.
 ///
 /// A step stands under `:step` in the record that asks for it, as `jeprun drive` writes; where a
-/// record has none, as `jeprun run` writes, it is the one of `steps` at the record's place. A step
+/// record has none, as `jeprun run` writes, it is the one of `steps` at the place that is the record's `:value`. A step
 /// that is not known, or is none of `[:begin ID FAULT]`, `[:withdraw ID]`, `[:withdraw-all]`,
 /// `[:undo]` and `[:redo]`, makes no band and changes nothing. Nor does one that was refused, or that
 /// the active list does not allow, which no history of this program has, nor any other record of the

@@ -37,7 +37,7 @@ pub(crate) enum Step<'a> {
 /// A step that waits for its answer.
 #[derive(Clone, Copy)]
 pub(crate) struct Asked<'a> {
-    /// The place of its entry.
+    /// The place of its entry in the schedule, which is the value of the record that asks for it.
     pub(crate) place: i64,
     pub(crate) step: Step<'a>,
 }
@@ -92,7 +92,7 @@ fn scheduled_at(steps: &[Value], place: i64) -> Option<&Value>
     steps.get(usize::try_from(place).ok()?)
 }
 
-/// The text of the step that a record at a place asks for, if it is known.
+/// The text of the step that a record asks for, if it is known. Its value is this place in the schedule.
 fn known_step_text<'a>(steps: &'a [Value], place: i64, op: &'a Op) -> Option<&'a Value>
     ensures { option_map (λ text. view text.now) result
         ≡ rule.known_step_text (views steps.now) place op.now.rest }
@@ -110,7 +110,7 @@ fn is_of_step(op: &Op) -> bool
     !op.process.is_client() && (Kind::Info.is(op.kind) && op.f.is_keyword("step"))
 }
 
-/// The step that a record at a place asks for, where it is known.
+/// The step that a record asks for, where it is known. Its value is this place in the schedule.
 fn asked_at<'a>(steps: &'a [Value], op: &'a Op, place: i64) -> Option<Asked<'a>>
     ensures { option_map view_asked result
         ≡ rule.asked_at (views steps.now) op.now.rest place }

@@ -134,7 +134,8 @@ impl Finding {
 ///
 /// What is said to one checker means nothing to the others: the initial value to the register's alone,
 /// whether it is held at first to that of a mutex, the budget to these two, the model to that of
-/// transactions, whether a no is explained to these three and to that of a first-in-first-out queue,
+/// transactions, whether a no is explained to these three, and a no or an unknown to that of a
+/// first-in-first-out queue,
 /// accounts, total and whether balances may be negative to a bank's, and whether it has to be linearizable
 /// to that of a set over time. A no of a register or a mutex that is explained has the completion with
 /// which no order is left, and what is pending there; one of transactions or of such a queue has the
@@ -145,8 +146,9 @@ impl Finding {
 /// of one place `BadValue` first; for a first-in-first-out queue `Pair`, then `BadValue` at the first
 /// call that it does not have; `OutOfMemory` may come before any of them.
 ///
-/// Costs what the checker costs; the explanation of a register or a mutex takes time linear in the
-/// operations beside it, and copies one of them, and that of transactions copies those that it shows.
+/// Costs what the checker costs; the explanation of a register or a mutex takes time in the order of
+/// n log n for n operations beside it, and copies one of them, and those of transactions and of a
+/// first-in-first-out queue copy the operations that they show.
 pub fn check_history(
     alloc: Global,
     history: &[Op],

@@ -42,8 +42,9 @@ pub struct CheckQuestion<'a> {
     /// A history with fewer operations that ended `:ok` is not called valid; counted are those of
     /// clients, of the functions that the checker judges, in all keys. None: any number is enough.
     pub at_least: Option<usize>,
-    /// Whether pairs of an operation's map that no checker reads are left out where they can't be
-    /// read.
+    /// Whether pairs of an operation's map under other keys than `:type`, `:f`, `:process` and `:value`
+    /// are made blank where they can't be read, as `jh_unread::without_unread` does: then an operation has
+    /// no such `:time` either.
     pub skips_unread: bool,
 }
 

@@ -29,7 +29,8 @@ use std::io::{self, Write};
 /// `BadAccounts` and `BadPalette` refuse the arguments, and all others what was read.
 #[derive(Debug, Drop)]
 pub enum CliError {
-    /// The input is no text of EDN values.
+    /// The input is no text of EDN values, or its end was not seen within the reads that are
+    /// allowed. Of settings, which are TOML, the second alone.
     Input(EdnError),
     /// The input holds no element.
     EnvironmentMissing,

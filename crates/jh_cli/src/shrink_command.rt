@@ -44,7 +44,7 @@ use std::io::{Read, Write};
 /// before the first byte is written. It tells an observer before each run how many entries are left and which run it is.
 ///
 /// Errors: an error of reading (`Input`, `Read`); `Settings`; `OutOfMemory`, also where a run is
-/// refused or its history can't be judged; `Write`. Nothing is written before any of them but
+/// refused or stuck, or its history can't be judged; `Write`. Nothing is written before any of them but
 /// `Write`.
 pub fn shrink_run<R: Read, W: Write, O: ShrinkObserver>(
     alloc: Global,
@@ -110,7 +110,7 @@ fn shrink_plan<O: ShrinkObserver>(
     }
 }
 
-/// Whether the run of a plan with another schedule fails, and nothing where it is refused.
+/// Whether the run of a plan with another schedule fails, and nothing where it is refused or stuck.
 fn answer_of(alloc: Global, plan: &Plan, judge_budget: u64, schedule: &Schedule) -> Option<bool>
     ensures { RunAnswers plan.now judge_budget schedule.now result }
 {

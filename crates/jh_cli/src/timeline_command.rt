@@ -45,7 +45,7 @@ pub struct TimelineQuestion<'a> {
     pub independent: bool,
     /// Which records are shown.
     pub choice: Choice,
-    /// Whether keys that no checker reads are left out where they can't be read.
+    /// Whether unread pairs of operations are made blank, as in `CheckQuestion`.
     pub skips_unread: bool,
 }
 

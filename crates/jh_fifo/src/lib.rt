@@ -5,8 +5,8 @@
 //!
 //! `wrong.rt` looks for operations that are wrong by themselves or with one other of their value. A span
 //! (`spans.rt`, `values.rt`) says when a value came into the queue and when it left, at the earliest and at
-//! the latest. `moments.rt` finds for each dequeue that found the queue empty a moment at which no value has
-//! to be there, `turn.rt` puts the spans in the order in which values can go through the queue, and
+//! the latest. `moments.rt` finds for each dequeue that found the queue empty a moment at which the queue
+//! can have been empty, `turn.rt` puts the spans in the order in which values can go through the queue, and
 //! `layout.rt` lays the operations out in that order. `judge.rt` asks one after another.
 #![tactic(auto)]
 

@@ -1,5 +1,5 @@
-//! For each dequeue that found the queue empty a place of the history at which no value has to be
-//! in the queue, while the dequeue ran.
+//! For each dequeue that found the queue empty a place of the history, while it ran, at which the queue can
+//! have been empty: no value was certainly put in before and certainly not yet taken out.
 
 ghost use Rattle.std.specs.Prelude.{◌≡◌, ◌<◌, ◌≤◌, ◌↔◌, ℕ, None, Some, IfOk, IsTrue, length, map, max};
 ghost use Rattle.jh_fifo.specs.Moments.{EmptiesAreDone, IsCovered, IsEmptied, IsFree, IsSwept};
@@ -32,7 +32,7 @@ struct Sweep {
     at: u128,
 }
 
-/// The first place of the history, from one on, at which no value has to be in the queue.
+/// The first place of the history, from one on, at which the queue can have been empty.
 fn first_free(values: &[Span], entered: &[(u128, usize)], sweep: Sweep) -> Sweep
     requires sorted { AreSortedKeys (map (λ span. span.entered) values.now) entered.now }
     requires swept { IsSwept values.now entered.now sweep.passed sweep.at }

@@ -79,8 +79,8 @@ impl<T: Drop> From<AllocFailed<T>> for RegOpsError {
 /// with, and a `:cas` the two integers `[old new]`, in a vector or a list.
 ///
 /// Of a mutex, `:acquire` is the compare-and-set from `FREE` to `HELD`, and `:release` that from
-/// `HELD` to `FREE`. Values are not looked at. A mutex is free at first, so it is judged from the
-/// initial value `Some(FREE)`.
+/// `HELD` to `FREE`. Values are not looked at. A mutex that is free at first is judged from the
+/// initial value `Some(FREE)`, and one that is held at first from `Some(HELD)`.
 ///
 /// The operations meet the condition of `check` and `check_order`.
 ///

@@ -1,4 +1,4 @@
--- What is known of entries and kinds while a candidate is made (this project's own).
+-- What is known of entries while a candidate is made (this project's own).
 use Rattle.std.specs.Prelude.{◌≤◌, List, length}
 use Rattle.std.specs.List.{All}
 use Rattle.jh_nemesis.specs.Steps.{FitsNodes}

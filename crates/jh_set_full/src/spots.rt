@@ -39,7 +39,7 @@ pub(crate) struct Tables {
 pub(crate) struct Spot {
     /// Where it was known to be there.
     pub(crate) known: Option<usize>,
-    /// Where the last read was invoked that has it.
+    /// Where the last read was invoked that has it, of those that completed behind the invocation of its add.
     pub(crate) present: Option<usize>,
     /// Where the last read was invoked that lacks it, of all reads of the history.
     pub(crate) missed: Option<usize>,

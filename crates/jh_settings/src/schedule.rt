@@ -77,6 +77,7 @@ pub(crate) fn schedule_under(
         (λ schedule. All (λ entry. FitsNodes (length nodes.now) entry.step) schedule) }
 {
     let entries = entries_under::<RunFormat>(alloc, table, nodes)?;
+    // `entries_under` gives no more than a schedule may have, so this is never refused.
     match Schedule::of(entries) {
         Ok(schedule) => Ok(schedule),
         Err(_) => Err(SettingsError::BadValue(Key::Schedule)),

@@ -274,7 +274,7 @@ fn reduce<J: ScheduleJudge, O: ShrinkObserver>(
 /// It takes out halves of the entries, then quarters, and so on to single entries, as long as what
 /// is left fails still, and ends once the judge said of each single entry that the schedule passes
 /// without it. So it asks about twice the number of entries that matter for each halving, and no
-/// more than the square of the number of entries. Fewer entries than those of `Minimal` may fail
+/// more than about the square of the number of entries. Fewer entries than those of `Minimal` may fail
 /// where several are taken out at once.
 ///
 /// The judge is asked `budget` times at most, and `Budget` is answered only where it was asked so

@@ -15,7 +15,7 @@ use Rattle.jh_simnode.specs.declared.plan.PlanError.{PlanError}
 use Rattle.jh_simnode.specs.declared.plan.PlanError.TheVariants.{BadClients, BadOps, BadRows}
 use Rattle.jh_simnode.specs.declared.plan.PlanError.TheVariants.{BadGenerator, BadStep, OutOfMemory}
 
--- an environment at its start, the store with its workload, so many client threads that make so
+-- an environment at its start, the database of its nodes, so many client threads that make so
 -- many calls of a generator, the steps of the nemesis, after how many of its calls a thread ticks,
 -- the rows of the log of a run on threads, and the seed of the random numbers
 pub record PlanValue : Type 0 where

@@ -22,7 +22,7 @@ use thiserror::Error;
 /// number of rows that a plan has.
 pub const MAX_ROWS: u32 = 65_536;
 
-/// What a run does: on which environment and store, by how many clients, which calls, which steps
+/// What a run does: on which environment and database, by how many clients, which calls, which steps
 /// of the nemesis. A contract sees its parts, which are those that it was made of.
 #[derive(Debug, Drop)]
 pub struct Plan {

@@ -64,7 +64,7 @@ pub enum Recency {
     Stamp(i128, u8),
 }
 
-/// A node's replica of the store.
+/// A node's replica: what it holds of the database, and how new that is.
 #[derive(Debug, Drop)]
 pub struct Replica {
     pub recency: Recency,

@@ -9,8 +9,8 @@ use std::alloc::{AllocError, Global};
 use std::marker::Model;
 use thiserror::Error;
 
-/// The most entries of a schedule. `jh_settings` reads no more for the schedule of a test of a real
-/// database either: its limit, `MAX_TEST_ENTRIES` of `jh_test_parts`, is the same number.
+/// The most entries of a schedule. `jh_settings` reads no more by this number, also for a test of a
+/// real database, whose own limit, `MAX_TEST_ENTRIES` of `jh_test_parts`, is the same.
 pub const MAX_ENTRIES: usize = 1_024;
 
 /// A step of the nemesis, and after how many answered client calls it is due. An entry waits for

@@ -110,8 +110,8 @@ impl Tables {
     }
 
     /// Puts a fault on the cells, at the place of its stamp among those that are put. It takes no
-    /// memory. Counts or sums of at most one cell are written for each link or node that the fault
-    /// names, and one entry for a fix.
+    /// memory. At most one count or sum is written for each link or node that the fault names, and
+    /// one entry for a fix.
     pub fn put(&mut self, fault: &PlainFault, stamp: u32)
         requires fits { FitsCount (length self.old.start.nodes) (fault_of fault.now) }
         requires right { IsFault (fault_of fault.now) }

@@ -22,12 +22,13 @@ use std::alloc::{AllocError, Global};
 /// the number of its call among those that are given, from 0.
 ///
 /// A register or a mutex: where it is valid, each call's place in the order. Where it is not valid, that the
-/// history is stuck at the call's completion; else, where the finding is explained, that the call is pending
-/// there, with its place in the order of what is before, if it has one; else that place. Where the verdict is
-/// unknown, there are no marks. Unique ids: a call that gave an id that was given more than once. A
-/// counter: a read outside its bounds, with these. Transactions: where they are valid, the first place of each
-/// in the order, which of a snapshot order is where it starts; where they are not, the transaction of the bad
-/// read, or each of the cycle with its step to the next one.
+/// history is stuck at the call's completion; else, where the finding is explained, that its reason names the
+/// call, if it has a reason; else, where it is explained, that the call is pending there, with its place in
+/// the order of what is before, if it has one; else that place. Where the verdict is unknown, there are no
+/// marks. Unique ids: a call that gave an id that was given more than once. A counter: a read outside its
+/// bounds, with these. Transactions: where they are valid, the first place of each in the order, which of a
+/// snapshot order is where it starts; where they are not, the transaction of the bad read, or each of the
+/// cycle with its step to the next one.
 ///
 /// A set: a call that acknowledged what is lost, before the last read that happened; behind it where
 /// nobody acknowledged the element before. So what failed to add it, or may have, has no mark. Else a

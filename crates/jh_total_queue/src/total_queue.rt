@@ -58,7 +58,8 @@ fn lists_of(alloc: Global, history: &[Op]) -> Result<Lists, AllocError>
     })
 }
 
-/// Copies of the values, each once, where they ascend.
+/// Copies of the values, each once, where they ascend. `each_once` of `jh_check` uses its vector up; here
+/// `Lists` is still counted in.
 fn each_once(alloc: Global, values: &[Value]) -> Result<Vec<Value>, AllocError>
     requires { Ascends (views values.now) }
     ensures { IfOk result (λ found. views found.items ≡ distinct_values (views values.now)) }

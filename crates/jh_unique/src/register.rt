@@ -13,14 +13,14 @@ use jh_linear::{LinVerdict, RegOp, check};
 use std::alloc::{AllocError, Global};
 
 /// Whether the operations are linearizable on a register with this initial value: what `check` of
-/// `jh_linear` promises, and never `Unknown` where each value is written once and the budget is not
-/// 0. Where that is so the operations are judged exactly (`judge_unique`), and the budget is not
-/// used up; elsewhere `check` searches, with the budget that is given. Each operation has to end
+/// `jh_linear` promises, and never `Unknown` where each value is written once at most, the initial one by
+/// none, and the budget is not 0. Where that is so the operations are judged exactly (`judge_unique`), and
+/// the budget is not used up; elsewhere `check` searches, with the budget that is given. Each operation has to end
 /// after its invocation. That the search can be left out is this project's own.
 ///
 /// Errors: out of memory.
 ///
-/// Where each value is written once, a yes takes time in the order of n log n for n operations, and
+/// Where values are so written, a yes takes time in the order of n log n for n operations, and
 /// a no some log n times as long, for the completion with which there is no order any more.
 pub fn check_register(
     alloc: Global,

@@ -103,7 +103,8 @@ fn ends_part(operation: OpenMap, step: Followed) -> bool
     step.is_element && step.after == operation.depth
 }
 
-/// Whether whoever reads an operation asks for a key.
+/// Whether an operation can't do without a key. `:time` and `:index` are none of these: where they
+/// can't be read, the operation has none.
 #[tactic(auto, unfolding(crate::specs::Pairs::is_read_key))]
 fn is_read(key: &[u8]) -> bool
     ensures { result ≡ pairs.is_read_key key.now }

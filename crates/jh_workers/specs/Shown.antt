@@ -8,7 +8,7 @@ use Rattle.jh_simnode.specs.Events.{Setup, IsLegal}
 abbrev pub world_parts : ℕ
 world_parts = 32
 
--- a journal that is legal for the nodes, starting cells and database of some world, which are those
--- that are stored with it
+-- a journal that is legal for the nodes, starting cells and database of some world; which world that
+-- is stays open here, also where a plan is given beside the journal
 abbrev pub IsJournal : List Event → Type 0
 IsJournal journal = (setup : Setup) × IsLegal setup journal

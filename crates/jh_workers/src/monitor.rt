@@ -27,8 +27,8 @@ pub enum RunError {
     /// The port refused a call, a step or a tick.
     #[error("{0}")]
     World(WorldError),
-    /// The port's journal was not empty at the start, or journal, history, shares and plan do not
-    /// agree.
+    /// The port's journal was not empty at the start, an operation could not be recorded, a record
+    /// is of no operation, or journal, history, shares and plan do not agree.
     #[error("mismatch")]
     Mismatch,
     /// A thread, a seat or a share could not be had.
@@ -197,6 +197,8 @@ impl RunState {
                 Assignment::Calls(process, request)
             }
             Ok(GenAnswer::Pending) => Assignment::Waits,
+            // `Done` alone comes: the generator of a plan has no steps, and a thread asks only when
+            // its last operation has ended, so the driver refuses none.
             Ok(GenAnswer::Call(_, _)) | Ok(GenAnswer::Done) | Err(_) => Assignment::Ends,
         }
     }

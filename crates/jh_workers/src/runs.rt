@@ -303,8 +303,9 @@ where
 ///
 /// Errors: `Mismatch` where the journal was not empty at the start; `Thread` where a seat, a share
 /// or a thread could not be had; then the first of the threads' errors: `HistoryFull` where the log
-/// has too few rows, `World` where the port refused a call, a step or a tick, `OutOfMemory`; at
-/// last `Mismatch` where what the threads did does not agree. `OutOfMemory` may come at any moment.
+/// has too few rows, `World` where the port refused a call, a step or a tick, `Mismatch` where what
+/// it replied can't be recorded, `OutOfMemory`; at last `Mismatch` where what the threads did does
+/// not agree. `OutOfMemory` may come at any moment.
 pub fn run<P: Port + Sync, R: Threads + Wait + Sync>(
     rt: &R,
     alloc: Global,
