@@ -30,6 +30,7 @@ is refused once something in it is made wrong.
 """
 
 import argparse
+import math
 import os
 import random
 import re
@@ -277,23 +278,25 @@ def any_order(known, first):
     return search([], first)
 
 
-def fault_of_order(known, first, order, last):
-    """Why this is no order of the operations that leaves the value, or nothing where it is one."""
-    if any(number not in known for number in order):
-        return "the order has a number that no operation has which can have happened"
-    if len(set(order)) < len(order):
-        return "the order has an operation twice"
-    if any(op.ended is not None and op.number not in order for op in known.values()):
-        return "the order lacks an operation that is ok"
-    for place, number in enumerate(order):
-        if any(is_before(known[later], known[number]) for later in order[place + 1 :]):
-            return "the order has an operation before one that ended before its invocation"
-    value = first
+def fault_of_order(known, first, order):
+    """Why this is no order of the operations, or nothing where it is one; and the value that it leaves."""
+    placed, value, earliest_end = set(order), first, math.inf
+    if not placed <= known.keys():
+        return "the order has a number that no operation has which can have happened", None
+    if len(placed) < len(order):
+        return "the order has an operation twice", None
+    if any(op.ended is not None and op.number not in placed for op in known.values()):
+        return "the order lacks an operation that is ok", None
+    for number in reversed(order):
+        if earliest_end < known[number].invoked:
+            return "the order has an operation before one that ended before its invocation", None
+        if known[number].ended is not None:
+            earliest_end = min(earliest_end, known[number].ended)
     for number in order:
         if not allows(known[number], value):
-            return f"operation {number} cannot come where the order has it"
+            return f"operation {number} cannot come where the order has it", None
         value = after(known[number], value)
-    return None if value == last else f"the order leaves {edn(value)}"
+    return None, value
 
 
 def pending(ops, place):
@@ -311,7 +314,9 @@ def are_numbers(value):
 
 def fault_at(ops, first, line, place):
     """What of the line does not hold where the stuck record stands at this place, or nothing."""
-    fault = fault_of_order(cut(ops, place), first, line[":order"], line[":value"])
+    fault, left = fault_of_order(cut(ops, place), first, line[":order"])
+    if fault is None and left != line[":value"]:
+        fault = f"the order leaves {edn(left)}"
     if fault is None and any_order(cut(ops, place + 1), first):
         fault = "an order exists also behind the stuck record"
     if fault is None and line[":pending"] != pending(ops, place):

@@ -3,10 +3,10 @@
 
     bench/keys.py PROGRAM [--calls N] [--clients N] [--times N]
 
-PROGRAM is the program `jeprun`. Hard keys: 16 registers, each asked by clients that are busy all the time, with a read near the end
-of a value that was never written, so that the judge has to go through all that can have happened. Easy keys: 10,000 registers of 20 calls each. It prints the
-least seconds of so many times, and how many times as fast as one thread that is. Reading and cutting the history, which one thread
-does, is in it; for hard keys it is little.
+PROGRAM is the program `jeprun`. Hard keys: 16 registers, each asked by clients that are busy all the time, with a read near the
+end of a value that was never written, so that the judge has to go through all that can have happened. Easy keys: 10,000
+registers of 20 calls each. It prints the least seconds of so many times, and how many times as fast as one thread that is.
+Reading and cutting the history, which one thread does, is in it; for hard keys it is little.
 """
 
 import argparse
@@ -24,6 +24,11 @@ THREADS = (1, 2, 4, 8)
 def history(clients, calls, kind, seed):
     """The process, the type, the function and the text of the value of each operation, over five values."""
     return list(records(history_of(Case(0, clients, "5", calls, kind, seed))))
+
+
+def hard_keys(clients, calls):
+    """The histories of 16 keys, each with a read near the end of a value that was never written."""
+    return [history(clients, calls, "never", seed) for seed in range(16)]
 
 
 def by_key(parts):
@@ -77,7 +82,7 @@ def main():
     words.add_argument("--times", type=int, default=3)
     given = words.parse_args()
     print(f"{os.cpu_count()} processors")
-    hard = [history(given.clients, given.calls, "never", seed) for seed in range(16)]
+    hard = hard_keys(given.clients, given.calls)
     show("16 hard keys", given.program, hard, given.clients, 10_000_000, given.times)
     easy = [history(2, 20, "valid", seed) for seed in range(10_000)]
     show("10,000 easy keys", given.program, easy, 2, 100_000, given.times)
