@@ -4,12 +4,13 @@
     bench/serial.py [--times N] [--program PROGRAM] [WORD ..]
 
 Run it at the top of the repository, after `rt run` in crates/jeprun; it builds the plain program, bench/serial/plain.rs, by
-`rustc -O`. Where WORDs are given, only rows are taken that have one of them.
+`rustc -O`. Where WORDs are given, only rows are taken that have one of them: a store, a workload or a number of nodes.
 
-The runs are those of bench/runs.py on three nodes: 10,000 calls by 8 clients, for each store and workload but sets, with a cut that
-begins and ends; a register has the budget 0, since its judge may take most of the time. First all bytes that both programs write
-are compared, and their statuses, and the script stops where they differ. Then both are run in turn, N times (30), with their input
-from a file and the output to /dev/null; the least processor time counts, of the whole program with its start.
+The runs are those of bench/runs.py: 10,000 calls by 8 clients on three nodes, for each store and workload but sets, with a cut
+that begins and ends; and of a register and a counter on a quorum the same on 64 nodes. A register has the budget 0, since its
+judge may take most of the time. First all bytes that both programs write are compared, and their statuses, and the script stops
+where they differ. Then both are run in turn, N times (30), with their input from a file and the output to /dev/null; the least
+processor time counts, of the whole program with its start.
 
 A row has the milliseconds of both, and how many times as long `jeprun` takes. Compare these ratios only: the rest is the
 machine's. `jeprun` reads its settings, keeps a journal beside the history, and builds all that it writes in memory; the plain
@@ -29,12 +30,14 @@ PROGRAM = os.path.join("crates", "jeprun", "out", "jeprun")
 PLAIN = os.path.join("bench", "serial", "plain.rs")
 STORES = ("quorum", "lww", "local")
 WORKLOADS = ("register", "counter", "unique-ids")
+CASES = [(*case, 3) for case in itertools.product(STORES, WORKLOADS)]
+CASES += [("quorum", "register", 64), ("quorum", "counter", 64)]
 CALLS, CLIENTS, SEED = 10_000, 8, 1
 
 
-def settings(store, workload):
+def settings(store, workload, nodes):
     """The settings of bench/runs.py, which has so many calls."""
-    text = runs.settings(store, workload, 3, CLIENTS, SEED, 0 if workload == "register" else 100_000)
+    text = runs.settings(store, workload, nodes, CLIENTS, SEED, 0 if workload == "register" else 100_000)
     if f"\nops = {CALLS}\n" not in text:
         sys.exit(f"bench/runs.py has another number of calls than {CALLS}")
     return text.encode()
@@ -60,16 +63,16 @@ def seconds(words, source):
     return usage.ru_utime + usage.ru_stime
 
 
-def row(store, workload, programs, times):
+def row(store, workload, nodes, programs, times):
     with tempfile.TemporaryFile() as source:
-        source.write(settings(store, workload))
+        source.write(settings(store, workload, nodes))
         source.flush()
         plain, own = (written(words, source) for words in programs)
         if plain != own:
-            sys.exit(f"{store}, {workload}: the plain program writes other bytes, or has another status")
+            sys.exit(f"{store}, {workload}, {nodes} nodes: the plain program writes other bytes, or has another status")
         took = [[seconds(words, source) for words in programs] for _ in range(times)]
     plain, own = (1000 * min(it) for it in zip(*took))
-    return [store, workload, f"{plain:.1f}", f"{own:.1f}", f"{own / plain:.2f}"]
+    return [store, workload, str(nodes), f"{plain:.1f}", f"{own:.1f}", f"{own / plain:.2f}"]
 
 
 def main():
@@ -80,14 +83,14 @@ def main():
     asked = words.parse_args()
     if not os.path.exists(asked.program):
         sys.exit(f"{asked.program} is not there: build it first, by rt run in crates/jeprun")
-    print("| Store | Workload | plain ms | jeprun ms | times as long |", "|---|---|---|---|---|", sep="\n")
+    print("| Store | Workload | Nodes | plain ms | jeprun ms | times as long |", "|---|---|---|---|---|---|", sep="\n")
     with tempfile.TemporaryDirectory() as room:
         plain = os.path.join(room, "plain")
         subprocess.run(["rustc", "-O", "--edition", "2021", "-o", plain, PLAIN], check=True)
-        for store, workload in itertools.product(STORES, WORKLOADS):
-            if not asked.word or any(word in (store, workload) for word in asked.word):
-                run = (plain, store, workload, str(CALLS), str(CLIENTS), str(SEED))
-                print("|", " | ".join(row(store, workload, (run, (asked.program, "run")), asked.times)), "|", flush=True)
+        for case in CASES:
+            if not asked.word or any(word in map(str, case) for word in asked.word):
+                run = (plain, *map(str, case), str(CALLS), str(CLIENTS), str(SEED))
+                print("|", " | ".join(row(*case, (run, (asked.program, "run")), asked.times)), "|", flush=True)
 
 
 if __name__ == "__main__":

@@ -1,10 +1,10 @@
 //! A serial run as a plain program makes it: what `bench/serial.py` compares `jeprun run` with.
 //!
-//!     plain STORE WORKLOAD CALLS CLIENTS SEED
+//!     plain STORE WORKLOAD NODES CALLS CLIENTS SEED
 //!
-//! It makes the run of the settings of `bench/runs.py` on three nodes, judges it, and writes what `jeprun run` writes of it, byte for
-//! byte, through a `BufWriter`; it ends with the same status. It is written as one would write it in Rust, with std alone and without
-//! proofs: the history is kept in memory, since nothing is written before all is judged.
+//! It makes the run of the settings of `bench/runs.py` on so many nodes, judges it, and writes what `jeprun run` writes of it,
+//! byte for byte, through a `BufWriter`; it ends with the same status. It is written as one would write it in Rust, with std
+//! alone and without proofs: the history is kept in memory, since nothing is written before all is judged.
 //!
 //! STORE is quorum, lww or local, WORKLOAD is register, counter or unique-ids. A register has the line of the budget 0, by which
 //! nothing is searched.
@@ -14,7 +14,6 @@ use std::fmt::{self, Display, Write as _};
 use std::io::{self, BufWriter, Write};
 use std::process::ExitCode;
 
-const NODES: [&str; 3] = ["n1", "n2", "n3"];
 const TICK_EVERY: u32 = 10;
 
 /// Random numbers: PCG XSL RR 128/64 in its stream 0.
@@ -338,6 +337,7 @@ impl Run {
         let mut entries = (0..).zip(schedule).peekable();
         let mut processes: Vec<u64> = (0..clients as u64).collect();
         let mut calls = vec![0; clients];
+        let nodes = self.world.replicas.len();
         let mut answered = 0;
         for thread in (0..clients).cycle() {
             while let Some((entry, (_, step))) = entries.next_if(|(_, (at, _))| *at <= answered) {
@@ -346,7 +346,7 @@ impl Run {
             let Some(request) = generator.next(random.next()) else {
                 break;
             };
-            if self.call(processes[thread], thread % NODES.len(), request, random.next()) == Kind::Info {
+            if self.call(processes[thread], thread % nodes, request, random.next()) == Kind::Info {
                 processes[thread] += clients as u64;
             }
             answered += 1;
@@ -452,20 +452,21 @@ impl Display for Kind {
 impl Display for Environment {
     fn fmt(&self, to: &mut fmt::Formatter<'_>) -> fmt::Result {
         let (mut cut, mut slow, mut loss, mut down, mut clock) = (vec![], vec![], vec![], vec![], vec![]);
-        for (from, links) in NODES.iter().zip(&self.links) {
-            for (other, link) in NODES.iter().zip(links) {
+        let names: Vec<String> = (1..=self.nodes.len()).map(|number| format!("n{number}")).collect();
+        for (from, links) in names.iter().zip(&self.links) {
+            for (other, link) in names.iter().zip(links) {
                 cut.extend(link.cut.then(|| format!("[{from:?} {other:?}]")));
                 slow.extend((link.delay > 0).then(|| format!("[{from:?} {other:?} {}]", link.delay)));
                 loss.extend((link.loss > 0).then(|| format!("[{from:?} {other:?} {}]", link.loss)));
             }
         }
-        for (name, node) in NODES.iter().zip(&self.nodes) {
+        for (name, node) in names.iter().zip(&self.nodes) {
             down.extend((node.life == Life::Paused).then(|| format!("[{name:?} :paused]")));
             down.extend((node.life == Life::Killed).then(|| format!("[{name:?} :killed]")));
             clock.extend((node.clock != 0).then(|| format!("[{name:?} {}]", node.clock)));
         }
         let [cut, slow, loss, down, clock] = [cut, slow, loss, down, clock].map(row);
-        let nodes = row(NODES.map(|name| format!("{name:?}")));
+        let nodes = row(names.iter().map(|name| format!("{name:?}")));
         write!(to, "{{:nodes [{nodes}], :cut [{cut}], :slow [{slow}], :loss [{loss}], :down [{down}], :clock [{clock}]}}")
     }
 }
@@ -489,25 +490,25 @@ fn write_run(run: &Run, verdict: &str) -> io::Result<()> {
     to.flush()
 }
 
-/// A world of the store in which nothing happened, whose replicas hold this at first.
-fn world_of(store: &str, first: Option<i64>) -> World {
+/// A world of so many nodes and the store in which nothing happened, whose replicas hold this at first.
+fn world_of(store: &str, nodes: usize, first: Option<i64>) -> World {
     let store = match store {
         "quorum" => Store::Quorum,
         "lww" => Store::Lww,
         "local" => Store::Local,
         _ => panic!("no store: {store}"),
     };
-    let nodes = vec![Node { life: Life::Running, clock: 0 }; NODES.len()];
-    let start = Environment { nodes, links: vec![vec![Link::default(); NODES.len()]; NODES.len()] };
-    let replicas = vec![Replica { mark: Mark::First, held: first }; NODES.len()];
+    let links = vec![vec![Link::default(); nodes]; nodes];
+    let replicas = vec![Replica { mark: Mark::First, held: first }; nodes];
+    let start = Environment { nodes: vec![Node { life: Life::Running, clock: 0 }; nodes], links };
     World { store, environment: start.clone(), start, active: Vec::new(), replicas, events: 0 }
 }
 
 fn main() -> ExitCode {
     let words: Vec<String> = std::env::args().skip(1).collect();
-    let [store, workload, numbers @ ..] = words.as_slice() else { panic!("STORE WORKLOAD CALLS CLIENTS SEED") };
+    let [store, workload, numbers @ ..] = words.as_slice() else { panic!("STORE WORKLOAD NODES CALLS CLIENTS SEED") };
     let numbers: Vec<u64> = numbers.iter().map(|it| it.parse().expect("a number")).collect();
-    let [calls, clients, seed] = numbers[..] else { panic!("CALLS CLIENTS SEED") };
+    let [nodes, calls, clients, seed] = numbers[..] else { panic!("NODES CALLS CLIENTS SEED") };
     let half = |request| Generator::Mix(vec![Generator::Forever(Request::Read), Generator::Forever(request)]);
     let (generator, first) = match workload.as_str() {
         "register" => (half(Request::Write(1)), None),
@@ -516,7 +517,7 @@ fn main() -> ExitCode {
         _ => panic!("no workload: {workload}"),
     };
     let schedule = [(100, Step::Begin(1, vec![(0, 1), (1, 0)])), (800, Step::Withdraw(1))];
-    let mut run = Run { world: world_of(store, first), history: Vec::new() };
+    let mut run = Run { world: world_of(store, nodes as usize, first), history: Vec::new() };
     let limited = Generator::Limit(calls, Box::new(generator));
     run.make(limited, clients as usize, &schedule, Random::new(seed));
     let (status, verdict) = match workload.as_str() {
