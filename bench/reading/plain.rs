@@ -9,7 +9,8 @@
 //!
 //!     plain < FILE
 //!
-//! It prints how many elements the text has, or `refused at BYTE`, with status 3. `bench/writing/plain.rs` reads by it, too.
+//! It prints how many elements the text has, or `refused at BYTE`, with status 3. `bench/writing/plain.rs` and
+//! `bench/environment/plain.rs` read by it, too.
 
 use std::io::{self, Read};
 use std::process;
@@ -356,17 +357,23 @@ fn equal(one: &Value, other: &Value) -> bool {
     }
 }
 
-/// The elements of a text.
-pub fn values_of(text: &str) -> Reading<Vec<Value>> {
+/// Hands over each element of a text, as soon as it is read.
+pub fn each_value(text: &str, mut take: impl FnMut(Value)) -> Reading<()> {
     let mut reader = Reader { text, at: 0 };
-    let mut values = Vec::new();
     loop {
         reader.gap(DEPTH_LIMIT)?;
         if reader.at == text.len() {
-            return Ok(values);
+            return Ok(());
         }
-        values.push(reader.element(DEPTH_LIMIT)?);
+        take(reader.element(DEPTH_LIMIT)?);
     }
+}
+
+/// The elements of a text.
+pub fn values_of(text: &str) -> Reading<Vec<Value>> {
+    let mut values = Vec::new();
+    each_value(text, |value| values.push(value))?;
+    Ok(values)
 }
 
 fn main() -> io::Result<()> {

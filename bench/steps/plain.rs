@@ -3,13 +3,14 @@
 //! The arguments are how many nodes there are, how many faults stand and their kinds, with commas between; the kind of the
 //! fault that is measured and how many links or nodes it names; which steps a round takes, and how many rounds are taken in
 //! each of how many nemeses. It prints the nanoseconds that all rounds took, and a checksum of the cells.
+//! `bench/environment/plain.rs` takes its steps by this nemesis, too.
 
 use std::env;
 use std::hint::black_box;
 use std::time::{Duration, Instant};
 
 const LEVELS: usize = 20;
-const MAX_NODES: usize = 64;
+pub const MAX_NODES: usize = 64;
 const MAX_ACTIVE: usize = 256;
 const MAX_STEPS: usize = 4096;
 
@@ -17,50 +18,50 @@ const MAX_STEPS: usize = 4096;
 const MEASURED: u32 = 1_000_000;
 
 #[derive(Clone, Copy, PartialEq)]
-enum Life {
+pub enum Life {
     Running,
     Paused,
     Killed,
 }
 
 #[derive(Clone, Copy)]
-struct Link {
-    cut: bool,
-    delay: u64,
-    loss: u8,
+pub struct Link {
+    pub cut: bool,
+    pub delay: u64,
+    pub loss: u8,
 }
 
 #[derive(Clone, Copy)]
-struct NodeCell {
-    life: Life,
-    clock: i64,
+pub struct NodeCell {
+    pub life: Life,
+    pub clock: i64,
 }
 
 /// What is kept of a link: its start, and how many faults do what to it.
-struct LinkTally {
-    start: Link,
+pub struct LinkTally {
+    pub start: Link,
     cuts: u16,
     slowed: u64,
     losses: [u16; LEVELS],
 }
 
 /// What is kept of a node: its start, and how many faults do what to it.
-struct NodeTally {
-    start: NodeCell,
+pub struct NodeTally {
+    pub start: NodeCell,
     pauses: u16,
     kills: u16,
     bumped: i64,
 }
 
 /// A fix that stands: its stamp, its delay, and in the word of each source the bit of each destination.
-struct Fix {
+pub struct Fix {
     stamp: usize,
     delay: u64,
     links: [u64; MAX_NODES],
 }
 
 #[derive(Clone)]
-enum Fault {
+pub enum Fault {
     Cut(Vec<(u8, u8)>),
     Slow(u64, Vec<(u8, u8)>),
     Loss(u8, Vec<(u8, u8)>),
@@ -118,15 +119,15 @@ impl Turn {
 }
 
 /// Tallies of links and nodes, and the fixes that stand, in the order of their stamps.
-struct Tables {
-    links: Vec<LinkTally>,
-    nodes: Vec<NodeTally>,
+pub struct Tables {
+    pub links: Vec<LinkTally>,
+    pub nodes: Vec<NodeTally>,
     fixes: Vec<Fix>,
 }
 
 impl Tables {
     /// Tables of so many nodes, in which nothing is wrong.
-    fn calm(count: usize) -> Tables {
+    pub fn calm(count: usize) -> Tables {
         let link = || LinkTally {
             start: Link {
                 cut: false,
@@ -212,7 +213,7 @@ impl Tables {
     }
 
     /// The link as it is now.
-    fn link(&self, from: usize, to: usize) -> Link {
+    pub fn link(&self, from: usize, to: usize) -> Link {
         let tally = &self.links[from * self.nodes.len() + to];
         let fix = self
             .fixes
@@ -230,7 +231,7 @@ impl Tables {
     }
 
     /// The node as it is now.
-    fn node(&self, place: usize) -> NodeCell {
+    pub fn node(&self, place: usize) -> NodeCell {
         let tally = &self.nodes[place];
         let life = if tally.start.life == Life::Killed || tally.kills > 0 {
             Life::Killed
@@ -246,22 +247,27 @@ impl Tables {
     }
 }
 
-/// A step that is kept: a fault that was begun under an id, or the stamp of one that was withdrawn.
+/// A step that is kept: a fault that was begun under an id, the stamp of one that was withdrawn, or the stamps of all that were
+/// active when all were withdrawn.
 enum Record {
     Begun(u32, Fault),
     Withdrawn(usize),
+    AllWithdrawn(Vec<usize>),
 }
 
+/// The answer to a step: nothing where it is taken, or the name of what refuses it.
+pub type Answer = Result<(), &'static str>;
+
 /// Faults over tables, with the steps that were taken, a cursor among them, and the stamps of the faults that are active.
-struct Nemesis {
-    tables: Tables,
+pub struct Nemesis {
+    pub tables: Tables,
     records: Vec<Record>,
     cursor: usize,
     active: Vec<usize>,
 }
 
 impl Nemesis {
-    fn new(tables: Tables) -> Nemesis {
+    pub fn new(tables: Tables) -> Nemesis {
         Nemesis {
             tables,
             records: Vec::new(),
@@ -276,9 +282,28 @@ impl Nemesis {
         self.active.iter().copied().find(has_id)
     }
 
+    /// The ids of the active faults, in the order in which they were begun.
+    pub fn active_ids(&self) -> impl Iterator<Item = u32> + '_ {
+        self.active.iter().filter_map(|stamp| match &self.records[*stamp] {
+            Record::Begun(id, _) => Some(*id),
+            _ => None,
+        })
+    }
+
     fn turn(&mut self, turn: Turn, stamp: usize) {
         if let Record::Begun(_, fault) = &self.records[stamp] {
             self.tables.turn(turn, fault, stamp);
+        }
+    }
+
+    /// Puts or takes all faults that the record at the cursor withdrew.
+    fn turn_all(&mut self, turn: Turn) {
+        if let Record::AllWithdrawn(stamps) = &self.records[self.cursor] {
+            for stamp in stamps {
+                if let Record::Begun(_, fault) = &self.records[*stamp] {
+                    self.tables.turn(turn, fault, *stamp);
+                }
+            }
         }
     }
 
@@ -291,6 +316,10 @@ impl Nemesis {
             Record::Withdrawn(stamp) => {
                 self.turn(Turn::Take, stamp);
                 self.active.retain(|other| *other != stamp);
+            }
+            Record::AllWithdrawn(_) => {
+                self.turn_all(Turn::Take);
+                self.active.clear();
             }
         }
         self.cursor += 1;
@@ -308,6 +337,10 @@ impl Nemesis {
                 let place = self.active.partition_point(|other| *other < stamp);
                 self.active.insert(place, stamp);
             }
+            Record::AllWithdrawn(ref stamps) => {
+                self.active.extend(stamps);
+                self.turn_all(Turn::Put);
+            }
         }
     }
 
@@ -317,42 +350,55 @@ impl Nemesis {
         self.go_forth();
     }
 
-    /// Begins a fault under an id that no active fault has. None: it is refused.
-    fn begin(&mut self, id: u32, fault: Fault) -> Option<()> {
-        let is_full = self.active.len() >= MAX_ACTIVE || self.cursor >= MAX_STEPS;
-        if self.stamp_of(id).is_some() || is_full {
-            return None;
-        }
-        self.take_step(Record::Begun(id, fault));
-        Some(())
-    }
-
-    /// Withdraws the active fault of an id. None: it is refused.
-    fn withdraw(&mut self, id: u32) -> Option<()> {
-        let stamp = self.stamp_of(id)?;
+    fn take_step_where_room(&mut self, step: Record) -> Answer {
         if self.cursor >= MAX_STEPS {
-            return None;
+            return Err("too-many-steps");
         }
-        self.take_step(Record::Withdrawn(stamp));
-        Some(())
+        self.take_step(step);
+        Ok(())
     }
 
-    /// Goes back to the moment before the last step. None: there is no such step.
-    fn undo(&mut self) -> Option<()> {
+    /// Begins a fault under an id that no active fault has.
+    pub fn begin(&mut self, id: u32, fault: Fault) -> Answer {
+        if self.stamp_of(id).is_some() {
+            return Err("id-taken");
+        }
+        if self.active.len() >= MAX_ACTIVE {
+            return Err("too-many-active");
+        }
+        self.take_step_where_room(Record::Begun(id, fault))
+    }
+
+    /// Withdraws the active fault of an id.
+    pub fn withdraw(&mut self, id: u32) -> Answer {
+        let stamp = self.stamp_of(id).ok_or("not-active")?;
+        self.take_step_where_room(Record::Withdrawn(stamp))
+    }
+
+    /// Withdraws all active faults.
+    pub fn withdraw_all(&mut self) -> Answer {
+        if self.active.is_empty() {
+            return Err("nothing-active");
+        }
+        self.take_step_where_room(Record::AllWithdrawn(self.active.clone()))
+    }
+
+    /// Goes back to the moment before the last step.
+    pub fn undo(&mut self) -> Answer {
         if self.cursor == 0 {
-            return None;
+            return Err("nothing-to-undo");
         }
         self.go_back();
-        Some(())
+        Ok(())
     }
 
-    /// Goes forth again to the moment that the last step back left. None: there is no such step.
-    fn redo(&mut self) -> Option<()> {
+    /// Goes forth again to the moment that the last step back left.
+    pub fn redo(&mut self) -> Answer {
         if self.cursor == self.records.len() {
-            return None;
+            return Err("nothing-to-redo");
         }
         self.go_forth();
-        Some(())
+        Ok(())
     }
 }
 
@@ -410,7 +456,7 @@ fn begin(nemesis: &mut Nemesis, id: u32, fault: &Fault) -> Option<()> {
     if !copy.fits(nemesis.tables.nodes.len()) {
         return None;
     }
-    nemesis.begin(id, copy)
+    nemesis.begin(id, copy).ok()
 }
 
 /// A nemesis under which so many faults stand, which are copies of these in turn.
@@ -424,7 +470,7 @@ fn nemesis_of(case: &Case, faults: &[Fault]) -> Option<Nemesis> {
 
 fn withdraw_and_begin(nemesis: &mut Nemesis, fault: &Fault, rounds: u32) -> Option<()> {
     for _ in 0..rounds {
-        black_box(&mut *nemesis).withdraw(MEASURED)?;
+        black_box(&mut *nemesis).withdraw(MEASURED).ok()?;
         begin(black_box(nemesis), MEASURED, fault)?;
     }
     Some(())
@@ -432,8 +478,8 @@ fn withdraw_and_begin(nemesis: &mut Nemesis, fault: &Fault, rounds: u32) -> Opti
 
 fn undo_and_redo(nemesis: &mut Nemesis, rounds: u32) -> Option<()> {
     for _ in 0..rounds {
-        black_box(&mut *nemesis).undo()?;
-        black_box(&mut *nemesis).redo()?;
+        black_box(&mut *nemesis).undo().ok()?;
+        black_box(&mut *nemesis).redo().ok()?;
     }
     Some(())
 }
@@ -488,7 +534,7 @@ fn run(case: &Case) -> Option<(Duration, u64)> {
         begin(&mut nemesis, MEASURED, &fault)?;
         took += rounds_run(case, &mut nemesis, &fault)?;
         sum = cells_mixed(sum, &nemesis.tables);
-        nemesis.undo()?;
+        nemesis.undo().ok()?;
         sum = cells_mixed(sum, &nemesis.tables);
     }
     Some((took, sum))
