@@ -3,6 +3,7 @@ use Rattle.std.specs.List.{list_any}
 use Rattle.std.specs.Ordering.{int_eq}
 use Rattle.jh_edn.specs.View.{view_pairs}
 use Rattle.jh_bank.specs.BankInside.{first_error_of}
+use Rattle.jh_edn.specs.Edn.{is_nil}
 use Rattle.jh_bank.specs.Banks.{balances, is_account, is_negative_balance, total_of}
 use Rattle.jh_bank.proofs.BalanceLemmas.{any_balance, any_key, total_held}
 use Rattle.jh_bank.proofs.balances.bank_error.Goals as goal
