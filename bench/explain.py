@@ -7,8 +7,9 @@ top of the repository, after `rt run` in crates/jeprun:
 
 It makes small random histories until so many, 300, are not valid: up to 12 operations by 2 to 4 clients, reads, writes and
 compare-and-sets that are `:ok`, `:fail` or `:info` or have no completion, some answers wrong, any first value, operations of
-the nemesis between them. Operations are numbered from 0 in the order of their invocations. Each history is judged with and
-without `--explain`, with the default budget and with a small one. A line that explains,
+the nemesis between them. In half of them nearly every value is written once, in the others there are three values.
+Operations are numbered from 0 in the order of their invocations. Each history is judged with and without `--explain`, with the
+default budget and with a small one. A line that explains,
 
     {:valid? false, :stuck RECORD, :order [..], :value V, :pending [..]}
 
@@ -18,15 +19,21 @@ has to hold by a plain search of its own that tries every order:
     operations and leaves V. Each one that was `:ok` by then is in it, and stands before all that were invoked behind its end;
     none failed, also not later; a read that is not known to have happened, or that answered nil, finds any value.
   - Where the history is cut right behind the record, there is no order.
-  - The pending ones are those that were invoked before the record and have no `:ok` and no `:fail` before it, in order; the
-    operation that the record completes is one of them.
+  - The pending ones are those that were invoked before the record, have no `:ok` before it and did not fail, also not later, in
+    order; the operation that the record completes is one of them.
 
-Without `--explain` the line is `{:valid? false}` then. Other lines are the same with and without it, and the verdict with the
-default budget is that of the plain search. It prints counts, and the first differences with their histories; the status is 1
-where there is one.
+Where each value is written by one operation at most, those left out that failed, and the first value by none,
+`:because REASON, :named [..]` stands behind that, and nowhere else. The operations that are named have to show the reason in the
+whole history, by the words of docs/register.md ("Why there is no order"), which `Reasons` says step by step.
 
---self-test asks no program: it makes the lines by the plain search, and sees that they are confirmed, and that each of them
-is refused once something in it is made wrong.
+Without `--explain` the line is `{:valid? false}` then. Other lines are the same with and without it. The verdict is that of the
+plain search; it may be unknown only where the budget is small and a value is written twice, or the budget is 0. It prints counts,
+and the first differences with their histories; the status is 1 where there is one.
+
+--self-test asks no program. It makes the lines by the plain search, and sees that they are confirmed, and that each of them
+is refused once something in it is made wrong. Of each history whose values are written once it sees that it has a reason where
+it has no order, and none where it has one. And each reason has to exclude every order by itself: where all that it can do without
+is made unknown the plain search finds none; nor does it where no times are heeded, unless the reason is `:out-of-order`.
 """
 
 import argparse
@@ -36,9 +43,12 @@ import random
 import re
 import subprocess
 import sys
+from itertools import permutations
 from typing import NamedTuple, Optional
 
 KEYS = [":valid?", ":stuck", ":order", ":value", ":pending"]
+REASON_KEYS = [":because", ":named"]
+START = -1
 WORDS = {"nil": None, "true": True, "false": False}
 MAX_CALLS = 12
 SHOWN = 10
@@ -116,6 +126,10 @@ class Maker:
         self.first = self.value = dice.choice([None, 0, 1, 2])
         self.clients = [Client(process) for process in range(dice.randint(2, 4))]
         self.most = dice.randint(4, MAX_CALLS)
+        self.seen = [0, 1, 2]
+        # The values to write once, the next one last; none where values repeat.
+        self.unwritten = [value for value in range(self.most + 3) if value != self.first] if self.happens(0.5) else []
+        dice.shuffle(self.unwritten)
         self.wrong = dice.choice([0.05, 0.1, 0.3])
         self.crashing = dice.choice([0, 0.1, 0.3])
         self.indexed, self.timed = dice.random() < 0.7, dice.random() < 0.3
@@ -124,7 +138,19 @@ class Maker:
         return self.dice.random() < share
 
     def some(self):
-        return self.dice.randrange(3)
+        """A value that was written, or one of a few others."""
+        return self.dice.choice(self.seen)
+
+    def old(self):
+        """A value for a compare-and-set to replace; where there are many, half the time that of the register."""
+        return self.value if self.unwritten and self.value is not None and self.happens(0.5) else self.some()
+
+    def new(self):
+        """A value to write."""
+        if not self.unwritten or self.happens(0.02):
+            return self.some()
+        self.seen.append(self.unwritten.pop())
+        return self.seen[-1]
 
     def history(self):
         while self.calls < self.most or self.happens(0.9):
@@ -148,7 +174,7 @@ class Maker:
 
     def invoke(self, client):
         client.f = self.dice.choice([":read", ":write", ":cas"])
-        client.asked = {":read": None, ":write": self.some(), ":cas": [self.some(), self.some()]}[client.f]
+        client.asked = {":read": lambda: None, ":write": self.new, ":cas": lambda: [self.old(), self.new()]}[client.f]()
         client.outcome = None
         self.calls += 1
         self.record(client.process, ":invoke", client.f, client.asked)
@@ -300,9 +326,129 @@ def fault_of_order(known, first, order):
 
 
 def pending(ops, place):
-    """The numbers of those that were invoked before a place and have no :ok and no :fail before it."""
-    ended = {op.number for op in ops if op.outcome in (":ok", ":fail") and op.ended < place}
-    return [op.number for op in ops if op.invoked < place and op.number not in ended]
+    """The numbers of those that were invoked before a place, have no :ok before it and did not fail, also not later."""
+    return [op.number for op in ops if op.invoked < place and op.outcome != ":fail" and not is_ok_before(op, place)]
+
+
+# Why there is no order, where each value is written once.
+
+
+def needs(op):
+    """The value that an operation has to find, or nothing where any will do."""
+    return {":read": lambda: op.value, ":write": lambda: None, ":cas": lambda: op.value[0]}[op.f]()
+
+
+def leaves(op):
+    """The value that the register has behind an operation, or nothing where that is not known: behind a read of nil."""
+    return after(op, needs(op))
+
+
+def hands_on(first, second):
+    """The first one wrote what the second needs, or read what the second replaced."""
+    if first.f == ":read":
+        return first.value is not None and second.f == ":cas" and needs(second) == first.value
+    return needs(second) == leaves(first)
+
+
+def writers(known, first):
+    """The operation that writes each value, or nothing where one is written twice, or the first value is."""
+    writer = {}
+    for op in known.values():
+        if op.f != ":read":
+            if leaves(op) == first or leaves(op) in writer:
+                return None
+            writer[leaves(op)] = op
+    return writer
+
+
+class Reasons:
+    """What excludes every order of a history each of whose values is written once. A value has an origin: the number of the
+    write from which compare-and-sets lead to it, or START where they lead to it from the first value."""
+
+    def __init__(self, known, first, writer):
+        self.known, self.first, self.writer = known, first, writer
+        self.standing = self.all_standing()
+
+    def all_standing(self):
+        """The numbers of what has to have happened: what is known to have, and who wrote what one of these needs."""
+        standing, left = set(), [op for op in self.known.values() if op.ended is not None]
+        while left:
+            op = left.pop()
+            if op.number not in standing:
+                standing.add(op.number)
+                left += [self.writer[needs(op)]] if needs(op) in self.writer else []
+        return standing
+
+    def origin(self, value):
+        """The origin of a value, or nothing where it has none."""
+        passed = set()
+        while value != self.first:
+            if value not in self.writer or value in passed:
+                return None
+            passed.add(value)
+            if self.writer[value].f == ":write":
+                return self.writer[value].number
+            value = needs(self.writer[value])
+        return START
+
+    def use(self, op):
+        """The origin of the value that an operation leaves, or nothing where that is not known or has none."""
+        return None if leaves(op) is None else self.origin(leaves(op))
+
+    def users(self, origin):
+        return [op for op in self.known.values() if self.use(op) == origin]
+
+    def has_no_origin(self, op):
+        return needs(op) is not None and self.origin(needs(op)) is None
+
+    def replace_one_value(self, one, other):
+        return one != other and one.f == other.f == ":cas" and needs(one) == needs(other)
+
+    def hands_on_in_steps(self, first, second):
+        """The first one hands on to the second, directly or by others that have to have happened."""
+        reached, left = set(), [first]
+        while left:
+            one = left.pop()
+            following = {number for number in self.standing if hands_on(one, self.known[number])} - reached
+            reached |= following
+            left += [self.known[number] for number in following]
+        return second.number in reached
+
+    def are_crossed(self, first, second):
+        """They use different origins, and what uses that of the first has to come before what uses that of the second: it is the
+        first value, or one that uses it ended before another was invoked that uses the other and has to have happened."""
+        one, other = self.use(first), self.use(second)
+        if one is None or other is None or one == other:
+            return False
+        behind = [op for op in self.users(other) if op.number in self.standing]
+        return one == START or any(is_before(early, late) for early in self.users(one) for late in behind)
+
+    def are_out_of_order(self, first, second):
+        return is_before(second, first) and (self.hands_on_in_steps(first, second) or self.are_crossed(first, second))
+
+    def fault(self, because, named):
+        """Why the operations with these numbers don't show the reason, or nothing where they do."""
+        shown = {":no-origin": (1, self.has_no_origin), ":replaced-twice": (2, self.replace_one_value)}
+        shown |= {":out-of-order": (2, self.are_out_of_order)}
+        if because not in shown or shown[because][0] != len(named):
+            return f"{edn(because)} is no reason with so many operations as are named"
+        if not self.standing.issuperset(named):
+            return "an operation is named that need not have happened"
+        if not shown[because][1](*(self.known[number] for number in named)):
+            return f"operations {edn(named)} do not show {because}"
+        return None
+
+    def all(self):
+        """All reasons with the operations that show them."""
+        some = [(":no-origin", [one]) for one in self.known]
+        some += [(because, [*pair]) for because in (":replaced-twice", ":out-of-order") for pair in permutations(self.known, 2)]
+        return [reason for reason in some if self.fault(*reason) is None]
+
+
+def reasons_of(known, first):
+    """The reasons of a history, or nothing where a value is written twice."""
+    writer = writers(known, first)
+    return None if writer is None else Reasons(known, first, writer)
 
 
 # What is to be confirmed.
@@ -328,11 +474,16 @@ def fault_at(ops, first, line, place):
 
 def fault_of_line(records, first, line):
     """What of a line that explains does not hold, or nothing. Where equal records stand at several places, one has to do."""
-    if not isinstance(line, dict) or list(line) != KEYS or line[":valid?"] is not False:
-        return "it is not of the shape that explains"
-    if not are_numbers(line[":order"]) or not are_numbers(line[":pending"]):
-        return "the order or the pending ones are no numbers"
     ops = operations(records)
+    reasons = reasons_of(cut(ops, len(records)), first)
+    keys = KEYS + (REASON_KEYS if reasons else [])
+    if not isinstance(line, dict) or list(line) != keys or line[":valid?"] is not False:
+        return f"it has not the keys {edn(keys)} of a line that explains, or says valid"
+    if not all(are_numbers(line[key]) for key in (":order", ":pending", ":named") if key in line):
+        return "the order, the pending ones or the named ones are no numbers"
+    fault = reasons and reasons.fault(line[":because"], line[":named"])
+    if fault:
+        return fault
     places = [op.ended for op in ops if op.outcome == ":ok" and records[op.ended] == line[":stuck"]]
     faults = [fault_at(ops, first, line, place) for place in places]
     if None in faults:
@@ -341,13 +492,15 @@ def fault_of_line(records, first, line):
 
 
 def explained(records, first):
-    """A right line, or nothing where the history is valid."""
+    """A right line, or nothing where the history is valid. It lacks the reason where none is found."""
     ops = operations(records)
+    reasons = reasons_of(cut(ops, len(records)), first)
     for place in sorted(op.ended for op in ops if op.outcome == ":ok"):
         if any_order(cut(ops, place + 1), first) is None:
             order, value = any_order(cut(ops, place), first)
             found = [False, records[place], order, value, pending(ops, place)]
-            return dict(zip(KEYS, found))
+            found += reasons.all()[0] if reasons and reasons.all() else []
+            return dict(zip(KEYS + REASON_KEYS, found))
     return None
 
 
@@ -371,19 +524,22 @@ def told(program, records, first, budget, explain):
 
 
 def fault_of_program(program, records, first, budget):
-    """The verdict without --explain, and what does not hold with it, or nothing."""
+    """The verdict without --explain, what was confirmed with it, and what does not hold, or nothing."""
     plain, explaining = (told(program, records, first, budget, explain) for explain in (False, True))
     verdict = ("valid", "invalid", "unknown")[plain[0]]
+    differ = f"with --explain it is {explaining}, without it {plain}"
     if verdict != "invalid":
-        return verdict, None if plain == explaining else f"with --explain it is {explaining}, without it {plain}"
+        return verdict, "the same with --explain", None if plain == explaining else differ
     if plain[1] != "{:valid? false}\n" or explaining[0] != 1:
-        return verdict, f"with --explain it is {explaining}, without it {plain}"
+        return verdict, None, differ
     try:
         [line] = Reader(explaining[1]).all()
     except (ValueError, TypeError) as fault:
-        return verdict, f"{explaining[1]} cannot be read: {fault}"
+        return verdict, None, f"{explaining[1]} cannot be read: {fault}"
     fault = fault_of_line(records, first, line)
-    return verdict, fault and f"{fault}, and the line is {explaining[1]}"
+    if fault:
+        return verdict, None, f"{fault}, and the line is {explaining[1]}"
+    return verdict, f"confirmed, {line.get(':because', 'values repeat')}", None
 
 
 class Counts:
@@ -412,15 +568,16 @@ def confirm(program, seed, counts):
     dice = random.Random(seed)
     maker = Maker(dice)
     records, first = maker.history(), maker.first
-    is_valid = any_order(cut(operations(records), len(records)), first) is not None
+    known = cut(operations(records), len(records))
+    is_valid = any_order(known, first) is not None
     right = "valid" if is_valid else "invalid"
     for budget in (None, dice.randint(0, 8)):
         name = "the default budget" if budget is None else "a small budget"
-        verdict, fault = fault_of_program(program, records, first, budget)
-        if fault is None and verdict != right and (budget is None or verdict != "unknown"):
+        may_be_unknown = budget == 0 or budget is not None and writers(known, first) is None
+        verdict, what, fault = fault_of_program(program, records, first, budget)
+        if fault is None and verdict != right and not (may_be_unknown and verdict == "unknown"):
             fault = f"{verdict}, and the plain search says {right}"
         if fault is None:
-            what = "confirmed" if verdict == "invalid" else "the same with --explain"
             counts.add(f"{verdict} with {name}, {what}")
         else:
             counts.differ(seed, records, first, f"with {name}, {budget}: {fault}")
@@ -454,23 +611,79 @@ def wrong_pending(ops, right):
         yield right[::-1]
 
 
+def says_nothing(op):
+    """The operation failed, or is a read of which no value is known: none of these shows a reason."""
+    return op.outcome == ":fail" or op.f == ":read" and (op.outcome != ":ok" or op.answer is None)
+
+
+def wrong_reasons(ops, because, named):
+    """Reasons that are none: operations are missing, too many, or of the kind that shows nothing; it is of another kind, which
+    names more or fewer, or of none; and what is out of order is so the other way round."""
+    yield from ((because, named[:at] + named[at + 1 :]) for at in range(len(named)))
+    yield from ((because, named + [number]) for number in range(len(ops)))
+    silent = [op.number for op in ops if says_nothing(op)] + [len(ops), -1]
+    yield from ((because, named[:at] + [number] + named[at + 1 :]) for at in range(len(named)) for number in silent)
+    yield from ((other, named) for other in ([":no-origin"] if len(named) == 2 else [":replaced-twice", ":out-of-order"]))
+    yield from ((other, named) for other in (":stale", None, because[1:]))
+    if because == ":out-of-order":
+        yield because, named[::-1]
+
+
 def wrong_lines(records, line):
     """Lines that differ from a right one in one thing and are wrong."""
     ops, place = operations(records), records.index(line[":stuck"])
+    if ":because" in line:
+        reasons = wrong_reasons(ops, line[":because"], line[":named"])
+        yield from (line | dict(zip(REASON_KEYS, reason)) for reason in reasons)
+    else:
+        yield line | {":because": ":no-origin", ":named": [place]}
     yield from (line | {":order": order} for order in wrong_orders(ops, place, line[":order"]))
     yield from (line | {":value": value} for value in (None, 0, 1, 2, 3) if value != line[":value"])
     yield from (line | {":pending": numbers} for numbers in wrong_pending(ops, line[":pending"]))
     yield from (line | {":stuck": record} for record in records if record != line[":stuck"])
     yield line | {":valid?": True}
     yield line | {":more": 1}
-    for missing in KEYS:
+    for missing in line:
         yield {key: held for key, held in line.items() if key != missing}
+
+
+def least_history(known, first, because, named):
+    """The history, in which as many operations as the reason can do without are of unknown outcome."""
+    for number, op in known.items():
+        weaker = known | {number: op._replace(ended=None, value=None if op.f == ":read" else op.value)}
+        if reasons_of(weaker, first).fault(because, named) is None:
+            known = weaker
+    return {number: op for number, op in known.items() if op.ended is not None or op.f != ":read"}
+
+
+def without_times(known):
+    """The history as if all had begun before anything ended."""
+    return {op.number: op._replace(invoked=-1) for op in known.values()}
+
+
+def test_reasons(seed, records, first, counts):
+    """A history has a reason where it has no order, and each reason excludes every order by itself."""
+    known = cut(operations(records), len(records))
+    reasons = reasons_of(known, first)
+    if reasons is None:
+        return
+    found, is_valid = reasons.all(), any_order(known, first) is not None
+    counts.add("valid histories without a reason" if is_valid else "histories with a reason")
+    if is_valid == bool(found):
+        counts.differ(seed, records, first, f"valid is {edn(is_valid)}, and the reasons are {found}")
+    for because, named in found:
+        counts.add(f"reasons {because}")
+        least = least_history(known, first, because, named)
+        least = least if because == ":out-of-order" else without_times(least)
+        if any_order(least, first) is not None:
+            counts.differ(seed, records, first, f"{because} {edn(named)} does not exclude every order by itself")
 
 
 def self_test(seed, counts):
     """Confirms a right line and refuses wrong ones; says whether the history is valid."""
     maker = Maker(random.Random(seed))
     records, first = maker.history(), maker.first
+    test_reasons(seed, records, first, counts)
     line = explained(records, first)
     if line is None:
         return True
