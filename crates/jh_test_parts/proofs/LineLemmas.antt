@@ -1,8 +1,8 @@
 -- What the code finds of a line is what the rule says of it.
-use Rattle.std.proofs.Common.{◌≡◌, ℕ, Bool, true, false, ◌||◌, List, [], ◌∷◌, refl, sym, ap, ◌∙◌}
+use Rattle.std.proofs.Common.{◌≡◌, ℕ, Bool, true, false, ◌||◌, List, [], ◌∷◌, filter, refl, sym, ap, ◌∙◌}
 use Rattle.std.proofs.Common.{subst}
 use mathlib.Core.Logic.{◌⊎◌, inl, inr}
-use Rattle.std.specs.Prelude.{Result, Ok, Err, if◌then◌else◌}
+use Rattle.std.specs.Prelude.{Result, Ok, Err, cond, if◌then◌else◌}
 use Rattle.std.specs.List.{list_any}
 use Rattle.std.specs.Str.{IsUtf8, is_utf8}
 use Rattle.std.proofs.lemmas.Bool.{cases_Bool, false≢true}
@@ -21,6 +21,14 @@ use Rattle.jh_test_parts.specs.declared.complaints.Complaint.TheVariants as comp
 pub any_viewed : (test : Edn × Edn → Bool) (pairs : List (Value × Value)) → list_any (λ pair. test (view_pair pair)) pairs ≡ list_any test (view_pairs pairs)
 any_viewed test [] = refl
 any_viewed test (p ∷ ps) = ap (λ b. test (view_pair p) || b) (any_viewed test ps)
+
+-- the pairs that pass a test, as a contract sees them
+pub filter_viewed : (test : Edn × Edn → Bool) (pairs : List (Value × Value)) → view_pairs (filter (λ pair. test (view_pair pair)) pairs) ≡ filter test (view_pairs pairs)
+filter_viewed test [] = refl
+filter_viewed test (p ∷ ps) =
+    elim (test (view_pair p))
+    as (λ b. view_pairs (cond b (p ∷ filter (λ pair. test (view_pair pair)) ps) (filter (λ pair. test (view_pair pair)) ps)) ≡ cond b (view_pair p ∷ filter test (view_pairs ps)) (filter test (view_pairs ps)))
+    [ true ↦ ap (λ qs. view_pair p ∷ qs) (filter_viewed test ps) | false ↦ filter_viewed test ps ]
 
 -- The bytes of a line.
 
